@@ -1,0 +1,77 @@
+// Big-endian numbers in byte slices, at 2, 4 and 8 bytes. The contracts cite `be` and `unbe`, over any width.
+ghost use mathlib.Core.Path.{_≡_};
+ghost use Prim.Native.Nat.{_+_, _≤_, _<_};
+ghost use lib.ListN.{length};
+ghost use Rattle.bigendian.specs.BigEndian.{be, unbe};
+ghost use Rattle.octets.specs.Octets.{part, splice};
+
+// Each reader joins the numbers of two halves, and each writer writes two halves: one law for every width proves them all.
+
+fn wide16(b: u8) -> u16
+    ensures { λ r. ⌜ (r ≡ b) × (r < 256) ⌝ }
+{
+    b as u16
+}
+
+fn wide32(n: u16) -> u32
+    ensures { λ r. ⌜ (r ≡ n) × (r < 65536) ⌝ }
+{
+    n as u32
+}
+
+fn wide64(n: u32) -> u64
+    ensures { λ r. ⌜ (r ≡ n) × (r < 4294967296) ⌝ }
+{
+    n as u64
+}
+
+// The number that the 2 bytes of s from at on make.
+pub fn get_u16(s: &[u8], at: usize) -> u16
+    requires { ⌜ at + 2 ≤ length (now s) ⌝ }
+    ensures { λ r. ⌜ r ≡ unbe (part (now (s .entry)) at 2) ⌝ }
+{
+    wide16(s[at]) * 256 + wide16(s[at + 1])
+}
+
+// The number that the 4 bytes of s from at on make.
+pub fn get_u32(s: &[u8], at: usize) -> u32
+    requires { ⌜ at + 4 ≤ length (now s) ⌝ }
+    ensures { λ r. ⌜ r ≡ unbe (part (now (s .entry)) at 4) ⌝ }
+{
+    wide32(get_u16(s, at)) * 65536 + wide32(get_u16(s, at + 2))
+}
+
+// The number that the 8 bytes of s from at on make.
+pub fn get_u64(s: &[u8], at: usize) -> u64
+    requires { ⌜ at + 8 ≤ length (now s) ⌝ }
+    ensures { λ r. ⌜ r ≡ unbe (part (now (s .entry)) at 8) ⌝ }
+{
+    wide64(get_u32(s, at)) * 4294967296 + wide64(get_u32(s, at + 4))
+}
+
+// Writes n as 2 bytes from at on.
+pub fn put_u16(out: &mut [u8], at: usize, n: u16)
+    requires { ⌜ at + 2 ≤ length (now out) ⌝ }
+    ensures { λ _. ⌜ now (out .exit) ≡ splice (now (out .entry)) at (be 2 n) ⌝ }
+{
+    out[at] = (n / 256 % 256) as u8;
+    out[at + 1] = (n % 256) as u8;
+}
+
+// Writes n as 4 bytes from at on.
+pub fn put_u32(out: &mut [u8], at: usize, n: u32)
+    requires { ⌜ at + 4 ≤ length (now out) ⌝ }
+    ensures { λ _. ⌜ now (out .exit) ≡ splice (now (out .entry)) at (be 4 n) ⌝ }
+{
+    put_u16(out, at, (n / 65536) as u16);
+    put_u16(out, at + 2, (n % 65536) as u16);
+}
+
+// Writes n as 8 bytes from at on.
+pub fn put_u64(out: &mut [u8], at: usize, n: u64)
+    requires { ⌜ at + 8 ≤ length (now out) ⌝ }
+    ensures { λ _. ⌜ now (out .exit) ≡ splice (now (out .entry)) at (be 8 n) ⌝ }
+{
+    put_u32(out, at, (n / 4294967296) as u32);
+    put_u32(out, at + 4, (n % 4294967296) as u32);
+}

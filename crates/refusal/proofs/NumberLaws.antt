@@ -1,0 +1,48 @@
+-- No two refusals have one number, and no refusal has 0, the number of "done".
+use Prim.Native.Nat.{ℕ, zero, suc}
+use mathlib.Core.Path.{_≡_, refl, sym, ap, _∙_}
+use mathlib.Core.List.{List, [], _∷_}
+use lib.ListN.{getD}
+use Rattle.refusal.specs.Number.{numberOf, outcomeNumber}
+use Rattle.refusal.specs.declared.Refusal.{Refusal}
+use Rattle.refusal.specs.declared.Refusal.the-variants.{Torn, NoLog, Position, Spent, Full, NothingHeld, Length, Counts, NoReceipt, Tag, OtherQuestion, Roster, TooFew, NoRun, Line}
+use Rattle.refusal.specs.declared.Outcome.{Outcome}
+use Rattle.refusal.specs.declared.Outcome.the-variants.{Done, Refused}
+
+-- the words in the order of their numbers, the first of number 1
+abbrev words : List Refusal
+words =
+    Torn ∷ NoLog ∷ Position ∷ Spent ∷ Full ∷ NothingHeld ∷ Length ∷ Counts ∷ NoReceipt ∷ Tag ∷
+    OtherQuestion ∷ Roster ∷ TooFew ∷ NoRun ∷ Line ∷ []
+
+-- the outcome of a number
+abbrev outcomeOf : ℕ → Outcome
+outcomeOf zero = Done
+outcomeOf (suc n) = Refused (getD words n Torn)
+
+refused-back : (r : Refusal) → outcomeOf (numberOf r) ≡ Refused r
+refused-back Torn = refl
+refused-back NoLog = refl
+refused-back Position = refl
+refused-back Spent = refl
+refused-back Full = refl
+refused-back NothingHeld = refl
+refused-back Length = refl
+refused-back Counts = refl
+refused-back NoReceipt = refl
+refused-back Tag = refl
+refused-back OtherQuestion = refl
+refused-back Roster = refl
+refused-back TooFew = refl
+refused-back NoRun = refl
+refused-back Line = refl
+
+outcome-back : (o : Outcome) → outcomeOf (outcomeNumber o) ≡ o
+outcome-back Done = refl
+outcome-back (Refused r) = refused-back r
+
+pub outcomeNumber-injective : (o p : Outcome) → outcomeNumber o ≡ outcomeNumber p → o ≡ p
+outcomeNumber-injective o p e = sym (outcome-back o) ∙ ap outcomeOf e ∙ outcome-back p
+
+pub numberOf-injective : (r s : Refusal) → numberOf r ≡ numberOf s → r ≡ s
+numberOf-injective r s e = let h : Refused r ≡ Refused s = outcomeNumber-injective (Refused r) (Refused s) e in cc

@@ -1,0 +1,28 @@
+-- Document 01, "Numbers returned": the number of each word. Every contract that speaks of a refusal cites `numberOf`.
+use Prim.Native.Nat.{ℕ}
+use Rattle.refusal.specs.declared.Refusal.{Refusal}
+use Rattle.refusal.specs.declared.Refusal.the-variants.{Torn, NoLog, Position, Spent, Full, NothingHeld, Length, Counts, NoReceipt, Tag, OtherQuestion, Roster, TooFew, NoRun, Line}
+use Rattle.refusal.specs.declared.Outcome.{Outcome}
+use Rattle.refusal.specs.declared.Outcome.the-variants.{Done, Refused}
+
+abbrev pub numberOf : Refusal → ℕ
+numberOf Torn = 1
+numberOf NoLog = 2
+numberOf Position = 3
+numberOf Spent = 4
+numberOf Full = 5
+numberOf NothingHeld = 6
+numberOf Length = 7
+numberOf Counts = 8
+numberOf NoReceipt = 9
+numberOf Tag = 10
+numberOf OtherQuestion = 11
+numberOf Roster = 12
+numberOf TooFew = 13
+numberOf NoRun = 14
+numberOf Line = 15
+
+-- 0 "done", or the refusal's number
+abbrev pub outcomeNumber : Outcome → ℕ
+outcomeNumber Done = 0
+outcomeNumber (Refused r) = numberOf r
