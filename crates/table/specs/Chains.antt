@@ -5,7 +5,7 @@ use mathlib.Core.Bool.{Bool, true, false, cond, _&&_}
 use mathlib.Core.Option.{Option, none, some, Option·map}
 use lib.ListN.{length}
 use lib.Dec.{eqb, leb}
-use Rattle.table.specs.Image.{Entry, Slot, slotAt, entryOf}
+use Rattle.layout.specs.Image.{Entry, Slot, slotAt, entryOf}
 
 -- the slots from s to the chain's end, each of the given owner; none where the chain leaves the table or its owner, or is longer than the fuel
 unfoldable pub walk : List Slot → ℕ → ℕ → ℕ → Option (List ℕ)

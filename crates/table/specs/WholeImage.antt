@@ -5,8 +5,8 @@ use mathlib.Core.Bool.{Bool, true, false, _&&_, _||_}
 use lib.ListN.{length}
 use lib.Dec.{eqb, leb}
 use Rattle.octets.specs.Octets.{same, zeros}
-use Rattle.table.specs.declared.Row.{Row}
-use Rattle.table.specs.Image.{Slot, Image, slotAt}
+use Rattle.layout.specs.declared.Row.{Row}
+use Rattle.layout.specs.Image.{Slot, Image, slotAt}
 use Rattle.table.specs.Chains.{reaches, chain, lastOf, positionsOf}
 
 unfoldable pub all {ℓ} : {A : Type ℓ} → (A → Bool) → List A → Bool

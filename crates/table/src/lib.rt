@@ -1,9 +1,1 @@
-// The table (document 01, "Table bytes").
-
-// A log's row: low and high position, first and last slot of its chain.
-pub struct Row {
-    pub low: u64,
-    pub high: u64,
-    pub first: usize,
-    pub last: usize,
-}
+// Whole tables, and format (document 01, "Table bytes").

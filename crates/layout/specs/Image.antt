@@ -3,7 +3,7 @@ use Prim.Native.Nat.{ℕ, zero, suc}
 use mathlib.Core.List.{List}
 use lib.ListN.{getD, set}
 use Rattle.octets.specs.Octets.{zeros}
-use Rattle.table.specs.declared.Row.{Row}
+use Rattle.layout.specs.declared.Row.{Row}
 
 -- document 01: "A slot holds one entry: a position, a 32-byte value and a 32-byte digest."
 pub record Entry : Type 0 where
