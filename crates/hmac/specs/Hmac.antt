@@ -1,0 +1,34 @@
+-- HMAC (RFC 2104) with SHA-256: B = 64 bytes a block, L = 32 bytes a tag.
+use Prim.Native.Nat.{ℕ, _+_, _-_}
+use mathlib.Core.Bool.{Bool, not, cond}
+use mathlib.Core.List.{List, [], _∷_, _++_, map}
+use mathlib.Core.Option.{Option}
+use lib.ListN.{length}
+use lib.Dec.{eqb, leb}
+use lib.Bits.{bitXor}
+use Rattle.octets.specs.Octets.{zeros}
+use Rattle.refusal.specs.Order.{fault, firstFault}
+use Rattle.sha256.specs.Sha256.{sha256}
+use Rattle.sha256.specs.Hash.{tooLong}
+
+-- "Applications that use keys longer than B bytes will first hash the key"
+unfoldable pub shortKey : List ℕ → List ℕ
+shortKey key = cond (leb (length key) 64) key (sha256 key)
+
+-- "append zeros to the end of K to create a B byte string"
+unfoldable pub padded : List ℕ → List ℕ
+padded k = k ++ zeros (64 - length k)
+
+-- "XOR .. with ipad" and "with opad": the byte x repeated B times
+unfoldable pub masked : ℕ → List ℕ → List ℕ
+masked x bs = map (λ b. bitXor b x) bs
+
+-- "H(K XOR opad, H(K XOR ipad, text))"
+unfoldable pub hmac : List ℕ → List ℕ → List ℕ
+hmac key text =
+    sha256 (masked 0x5c (padded (shortKey key)) ++ sha256 (masked 0x36 (padded (shortKey key)) ++ text))
+
+-- document 01, number 7, of a key, a text and the buffer for the tag: "a message to hash, HMAC's pad block counted with it"
+unfoldable pub tagRefusal : List ℕ → List ℕ → List ℕ → Option ℕ
+tagRefusal key text out =
+    firstFault (fault 7 (not (eqb (length out) 32)) ∷ fault 7 (tooLong (length key)) ∷ fault 7 (tooLong (64 + length text)) ∷ [])

@@ -1,0 +1,1 @@
+// Receipts (document 01, "Receipt bytes").

@@ -1,0 +1,6 @@
+pub mod Absorb
+pub mod HashCases
+pub mod Bytes
+pub mod Choice
+pub mod Padding
+pub mod Schedule

@@ -1,0 +1,121 @@
+-- The window of 16 words that moves on with the rounds computes the rounds over the message schedule.
+--
+use mathlib.Core.Path.{_≡_, refl, sym, ap, ap₂, _∙_, subst}
+use Prim.Native.Nat.{ℕ, zero, suc, _+_, _-_, _*_, _≤_, _<_}
+use native.Mathlib.Nat.{add-zero, add-suc, add-assoc}
+use native.Mathlib.Numerals.{add-one}
+use native.Mathlib.Omega.{arith}
+use mathlib.Core.List.{List, [], _∷_, _++_}
+use lib.ListN.{length, getD, take, drop, length-append, List·getD-append}
+use lib.Seq.{getD-at, take-all, take-append-le}
+use Rattle.octets.proofs.Parts.{run, part-run}
+use Rattle.sha256.specs.Words.{_⊞_, σ0, σ1}
+use Rattle.sha256.specs.Sha256.{K, words, next, schedule, round, rounds}
+use Rattle.sha256.specs.Window.{slid, turned, eightTurned, windows, eightRounds, lastRounds}
+use Rattle.sha256.specs.declared.block.Window.{Window}
+
+pub length-words : (t : ℕ) (b : List ℕ) → length (words t b) ≡ t
+unfolding words
+length-words zero b = refl
+length-words (suc t) b = simp length-append (omega (arith, length-words t b))
+
+length-schedule : (n : ℕ) (m : List ℕ) → length (schedule n m) ≡ length m + n
+unfolding schedule
+length-schedule zero m = sym (add-zero (length m))
+length-schedule (suc n) m = simp length-append (omega (arith, length-schedule n m))
+
+-- the words that are there stay as the schedule grows
+prefix : (m : List ℕ) (n d i : ℕ) → i < length m + n → getD (schedule (n + d) m) i 0 ≡ getD (schedule n m) i 0
+unfolding schedule
+prefix m n zero i h = ap (λ (k : ℕ). getD (schedule k m) i 0) (add-zero n)
+prefix m n (suc d) i h =
+    ap (λ (k : ℕ). getD (schedule k m) i 0) (add-suc n d)
+    ∙ List·getD-append (schedule (n + d) m) (next (n + d) (schedule (n + d) m) ∷ []) 0 i (omega (arith, length-schedule (n + d) m))
+    ∙ prefix m n d i h
+
+sucs : ℕ → ℕ → ℕ
+sucs zero t = t
+sucs (suc n) t = sucs n (suc t)
+
+sucs-add : (n t : ℕ) → sucs n t ≡ t + n
+unfolding sucs
+sucs-add zero t = sym (add-zero t)
+sucs-add (suc n) t = sucs-add n (suc t) ∙ omega arith
+
+abbrev window : List ℕ → List ℕ → Window
+window v w = record { v = v; w = w }
+
+module _ (m : List ℕ) (sixteen : length m ≡ 16) where
+  W : List ℕ
+  W = schedule 48 m
+
+  early : (t i : ℕ) → t ≤ 48 → i < 16 + t → getD W i 0 ≡ getD (schedule t m) i 0
+  unfolding W
+  early t i ht hi =
+      let e : t + (48 - t) ≡ 48 = omega arith in
+      ap (λ (k : ℕ). getD (schedule k m) i 0) (sym e) ∙ prefix m t (48 - t) i (omega arith)
+
+  mix : ℕ → ℕ → ℕ → ℕ → ℕ
+  mix a b d e = σ1 (getD W a 0) ⊞ getD W b 0 ⊞ σ0 (getD W d 0) ⊞ getD W e 0
+
+  -- the rule of the schedule, of the whole schedule
+  rule : (t : ℕ) → t < 48 → getD W (t + 16) 0 ≡ mix (t + 14) (t + 9) (t + 1) t
+  unfolding mix schedule next
+  rule t h =
+      early (suc t) (t + 16) h (omega arith)
+      ∙ getD-at (schedule t m) (next t (schedule t m)) [] 0 (t + 16) (omega (arith, length-schedule t m))
+      ∙ rw (early t (t + 14) (omega arith) (omega arith), early t (t + 9) (omega arith) (omega arith), early t (t + 1) (omega arith) (omega arith), early t t (omega arith) (omega arith))
+
+  rule-suc : (t : ℕ) → t < 48 → getD W (sucs 16 t) 0 ≡ mix (sucs 14 t) (sucs 9 t) (sucs 1 t) t
+  rule-suc t h = rw (sucs-add 16 t, sucs-add 14 t, sucs-add 9 t, sucs-add 1 t) (rule t h)
+
+  take-schedule : (n : ℕ) → take 16 (schedule n m) ≡ m
+  unfolding schedule
+  take-schedule zero = take-all 16 m (omega arith)
+  take-schedule (suc n) =
+      take-append-le 16 (schedule n m) (next n (schedule n m) ∷ []) (omega (arith, length-schedule n m)) ∙ take-schedule n
+
+  first : run 16 0 W ≡ m
+  unfolding W
+  first = sym (part-run 16 0 (schedule 48 m) (omega (arith, length-schedule 48 m))) ∙ take-schedule 48
+
+  module _ (h : List ℕ) where
+    -- what the window holds after t rounds
+    at : ℕ → Window
+    at t = record { v = rounds t h W; w = run 16 t W }
+
+    step : (t : ℕ) → t < 48 → turned (at t) (getD K t 0) ≡ at (t + 1)
+    unfolding at turned slid rounds sucs mix
+    step t k = ap₂ window refl (rw (rule-suc t k) refl) ∙ ap at (sym (add-one t))
+
+    step-from : (t i : ℕ) → t + i < 48 → turned (at (t + i)) (getD K (t + i) 0) ≡ at (t + (i + 1))
+    step-from t i k = step (t + i) k ∙ ap at (add-assoc t i 1)
+
+    eight : (t : ℕ) → t + 8 ≤ 48 → eightTurned (at t) t ≡ at (t + 8)
+    unfolding eightTurned
+    eight t k =
+        rw (
+          step t (omega arith),
+          step-from t 1 (omega arith),
+          step-from t 2 (omega arith),
+          step-from t 3 (omega arith),
+          step-from t 4 (omega arith),
+          step-from t 5 (omega arith),
+          step-from t 6 (omega arith),
+          step-from t 7 (omega arith),
+        )
+
+    window-is : (n : ℕ) → n ≤ 6 → windows n h m ≡ at (n * 8)
+    unfolding windows at rounds
+    window-is zero k = ap (window h) (sym first)
+    window-is (suc n) k =
+        ap (λ (s : Window). eightTurned s (n * 8)) (window-is n (omega arith)) ∙ eight (n * 8) (omega arith) ∙ ap at (omega arith)
+
+    last : lastRounds 2 (rounds 48 h W) (run 16 48 W) ≡ rounds 64 h W
+    unfolding lastRounds eightRounds rounds
+    last = refl
+
+    -- the rounds that the program computes are those of the standard
+    pub all-rounds : lastRounds 2 (windows 6 h m .v) (windows 6 h m .w) ≡ rounds 64 h (schedule 48 m)
+    unfolding W at
+    all-rounds = ap (λ (s : Window). lastRounds 2 (s .v) (s .w)) (window-is 6 (omega arith)) ∙ last
