@@ -1,1 +1,4 @@
 pub mod Attestation
+pub mod Possible
+pub mod Writer
+pub mod Verdict

@@ -1,0 +1,6 @@
+pub mod Cases
+pub mod Fields
+pub mod PossibleLaws
+pub mod VerdictLaws
+pub mod Verifier
+pub mod Writing
