@@ -1,17 +1,17 @@
 -- The tests of a receipt, case by case: one law for each `return` of the code.
-use mathlib.Core.Path.{_≡_, refl, sym, ap, ap₂, _∙_}
+use mathlib.Core.Path.{_≡_, refl}
 use Prim.Native.Nat.{ℕ, _≤_, _<_}
-use mathlib.Core.Bool.{Bool, true, false, _&&_}
+use mathlib.Core.Bool.{true, false}
 use mathlib.Core.List.{List, []}
-use mathlib.Core.Option.{Option, none, some}
 use lib.ListN.{length}
-use lib.Dec.{eqb, ltb, leb}
+use lib.Dec.{eqb, ltb}
 use borrow.Author.Tests.{eq-eqb, ne-eqb, le-leb, lt-leb}
 use Rattle.octets.specs.Octets.{same, zeros}
 use Rattle.refusal.specs.Order.{firstFault}
+use Rattle.receipt.specs.Answer.{answer, answerWith}
 use Rattle.receipt.specs.Attestation.{Attestation, LOOKUP, END, readAttestation}
 use Rattle.receipt.specs.Possible.{isName, referenceFits, isBlank, blankFits, possible}
-use Rattle.receipt.specs.Verdict.{Answer, answer, answerWith, carried, answers, asks, isTagged, verifyRefusal, verdict}
+use Rattle.receipt.specs.Verdict.{carried, answers, asks, isTagged, verifyRefusal, verdict}
 use Rattle.receipt.specs.declared.Ask.the-variants.{Lookup, End}
 use Rattle.receipt.specs.declared.Question.{Question}
 

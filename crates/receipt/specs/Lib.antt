@@ -1,3 +1,4 @@
+pub mod Answer
 pub mod Attestation
 pub mod Possible
 pub mod Writer

@@ -3,13 +3,14 @@ use Prim.Native.Nat.{ℕ}
 use mathlib.Core.Path.{_≡_}
 use mathlib.Core.Bool.{Bool, not, _&&_}
 use mathlib.Core.List.{List, [], _∷_}
-use mathlib.Core.Option.{Option, none, some}
+use mathlib.Core.Option.{Option}
 use lib.ListN.{length}
 use lib.Dec.{eqb}
 use Rattle.octets.specs.Octets.{part, same}
 use Rattle.refusal.specs.Number.{numberOf}
 use Rattle.refusal.specs.Order.{fault, firstFault}
 use Rattle.hmac.specs.Hmac.{hmac}
+use Rattle.receipt.specs.Answer.{Answer, answer, answerWith}
 use Rattle.receipt.specs.Attestation.{Attestation, LOOKUP, END, readAttestation, receiptBytes, Sized}
 use Rattle.receipt.specs.Possible.{Possible, possible}
 use Rattle.receipt.specs.declared.Ask.{Ask}
@@ -17,19 +18,6 @@ use Rattle.receipt.specs.declared.Ask.the-variants.{Lookup, End}
 use Rattle.receipt.specs.declared.Question.{Question}
 use Rattle.receipt.specs.declared.Verdict.{Verdict}
 use Rattle.receipt.specs.declared.Verdict.the-variants.{Accepted, Refused}
-
--- an answer: document 01's number, and the values that come with it
-pub record Answer : Type 0 where
-  pub number : ℕ
-  pub values : List ℕ
-
-abbrev pub answer : ℕ → List ℕ → Answer
-answer n vs = record { number = n; values = vs }
-
--- "A refusal .. returns its number alone"; without one the answer is 0 and the values
-unfoldable pub answerWith : Option ℕ → List ℕ → Answer
-answerWith none values = answer 0 values
-answerWith (some n) values = answer n []
 
 -- number and values of each verdict: an accepted one carries keeper, log, position, kind and reference
 abbrev pub verdictAnswer : Verdict → Answer

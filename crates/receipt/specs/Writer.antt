@@ -1,6 +1,6 @@
 -- What the receipt writer leaves in the lent receipt.
 use Prim.Native.Nat.{ℕ}
-use mathlib.Core.Bool.{Bool, not}
+use mathlib.Core.Bool.{not}
 use mathlib.Core.List.{List, [], _∷_, _++_}
 use mathlib.Core.Option.{Option}
 use lib.ListN.{length}
@@ -34,7 +34,7 @@ attestationOf f nonce value digest = record {
 -- bytes 0–31
 unfoldable pub factBytes : Facts → List ℕ
 factBytes f =
-    (nameBytes (f .name) ++ (f .kind ∷ f .log ∷ [])) ++ (be 8 (f .keeper) ++ (be 8 (f .position) ++ be 8 (f .reference)))
+    nameBytes (f .name) ++ (f .kind ∷ f .log ∷ (be 8 (f .keeper) ++ (be 8 (f .position) ++ be 8 (f .reference))))
 
 -- number 7: "a key, nonce, value, digest, receipt .. of another length than its own"
 unfoldable pub writeRefusal : List ℕ → List ℕ → List ℕ → List ℕ → List ℕ → Option ℕ

@@ -8,14 +8,15 @@ ghost use lib.ListN.{length};
 ghost use Rattle.octets.specs.Octets.{splice};
 ghost use Rattle.refusal.specs.Number.{outcomeNumber};
 ghost use Rattle.refusal.specs.Order.{answerOf, afterwards};
+ghost use Rattle.receipt.specs.Answer.{answer};
 ghost use Rattle.receipt.specs.Attestation.{readAttestation, receiptBytes};
 ghost use Rattle.receipt.specs.Writer.{attestationOf, writeRefusal};
-ghost use Rattle.receipt.specs.Verdict.{answer, carried, isTagged, verdict, verdictAnswer};
+ghost use Rattle.receipt.specs.Verdict.{carried, isTagged, verdict, verdictAnswer};
+use answers::is_answer;
 use bigendian::get_u64;
 use hmac::tag_of;
 use octets::equal;
 use possible::is_possible;
-use answers::is_answer;
 use refusal::Outcome;
 use refusal::Refusal;
 use writer::put_attested;
@@ -62,14 +63,7 @@ pub enum Verdict {
 }
 
 // Writes a receipt's 160 bytes; the caller has seen to the lengths.
-pub fn put_receipt(
-    out: &mut [u8],
-    key: &[u8],
-    f: Facts,
-    nonce: &[u8],
-    value: &[u8],
-    digest: &[u8],
-)
+pub fn put_receipt(out: &mut [u8], key: &[u8], f: Facts, nonce: &[u8], value: &[u8], digest: &[u8])
     requires { ⌜ (length (now out) ≡ 160) × (length (now key) ≡ 32) ⌝ }
     requires { ⌜ (length (now nonce) ≡ 32) × ((length (now value) ≡ 32) × (length (now digest) ≡ 32)) ⌝ }
     ensures { λ _. ⌜ now (out .exit) ≡ receiptBytes (now (key .entry)) (attestationOf f (now (nonce .entry)) (now (value .entry)) (now (digest .entry))) ⌝ }

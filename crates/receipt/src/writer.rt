@@ -30,8 +30,8 @@ fn put_facts(out: &mut [u8], f: Facts)
 {
     let name = f.name;
     put_name(out, name);
-    out[6] = f.kind;
-    out[7] = f.log;
+    let kind_log = [f.kind, f.log];
+    put(out, 6, &kind_log);
     put_u64(out, 8, f.keeper);
     put_u64(out, 16, f.position);
     put_u64(out, 24, f.reference);

@@ -1,56 +1,43 @@
+-- `receipt::verify` meets its contract. Assumes nothing.
+use Rattle.receipt.proofs.Cases.{key-length, nonce-length, receipt-length, impossible, wrong-tag, other-question, accepts}
+use borrow.Author.Tests.{not-true, not-false}
+use mathlib.Core.Path.{sym, _∙_}
 use borrow.Author.Needs.{needs}
 use Rattle.receipt.proofs.verify.Statement.{statement}
 use Rattle.receipt.proofs.verify.Tie as tie
-use Rattle.receipt.proofs.verify.Reads as reads
-use Rattle.receipt.proofs.verify.Lts as lts
-use Rattle.receipt.proofs.accepted.Reads as accepted-reads
-use Rattle.receipt.proofs.answers.is_answer.Reads as is-answer-reads
-use Rattle.receipt.proofs.is_tagged.Reads as is-tagged-reads
-use Rattle.receipt.proofs.possible.is_possible.Reads as is-possible-reads
 
--- src/lib.rt:145:9
 returns : tie.Need-returns
-returns c = ?
+returns c = key-length (c .before .before .before .before .args .key .now) (c .before .before .before .before .args .receipt .now) (c .before .before .before .before .args .nonce .now) (c .before .before .before .before .args .q) (c .if1 .taken)
 
--- src/lib.rt:148:9
 returns-2 : tie.Need-returns-2
-returns-2 c = ?
+returns-2 c = nonce-length (c .before .before .before .before .before .args .key .now) (c .before .before .before .before .before .args .receipt .now) (c .before .before .before .before .before .args .nonce .now) (c .before .before .before .before .before .args .q) (c .before .if1 .left) (c .if2 .taken)
 
--- src/lib.rt:151:9
 returns-3 : tie.Need-returns-3
-returns-3 c = ?
+returns-3 c = receipt-length (c .before .before .before .before .before .before .args .key .now) (c .before .before .before .before .before .before .args .receipt .now) (c .before .before .before .before .before .before .args .nonce .now) (c .before .before .before .before .before .before .args .q) (c .before .before .if1 .left) (c .before .if2 .left) (c .if3 .taken)
 
--- src/lib.rt:153:9
 is-possible-requires : tie.Need-is-possible-requires
 is-possible-requires c κs = search needs
 
--- src/lib.rt:154:9
 returns-4 : tie.Need-returns-4
-returns-4 c = ?
+returns-4 c = impossible (c .before .before .before .before .before .before .before .before .args .key .now) (c .before .before .before .before .before .before .before .before .args .receipt .now) (c .before .before .before .before .before .before .before .before .args .nonce .now) (c .before .before .before .before .before .before .before .before .args .q) (c .before .before .before .before .if1 .left) (c .before .before .before .if2 .left) (c .before .before .if3 .left) (sym (c .before .is-possible .ensures) ∙ not-true _ (c .if4 .taken))
 
--- src/lib.rt:156:9
 is-tagged-requires : tie.Need-is-tagged-requires
 is-tagged-requires c κs = search needs
 
--- src/lib.rt:157:9
 returns-5 : tie.Need-returns-5
-returns-5 c = ?
+returns-5 c = wrong-tag (c .before .before .before .before .before .before .before .before .before .before .args .key .now) (c .before .before .before .before .before .before .before .before .before .before .args .receipt .now) (c .before .before .before .before .before .before .before .before .before .before .args .nonce .now) (c .before .before .before .before .before .before .before .before .before .before .args .q) (c .before .before .before .before .before .before .if1 .left) (c .before .before .before .before .before .if2 .left) (c .before .before .before .before .if3 .left) (sym (c .before .before .before .is-possible .ensures) ∙ not-false _ (c .before .before .if4 .left)) (sym (c .before .is-tagged .ensures) ∙ not-true _ (c .if5 .taken))
 
--- src/lib.rt:159:9
 is-answer-requires : tie.Need-is-answer-requires
 is-answer-requires c κs = search needs
 
--- src/lib.rt:160:9
 returns-6 : tie.Need-returns-6
-returns-6 c = ?
+returns-6 c = other-question (c .before .before .before .before .before .before .before .before .before .before .before .before .args .key .now) (c .before .before .before .before .before .before .before .before .before .before .before .before .args .receipt .now) (c .before .before .before .before .before .before .before .before .before .before .before .before .args .nonce .now) (c .before .before .before .before .before .before .before .before .before .before .before .before .args .q) (c .before .before .before .before .before .before .before .before .if1 .left) (c .before .before .before .before .before .before .before .if2 .left) (c .before .before .before .before .before .before .if3 .left) (sym (c .before .before .before .before .before .is-possible .ensures) ∙ not-false _ (c .before .before .before .before .if4 .left)) (sym (c .before .before .before .is-tagged .ensures) ∙ not-false _ (c .before .before .if5 .left)) (sym (c .before .is-answer .ensures) ∙ not-true _ (c .if6 .taken))
 
--- src/lib.rt:162:5
 accepted-requires : tie.Need-accepted-requires
 accepted-requires c κs = search needs
 
--- src/lib.rt:141:1
 returns-7 : tie.Need-returns-7
-returns-7 c = ?
+returns-7 c = c .accepted .ensures ∙ accepts (c .before .before .before .before .before .before .before .before .before .before .before .before .before .args .key .now) (c .before .before .before .before .before .before .before .before .before .before .before .before .before .args .receipt .now) (c .before .before .before .before .before .before .before .before .before .before .before .before .before .args .nonce .now) (c .before .before .before .before .before .before .before .before .before .before .before .before .before .args .q) (c .before .before .before .before .before .before .before .before .before .if1 .left) (c .before .before .before .before .before .before .before .before .if2 .left) (c .before .before .before .before .before .before .before .if3 .left) (sym (c .before .before .before .before .before .before .is-possible .ensures) ∙ not-false _ (c .before .before .before .before .before .if4 .left)) (sym (c .before .before .before .before .is-tagged .ensures) ∙ not-false _ (c .before .before .before .if5 .left)) (sym (c .before .before .is-answer .ensures) ∙ not-false _ (c .before .if6 .left))
 
 pub verify-spec : {M : Type 1} → statement M
 verify-spec =

@@ -1,34 +1,32 @@
+-- `receipt::possible::blank_fits` meets its contract. Assumes nothing.
+use Rattle.receipt.proofs.Cases.{assigned-fits, end-left, by-blank}
+use borrow.Author.Tests.{not-true, not-false}
+use mathlib.Core.Path.{sym, _∙_}
+use Rattle.receipt.specs.Attestation.{readAttestation}
 use borrow.Author.Needs.{needs}
 use Rattle.receipt.proofs.possible.blank_fits.Statement.{statement}
 use Rattle.receipt.proofs.possible.blank_fits.Tie as tie
-use Rattle.receipt.proofs.possible.blank_fits.Reads as reads
-use Rattle.receipt.proofs.possible.blank_fits.Lts as lts
-use Rattle.receipt.proofs.possible.is_blank.Reads as is-blank-reads
-use Rattle.receipt.proofs.possible.is_lookup.Reads as is-lookup-reads
 
--- src/possible.rt:69:8
 shared-slice-read-if1 : tie.Need-shared-slice-read-if1
 shared-slice-read-if1 c = search needs
 
--- src/possible.rt:70:9
 returns : tie.Need-returns
-returns c = ?
+unfolding readAttestation
+returns c = assigned-fits (readAttestation (c .before .before .before .args .r .now)) (c .if1 .taken)
 
--- src/possible.rt:72:9
 is-lookup-requires : tie.Need-is-lookup-requires
 is-lookup-requires c κs = search needs
 
--- src/possible.rt:73:9
 returns-2 : tie.Need-returns-2
-returns-2 c = ?
+unfolding readAttestation
+returns-2 c = end-left (readAttestation (c .before .before .before .before .before .args .r .now)) (c .before .before .if1 .left) (sym (c .before .is-lookup .ensures) ∙ not-true _ (c .if2 .taken))
 
--- src/possible.rt:75:5
 is-blank-requires : tie.Need-is-blank-requires
 is-blank-requires c κs = search needs
 
--- src/possible.rt:65:1
 returns-3 : tie.Need-returns-3
-returns-3 c = ?
+unfolding readAttestation
+returns-3 c = c .is-blank .ensures ∙ by-blank (readAttestation (c .before .before .before .before .before .before .args .r .now)) (c .before .before .before .if1 .left) (sym (c .before .before .is-lookup .ensures) ∙ not-false _ (c .before .if2 .left))
 
 pub blank-fits-spec : {M : Type 1} → statement M
 blank-fits-spec =

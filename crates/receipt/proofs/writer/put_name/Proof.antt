@@ -1,49 +1,44 @@
+-- `receipt::writer::put_name` meets its contract. Assumes nothing.
+use Rattle.octets.specs.Octets.{splice}
+use Rattle.receipt.specs.declared.Name.{Name}
+use Rattle.receipt.specs.Writer.{nameBytes}
+use mathlib.Core.Path.{sym, ap, _∙_}
+use Rattle.receipt.specs.Attestation.{LOOKUP, END}
 use borrow.Author.Needs.{needs}
 use Rattle.receipt.proofs.writer.put_name.Statement.{statement}
 use Rattle.receipt.proofs.writer.put_name.Tie as tie
-use Rattle.receipt.proofs.writer.put_name.Reads as reads
-use Rattle.receipt.proofs.writer.put_name.Lts as lts
-use Rattle.octets.proofs.put.Reads as put-reads
 
--- src/writer.rt:21:29
 enum-told : tie.Need-enum-told
 enum-told c = search needs
 
--- src/writer.rt:21:37
 slice-aggregate-put : tie.Need-slice-aggregate-put
 slice-aggregate-put c = search needs
 
--- src/writer.rt:21:25
 put-requires : tie.Need-put-requires
 put-requires c κs = search needs
 
--- src/writer.rt:22:26
 enum-told-2 : tie.Need-enum-told-2
 enum-told-2 c = search needs
 
--- src/writer.rt:22:34
 slice-aggregate-put-2 : tie.Need-slice-aggregate-put-2
 slice-aggregate-put-2 c = search needs
 
--- src/writer.rt:22:22
 put-requires-2 : tie.Need-put-requires-2
 put-requires-2 c κs = search needs
 
--- src/writer.rt:16:1
 same-length : tie.Need-same-length
 same-length c = search needs
 
--- src/writer.rt:16:1
 returns : tie.Need-returns
-returns c = ?
+unfolding nameBytes LOOKUP
+returns c = c .before .before .put .ensures ∙ ap (λ (n : Name). splice (c .before .before .before .before .before .before .before .before .args .out .now) 0 (nameBytes n)) (sym (c .before .before .before .before .before .enum-told .given .1))
 
--- src/writer.rt:16:1
 same-length-2 : tie.Need-same-length-2
 same-length-2 c = search needs
 
--- src/writer.rt:16:1
 returns-2 : tie.Need-returns-2
-returns-2 c = ?
+unfolding nameBytes END
+returns-2 c = c .before .before .put2 .ensures ∙ ap (λ (n : Name). splice (c .before .before .before .before .before .before .before .before .args .out .now) 0 (nameBytes n)) (sym (c .before .before .before .before .before .enum-told2 .given .1))
 
 pub put-name-spec : {M : Type 1} → statement M
 put-name-spec =
