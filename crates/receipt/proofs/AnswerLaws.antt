@@ -1,19 +1,14 @@
 -- An answer of number 0 says that no fault was found.
 use Prim.Native.Nat.{ℕ}
-use mathlib.Core.Path.{_≡_, refl, ap}
+use mathlib.Core.Path.{_≡_, refl}
 use mathlib.Core.Bool.{Bool, true, false}
-use mathlib.Core.List.{List, [], _∷_}
+use mathlib.Core.List.{List, _∷_}
 use Rattle.refusal.specs.Order.{Fault, fault, firstFault}
-use Rattle.receipt.specs.Answer.{Answer, answer, answerWith}
+use Rattle.receipt.specs.Answer.{answerWith}
 
 -- the first fault was not found, and the rest decides
-pub no-fault : (k : ℕ) (b : Bool) (fs : List Fault) (vs ws : List ℕ) → (k ≡ 0 → ⊥) → answerWith (firstFault (fault k b ∷ fs)) vs ≡ answer 0 ws
-    → (b ≡ false) × (answerWith (firstFault fs) vs ≡ answer 0 ws)
+pub no-fault : (k : ℕ) (b : Bool) (fs : List Fault) (vs : List ℕ) → (k ≡ 0 → ⊥) → answerWith (firstFault (fault k b ∷ fs)) vs .number ≡ 0
+    → (b ≡ false) × (answerWith (firstFault fs) vs .number ≡ 0)
 unfolding firstFault answerWith
-no-fault k true fs vs ws h e = absurd (h (ap (λ (a : Answer). a .number) e))
-no-fault k false fs vs ws h e = (refl, e)
-
--- no faults: the values are those given
-pub no-faults : (vs ws : List ℕ) → answerWith (firstFault []) vs ≡ answer 0 ws → vs ≡ ws
-unfolding firstFault answerWith
-no-faults vs ws e = ap (λ (a : Answer). a .values) e
+no-fault k true fs vs h e = absurd (h e)
+no-fault k false fs vs h e = (refl, e)

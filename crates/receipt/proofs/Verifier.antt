@@ -15,12 +15,12 @@ use Rattle.octets.specs.Octets.{Bytes, part, same}
 use Rattle.octets.proofs.Tests.{and-left, and-right}
 use Rattle.octets.proofs.Same.{same-eq, eq-same}
 use Rattle.octets.proofs.Parts.{part-second, part-add}
-use Rattle.receipt.specs.Answer.{answer}
+use Rattle.receipt.specs.Answer.{Answer, answer}
 use Rattle.receipt.specs.Attestation.{Attestation, attestedBytes, receiptBytes, readAttestation}
 use Rattle.receipt.specs.Possible.{possible}
 use Rattle.receipt.specs.Verdict.{carried, answers, asks, isTagged, verifyRefusal, verdict, Genuine}
 use Rattle.receipt.specs.declared.Question.{Question}
-use Rattle.receipt.proofs.AnswerLaws.{no-fault, no-faults}
+use Rattle.receipt.proofs.AnswerLaws.{no-fault}
 use Rattle.receipt.proofs.Cases.{by-ask, accepts}
 use Rattle.receipt.proofs.Fields.{read-attested, read-sized, attested-read, length-attested}
 use Rattle.receipt.proofs.PossibleLaws.{possible-sound, possible-complete, asks-sound, asks-complete}
@@ -43,6 +43,15 @@ written key r b h t =
     sym (take-all 160 r (omega arith)) ∙ part-add r 0 128 32
     ∙ ap₂ (λ (x y : List ℕ). x ++ y) (sym (attested-read r b h)) (tag-is key r t ∙ ap (hmac key) (sym (attested-read r b h)))
     ∙ sym (receipt-is key (readAttestation r))
+
+-- what the verifier found in order
+pub record Passed (k r b : List ℕ) (q : Question) : Type 0 where
+  pub key : length k ≡ 32
+  pub nonce : length b ≡ 32
+  pub size : length r ≡ 160
+  pub possible : possible (readAttestation r) ≡ true
+  pub tagged : isTagged k r ≡ true
+  pub answers : answers (readAttestation r) q b ≡ true
 
 module _ (key r nonce : List ℕ) (q : Question) where
   -- a genuine receipt says what it attests
@@ -86,20 +95,39 @@ module _ (key r nonce : List ℕ) (q : Question) where
         ask = asks-sound a (q .ask) (and-right (same (a .nonce) nonce) _ f2);
       }
 
-  -- an accepted receipt is genuine, and carries what it attests
-  pub sound : Bytes r → (vs : List ℕ) → verdict key r nonce q ≡ answer 0 vs → Genuine key r nonce q (readAttestation r) × (carried (readAttestation r) ≡ vs)
+  -- a verdict of number 0: no fault was found
+  pub passes : verdict key r nonce q .number ≡ 0 → Passed key r nonce q
   unfolding verdict verifyRefusal
-  sound b vs e =
+  passes e =
       let cs : List ℕ = carried (readAttestation r) in
-      let s1 = no-fault 7 (not (eqb (length key) 32)) _ cs vs (λ z. omega arith) e in
-      let s2 = no-fault 7 (not (eqb (length nonce) 32)) _ cs vs (λ z. omega arith) (s1 .1) in
-      let s3 = no-fault 9 (not (eqb (length r) 160)) _ cs vs (λ z. omega arith) (s2 .1) in
-      let s4 = no-fault 9 (not (possible (readAttestation r))) _ cs vs (λ z. omega arith) (s3 .1) in
-      let s5 = no-fault 10 (not (isTagged key r)) _ cs vs (λ z. omega arith) (s4 .1) in
-      let s6 = no-fault 11 (not (answers (readAttestation r) q nonce)) _ cs vs (λ z. omega arith) (s5 .1) in
-      (genuine b (eqb-true (length key) 32 (not-false _ (s1 .0))) (eqb-true (length r) 160 (not-false _ (s3 .0))) (not-false _ (s4 .0)) (not-false _ (s5 .0)) (not-false _ (s6 .0)), no-faults cs vs (s6 .1))
+      let s1 = no-fault 7 (not (eqb (length key) 32)) _ cs (λ z. omega arith) e in
+      let s2 = no-fault 7 (not (eqb (length nonce) 32)) _ cs (λ z. omega arith) (s1 .1) in
+      let s3 = no-fault 9 (not (eqb (length r) 160)) _ cs (λ z. omega arith) (s2 .1) in
+      let s4 = no-fault 9 (not (possible (readAttestation r))) _ cs (λ z. omega arith) (s3 .1) in
+      let s5 = no-fault 10 (not (isTagged key r)) _ cs (λ z. omega arith) (s4 .1) in
+      let s6 = no-fault 11 (not (answers (readAttestation r) q nonce)) _ cs (λ z. omega arith) (s5 .1) in
+      record {
+        key = eqb-true (length key) 32 (not-false _ (s1 .0));
+        nonce = eqb-true (length nonce) 32 (not-false _ (s2 .0));
+        size = eqb-true (length r) 160 (not-false _ (s3 .0));
+        possible = not-false _ (s4 .0);
+        tagged = not-false _ (s5 .0);
+        answers = not-false _ (s6 .0);
+      }
+
+  -- it carries what the bytes say
+  pub carries : verdict key r nonce q .number ≡ 0 → verdict key r nonce q ≡ answer 0 (carried (readAttestation r))
+  carries e = let p = passes e in sym (accepts key r nonce q (p .key) (p .nonce) (p .size) (p .possible) (p .tagged) (p .answers))
+
+  -- an accepted receipt is genuine
+  pub sound : Bytes r → verdict key r nonce q .number ≡ 0 → Genuine key r nonce q (readAttestation r)
+  sound b e = let p = passes e in genuine b (p .key) (p .size) (p .possible) (p .tagged) (p .answers)
 
   -- the verifier's theorem: the bytes are accepted, with the values vs, exactly when they are those of a possible entry under
   -- the key that answers the question, and vs are its keeper, log, position, kind and reference
   pub accepted-exactly : Bytes r → (vs : List ℕ) → verdict key r nonce q ≡ answer 0 vs ↔ ((a : Attestation) × (Genuine key r nonce q a) × (carried a ≡ vs))
-  accepted-exactly b vs = (λ e. let s = sound b vs e in (readAttestation r, s .0, s .1), λ g. complete (g .0) (g .1) ∙ ap (answer 0) (g .2))
+  accepted-exactly b vs = (
+    λ e. let n : verdict key r nonce q .number ≡ 0 = ap (λ (x : Answer). x .number) e in
+        (readAttestation r, sound b n, ap (λ (x : Answer). x .values) (sym (carries n) ∙ e)),
+    λ g. complete (g .0) (g .1) ∙ ap (answer 0) (g .2),
+  )
