@@ -152,6 +152,6 @@ put-back l y x at n e h =
     ap₂ (λ (z : List ℕ) (m : ℕ). putMid at m l z) e k ∙ ap (λ (t : List ℕ). take at l ++ (x ++ t)) (drop-drop (length x) at l)
 
 -- the same bytes, nested to the left
-pub splice-left : (l : List ℕ) (at : ℕ) (x : List ℕ) → splice l at x ≡ take at l ++ x ++ drop (at + length x) l
+pub splice-nested : (l : List ℕ) (at : ℕ) (x : List ℕ) → splice l at x ≡ take at l ++ x ++ drop (at + length x) l
 unfolding splice
-splice-left l at x = sym (append-assoc (take at l) x (drop (at + length x) l))
+splice-nested l at x = sym (append-assoc (take at l) x (drop (at + length x) l))
