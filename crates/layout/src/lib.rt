@@ -1,4 +1,6 @@
-// The table (document 01, "Table bytes").
+// The table's bytes (document 01, "Table bytes"): its header, rows and slots read and written, each an equation with `Layout`.
+mod changes;
+
 
 // A log's row: low and high position, first and last slot of its chain.
 pub struct Row {
@@ -6,4 +8,11 @@ pub struct Row {
     pub high: u64,
     pub first: usize,
     pub last: usize,
+}
+
+// A slot without its value and digest.
+pub struct Link {
+    pub owner: usize,
+    pub next: usize,
+    pub position: u64,
 }
