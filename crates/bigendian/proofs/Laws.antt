@@ -8,7 +8,6 @@ use lib.Dec.{lit<}
 use lib.ListN.{length, getD, set, length-append, length-take, length-set}
 use lib.Arith.{digits-lt, digits-div, digits-mod, mod-mul}
 use lib.Pow.{pow-add}
-
 use native.Mathlib.Numerals.{towards-suc}
 use Rattle.octets.specs.Octets.{Bytes, part, splice}
 use Rattle.octets.proofs.Parts.{part-run, part-add, length-part, bytes-part, splice-append, splice-byte}

@@ -3,3 +3,4 @@ pub mod FieldLaws
 pub mod TableLaws
 pub mod SpliceLaws
 pub mod HoldsLaws
+pub mod CodeLaws

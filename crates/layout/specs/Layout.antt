@@ -105,6 +105,10 @@ cellsOf b = tabulate (slotsOf b) (λ i. readSlot (part b (cellOffset (logsOf b) 
 unfoldable pub readTable : List ℕ → Image
 readTable b = record { keeper = keeperOf b; key = keyOf b; free = freeOf b; rows = rowsOf b; slots = cellsOf b }
 
+-- "0–3 ASCII A2MT; 4 log count G; 5 zero; 6–7 slot count S"
+abbrev pub countBytes : ℕ → ℕ → List ℕ
+countBytes logs slots = mark ++ (be 1 logs ++ (zeros 1 ++ be 2 slots))
+
 -- "0–3 ASCII A2MT; 4 log count G; 5 zero; 6–7 slot count S; 8–15 keeper number; 16–17 first free slot, 0 if none; 18–19 zero; 20–51 key"
 unfoldable pub headerBytes : ℕ → ℕ → ℕ → ℕ → List ℕ → List ℕ
 headerBytes logs slots keeper free key =

@@ -1,25 +1,21 @@
+-- `layout::Row::advance` meets its contract. Assumes nothing.
 use Rattle.layout.specs.Changes.{advancedRow}
 use Rattle.layout.specs.declared.Row.{Row}
 use borrow.Author.Tests.{eq-eqb, ne-eqb}
 use Prim.Native.Nat.{ℕ}
 use mathlib.Core.Bool.{Bool, cond}
 use mathlib.Core.Path.{sym, ap}
-use borrow.Author.Needs.{needs}
 use Rattle.layout.proofs.Row.advance.Statement.{statement}
 use Rattle.layout.proofs.Row.advance.Tie as tie
-use Rattle.layout.proofs.Row.advance.Reads as reads
-use Rattle.layout.proofs.Row.advance.Lts as lts
 
 -- the row, by the test whether the chain was empty
 abbrev chosen : Row → ℕ → ℕ → Bool → Row
 chosen r n slot empty = record { low = r .low; high = n; first = cond empty slot (r .first); last = slot }
 
--- src/changes.rt:13:13
 returns : tie.Need-returns
 unfolding advancedRow
 returns c = let a = c .before .before .args in sym (ap (chosen (a .self) (a .n) (a .slot)) (eq-eqb (a .self .last) 0 (c .if1 .taken)))
 
--- src/changes.rt:9:5
 returns-2 : tie.Need-returns-2
 unfolding advancedRow
 returns-2 c = let a = c .before .before .args in sym (ap (chosen (a .self) (a .n) (a .slot)) (ne-eqb (a .self .last) 0 (c .if1 .left)))
