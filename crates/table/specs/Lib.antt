@@ -1,2 +1,5 @@
 pub mod Chains
+pub mod Free
+pub mod Runs
+pub mod Whole
 pub mod WholeImage
