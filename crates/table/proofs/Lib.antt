@@ -6,3 +6,5 @@ pub mod TurnLaws
 pub mod HeldLaws
 pub mod HeaderLaws
 pub mod CheckLaws
+pub mod FillLaws
+pub mod FormatLaws

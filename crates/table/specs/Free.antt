@@ -1,6 +1,6 @@
 -- The free policy, which document 01 leaves open: the free chain is a queue. The first is taken, freed slots join at its end, and formatting queues 1 to S.
-use Prim.Native.Nat.{ℕ, suc}
-use mathlib.Core.List.{List}
+use Prim.Native.Nat.{ℕ, zero, suc}
+use mathlib.Core.List.{List, [], _∷_}
 use mathlib.Core.Bool.{cond}
 use lib.Dec.{ltb}
 use Rattle.layout.specs.Image.{Image, Slot, slotAt, freeSlot}
@@ -21,6 +21,11 @@ afterTaken m = slotAt (m .slots) (taken m) .next
 -- the slot behind which freed slots join; 0 where none is free
 abbrev pub joint : Image → ℕ
 joint m = lastOf (freeChain m)
+
+-- k numbers from s on
+unfoldable pub countUp : ℕ → ℕ → List ℕ
+countUp s zero = []
+countUp s (suc k) = s ∷ countUp (suc s) k
 
 -- formatting queues 1 to S: the slot after s
 unfoldable pub queuedNext : ℕ → ℕ → ℕ

@@ -1,5 +1,6 @@
 // Whole tables, and format (document 01, "Table bytes").
 mod blank;
+pub mod format;
 mod runs;
 pub mod whole;
 
