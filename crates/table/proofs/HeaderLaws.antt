@@ -13,16 +13,11 @@ use Rattle.octets.proofs.Same.{same-eq, eq-same}
 use Rattle.bigendian.specs.BigEndian.{be, unbe}
 use Rattle.layout.specs.Layout.{mark, headerSize, slotSize, zeroOffset, zerosOffset, rowOffset, padOffset, tableSize, logsOf, slotsOf}
 use Rattle.layout.specs.Fits.{Counted, Formed}
+use Rattle.table.specs.Conditions.{Range}
 use Rattle.table.specs.Whole.{inRange, constantsFit, headerFits, allBelow, padsFit}
 use Rattle.table.proofs.TestLaws.{and-yes, and-no, and-not, and-split, field-same}
 
 -- counts in range
-
-pub record Range (logs slots : ℕ) : Type 0 where
-  pub logs-least : 1 ≤ logs
-  pub logs-most : logs ≤ 16
-  pub slots-least : 1 ≤ slots
-  pub slots-most : slots ≤ 800
 
 module _ (logs slots : ℕ) where
   pub no-logs : logs < 1 → false ≡ inRange logs slots

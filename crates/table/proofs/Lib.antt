@@ -8,3 +8,7 @@ pub mod HeaderLaws
 pub mod CheckLaws
 pub mod FillLaws
 pub mod FormatLaws
+pub mod LinkLaws
+pub mod ConditionLaws
+pub mod WholeLaws
+pub mod FormattedLaws

@@ -1,4 +1,5 @@
 pub mod Chains
+pub mod Conditions
 pub mod Format
 pub mod Free
 pub mod Runs
