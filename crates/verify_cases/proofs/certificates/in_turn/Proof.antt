@@ -1,4 +1,4 @@
--- `verify_cases::certificates::in_turn` meets its contract. Assumes nothing.
+-- `verify_cases::certificates::in_turn` meets its contract.
 use lib.ListN.{length-take, length}
 use native.Mathlib.Omega.{arith}
 use mathlib.Core.Path.{_≡_}
