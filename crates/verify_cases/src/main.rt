@@ -12,5 +12,6 @@ fn main() {
     certificates::standing();
     certificates::failing();
     certificates::rosters();
+    certificates::many();
     certificates::lengths();
 }

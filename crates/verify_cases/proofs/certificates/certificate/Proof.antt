@@ -1,4 +1,4 @@
--- `verify_cases::certificates::certificate` meets its contract. Assumes nothing.
+-- `verify_cases::certificates::certificate` meets its contract.
 use Prim.Native.Nat.{_-_, _/_, _≤_}
 use lib.ListN.{length}
 use borrow.Author.Needs.{needs}

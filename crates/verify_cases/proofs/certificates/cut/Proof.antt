@@ -1,4 +1,4 @@
--- `verify_cases::certificates::cut` meets its contract. Assumes nothing.
+-- `verify_cases::certificates::cut` meets its contract.
 use lib.ListN.{length-take}
 use native.Mathlib.Omega.{arith}
 use borrow.Author.Needs.{needs}

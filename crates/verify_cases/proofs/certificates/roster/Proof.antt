@@ -1,4 +1,4 @@
--- `verify_cases::certificates::roster` meets its contract. Assumes nothing.
+-- `verify_cases::certificates::roster` meets its contract.
 use Prim.Native.Nat.{_-_, _≤_}
 use borrow.Author.Needs.{needs}
 use Rattle.verify_cases.proofs.certificates.roster.Statement.{statement}

@@ -1,4 +1,4 @@
--- `verify_cases::receipts::forged` meets its contract. Assumes nothing.
+-- `verify_cases::receipts::forged` meets its contract.
 use Prim.Native.Nat.{_-_, _≤_}
 use borrow.Author.Needs.{needs}
 use Rattle.verify_cases.proofs.receipts.forged.Statement.{statement}
