@@ -92,11 +92,15 @@ joined slots t last x = cond (eqb last 0) (setSlot slots t x) (setSlot (setSlot 
 abbrev pub firstOf : ℕ → ℕ → ℕ → ℕ
 firstOf last first t = cond (eqb last 0) t first
 
+-- a slot of log g that holds an entry, at its chain's end
+abbrev pub heldSlot : ℕ → Entry → Slot
+heldSlot g e = slotOf (suc g) 0 (e .position) (e .value) (e .digest)
+
 -- the entry goes into the first free slot (document 01 leaves open which; this is the policy), and that behind the log's last
 unfoldable pub put : Image → ℕ → Entry → Image
 put m g e =
     changed m (slotAt (m .slots) (m .free) .next) g (advancedRow (rowIn m g) (e .position) (m .free))
-    (joined (m .slots) (m .free) (rowIn m g .last) (slotOf (suc g) 0 (e .position) (e .value) (e .digest)))
+    (joined (m .slots) (m .free) (rowIn m g .last) (heldSlot g e))
 
 -- "the digest of the entry at the old H (32). On a fresh log the last part is 32 zero bytes": those of slot 0
 abbrev pub previousIn : Image → ℕ → List ℕ

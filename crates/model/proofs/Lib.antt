@@ -1,0 +1,4 @@
+pub mod Put
+pub mod Reading
+pub mod Represents
+pub mod Truncate
