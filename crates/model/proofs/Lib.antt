@@ -1,4 +1,8 @@
+pub mod Positions
 pub mod Put
 pub mod Reading
 pub mod Represents
 pub mod Truncate
+pub mod WholeOf
+pub mod Refusals
+pub mod Lookups
