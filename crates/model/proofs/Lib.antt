@@ -6,3 +6,5 @@ pub mod Truncate
 pub mod WholeOf
 pub mod Refusals
 pub mod Lookups
+pub mod Passed
+pub mod Step
