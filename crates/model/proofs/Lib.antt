@@ -8,3 +8,6 @@ pub mod Refusals
 pub mod Lookups
 pub mod Passed
 pub mod Step
+pub mod Changes
+pub mod Sound
+pub mod Later
