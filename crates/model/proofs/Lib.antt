@@ -11,3 +11,5 @@ pub mod Step
 pub mod Changes
 pub mod Sound
 pub mod Later
+pub mod Entries
+pub mod Shown
