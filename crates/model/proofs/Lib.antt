@@ -13,3 +13,5 @@ pub mod Sound
 pub mod Later
 pub mod Entries
 pub mod Shown
+pub mod Along
+pub mod History
