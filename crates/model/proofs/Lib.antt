@@ -15,3 +15,5 @@ pub mod Entries
 pub mod Shown
 pub mod Along
 pub mod History
+pub mod Once
+pub mod Fresh
