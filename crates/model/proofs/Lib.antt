@@ -17,3 +17,5 @@ pub mod Along
 pub mod History
 pub mod Once
 pub mod Fresh
+pub mod ImageClaim
+pub mod Untorn

@@ -1,6 +1,7 @@
--- What demand 3 says of a list of calls.
+-- Demand 3: what it says of a list of calls on a freshly formatted table.
 use Prim.Native.Nat.{ℕ, suc, _<_, _≤_, _^_}
 use mathlib.Core.Path.{_≡_}
+use mathlib.Core.Logic.{_≢_}
 use mathlib.Core.List.{List, [], _∷_}
 use mathlib.Core.Option.{Option, none, some}
 use mathlib.Core.Bool.{cond}
@@ -9,10 +10,10 @@ use lib.Dec.{eqb}
 use Rattle.receipt.specs.Attestation.{readAttestation}
 use Rattle.layout.specs.Image.{Image}
 use Rattle.table.specs.WholeImage.{meets}
-use Rattle.a2m.specs.Call.{Call, append, advance, truncate, lookup, end, Reply, refused, done, found, ended, after}
+use Rattle.a2m.specs.Call.{Call, append, advance, truncate, lookup, end, Reply, refused, done, found, ended, replies, after}
 use Rattle.a2m.specs.ImageCalls.{rowIn, entriesIn}
 use Rattle.model.specs.Log.{Log}
-use Rattle.model.specs.Model.{Rules, Model, logAt, modelStep}
+use Rattle.model.specs.Model.{Rules, rules01, Model, newModel, logAt, modelStep}
 
 -- ---- what a list's answers show
 
@@ -86,3 +87,25 @@ Wide (end g c k) = Unit {0}
 abbrev pub AllWide : List Call → Type 0
 AllWide [] = Unit {0}
 AllWide (c ∷ cs) = Wide c × AllWide cs
+
+-- ---- the claim
+
+-- of a format's arguments, the calls cs, their answers rs, and the table m after them
+pub record ListClaim (G S keeper : ℕ) (key : List ℕ) (cs : List Call) (rs : List Reply) (m : Image) : Type 0 where
+  -- "every answer is the one that document 01's plain book gives for the calls so far": receipts and examined numbers included
+  pub answers : rs ≡ replies (modelStep rules01) (newModel G S keeper key) cs
+  -- "no two receipts from the list show one log and position assigned with different values or digests"
+  pub agreeing : (i j g n : ℕ) (v d v′ d′ : List ℕ) → ShowsAt rs i g n v d → ShowsAt rs j g n v′ d′ → (v ≡ v′) × (d ≡ d′)
+  -- "none shows as assigned a position that the list skips", be it before or after the receipt
+  pub unskipped : (i j g p : ℕ) (v d : List ℕ) → SkipsAt rules01 (newModel G S keeper key) cs rs j g p → ShowsAt rs i g p v d → ⊥
+  -- "or one forgotten by then"
+  pub remembered : (i j g p n : ℕ) (v d : List ℕ) → j < i → ForgetsAt cs rs j g n → p < n → ShowsAt rs i g p v d → ⊥
+  -- "after the list every slot is free or held by one log, exactly once": "all these chains together meet every slot from 1 to S exactly once"
+  pub slots : (s : ℕ) → 1 ≤ s → s ≤ S → times s (meets m) ≡ 1
+  -- "After the list, each row's L and H and the entries along its chain are the book's."
+  pub rows : (g : ℕ) → g < G → RowSays m g (logAt (after (modelStep rules01) (newModel G S keeper key) cs .logs) g)
+  -- the table has its G rows and S slots
+  pub logs : length (m .rows) ≡ G
+  pub size : length (m .slots) ≡ S
+  -- "1 never occurs."
+  pub untorn : (i : ℕ) → replyAt rs i ≢ refused 1
