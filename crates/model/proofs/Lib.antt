@@ -19,3 +19,4 @@ pub mod Once
 pub mod Fresh
 pub mod ImageClaim
 pub mod Untorn
+pub mod MarkedSet

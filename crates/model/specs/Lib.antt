@@ -1,3 +1,4 @@
 pub mod Claim
 pub mod Log
+pub mod Marked
 pub mod Model
