@@ -1,5 +1,5 @@
 -- The five calls and their answers as data, and what a list of calls answers and leaves.
-use Prim.Native.Nat.{ℕ}
+use Prim.Native.Nat.{ℕ, _^_, _<_}
 use mathlib.Core.List.{List, [], _∷_}
 
 -- document 01: "each call's arguments (of a lent receipt only the length)"
@@ -16,6 +16,18 @@ logOf (advance g n d x) = g
 logOf (truncate g n) = g
 logOf (lookup g n c k) = g
 logOf (end g c k) = g
+
+-- the numbers are as wide as their types: positions have 64 bits. Any log number is given, and any list of bytes
+abbrev pub Wide : Call → Type 0
+Wide (append g x) = Unit {0}
+Wide (advance g n d x) = n < 2 ^ 64
+Wide (truncate g n) = n < 2 ^ 64
+Wide (lookup g n c k) = n < 2 ^ 64
+Wide (end g c k) = Unit {0}
+
+abbrev pub AllWide : List Call → Type 0
+AllWide [] = Unit {0}
+AllWide (c ∷ cs) = Wide c × AllWide cs
 
 -- "An answer is all that a call returns, and the 160 bytes of the receipt that an accepted lookup or end writes": a refusal's
 -- number; "0 with the L and H"; 0 with the receipt and the number of entries examined; 0 with the receipt

@@ -6,11 +6,11 @@ use mathlib.Core.Option.{none, some, Option·none-ne-some, Option·some-injectiv
 use native.Mathlib.Omega.{arith}
 use lib.ListN.{length, take, getElem?, length-set}
 use lib.Seq.{getD-set-same}
-use Rattle.a2m.specs.Call.{Call, append, advance, truncate, lookup, end, refused, done, replies, after}
+use Rattle.a2m.specs.Call.{Call, append, advance, truncate, lookup, end, refused, done, replies, after, AllWide, Wide}
 use Rattle.a2m.specs.Digest.{newEntry}
 use Rattle.model.specs.Log.{freshLog, entered, cutAt}
 use Rattle.model.specs.Model.{Rules, Model, logAt, modelDone, modelAccept, modelStep}
-use Rattle.model.specs.Claim.{replyAt, ShowsAt, AllWide, Wide}
+use Rattle.model.specs.Claim.{replyAt, ShowsAt}
 use Rattle.model.proofs.Represents.{Sound}
 use Rattle.model.proofs.Passed.{Stepped, turned, taken, stepped}
 use Rattle.model.proofs.Sound.{step-sound}

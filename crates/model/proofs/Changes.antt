@@ -8,11 +8,10 @@ use lib.ListN.{length, set}
 use lib.Seq.{getD-set-same, getD-set-other}
 use Rattle.sha256.proofs.Sizes.{length-sha256}
 use Rattle.layout.specs.Image.{Entry}
-use Rattle.a2m.specs.Call.{Call, append, advance, truncate, lookup, end}
+use Rattle.a2m.specs.Call.{Call, append, advance, truncate, lookup, end, Wide}
 use Rattle.a2m.specs.Digest.{entryDigest, newEntry}
 use Rattle.model.specs.Log.{Log, freshLog, lastEntry, entered, cutAt}
 use Rattle.model.specs.Model.{Rules, Model, logAt, modelDone, modelAccept, modelStep}
-use Rattle.model.specs.Claim.{Wide}
 use Rattle.model.proofs.Passed.{Passed, Stepped, turned, taken, stepped}
 
 -- a log before and after a call whose arguments have their widths where Ok holds

@@ -7,11 +7,10 @@ use mathlib.Core.Bool.{false, true≢false}
 use native.Mathlib.Omega.{arith}
 use lib.ListN.{length}
 use Rattle.layout.specs.Image.{Entry}
-use Rattle.a2m.specs.Call.{Call}
+use Rattle.a2m.specs.Call.{Call, Wide}
 use Rattle.a2m.proofs.Lists.{In, in-cases}
 use Rattle.model.specs.Log.{Log, lastEntry, entered, keepFrom, cutAt}
 use Rattle.model.specs.Model.{Rules, Model, logAt, isNil, modelStep}
-use Rattle.model.specs.Claim.{Wide}
 use Rattle.model.proofs.Represents.{LogOk, Rising}
 use Rattle.model.proofs.Changes.{Change, same, entering, cutting, step-change}
 use Rattle.model.proofs.Later.{in-keepFrom}

@@ -9,12 +9,12 @@ use lib.ListN.{take}
 use lib.Dec.{leb}
 use borrow.Author.Tests.{leb-true, leb-false}
 use Rattle.layout.specs.Image.{Entry}
-use Rattle.a2m.specs.Call.{Call, advance, truncate, replies, after}
+use Rattle.a2m.specs.Call.{Call, advance, truncate, replies, after, AllWide}
 use Rattle.a2m.specs.Digest.{newEntry}
 use Rattle.a2m.proofs.Lists.{In, in-cases}
 use Rattle.model.specs.Log.{Log, entered, cutAt}
 use Rattle.model.specs.Model.{Rules, Model, logAt, modelStep}
-use Rattle.model.specs.Claim.{ShowsAt, SkipsAt, ForgetsAt, AllWide}
+use Rattle.model.specs.Claim.{ShowsAt, SkipsAt, ForgetsAt}
 use Rattle.model.proofs.Represents.{LogOk}
 use Rattle.model.proofs.Later.{Later}
 use Rattle.model.proofs.Entries.{EntryAt, in-bounds, rising-one}

@@ -6,12 +6,12 @@ use native.Mathlib.Omega.{arith}
 use lib.ListN.{length, length-replicate}
 use lib.Dec.{lit<}
 use Rattle.layout.specs.Image.{Entry, Image}
-use Rattle.a2m.specs.Call.{Call, Reply, replies, after}
+use Rattle.a2m.specs.Call.{Call, Reply, replies, after, AllWide}
 use Rattle.a2m.specs.ImageCalls.{imageStep}
 use Rattle.a2m.proofs.Lists.{In}
 use Rattle.model.specs.Log.{freshLog}
 use Rattle.model.specs.Model.{rules01, Model, newModel, logAt, modelStep}
-use Rattle.model.specs.Claim.{AllWide, RowSays, ListClaim}
+use Rattle.model.specs.Claim.{RowSays, ListClaim}
 use Rattle.model.proofs.Represents.{Rep, Sound}
 use Rattle.model.proofs.Reading.{entries-are}
 use Rattle.model.proofs.Step.{step-agrees}

@@ -8,11 +8,10 @@ use mathlib.Core.Bool.{Bool, true, false, cond}
 use native.Mathlib.Omega.{arith}
 use lib.Dec.{leb}
 use Rattle.layout.specs.Image.{Entry}
-use Rattle.a2m.specs.Call.{Call, after}
+use Rattle.a2m.specs.Call.{Call, after, Wide}
 use Rattle.a2m.proofs.Lists.{In, in-cases}
 use Rattle.model.specs.Log.{Log, entered, keepFrom, cutAt}
 use Rattle.model.specs.Model.{Rules, Model, logAt, modelStep}
-use Rattle.model.specs.Claim.{Wide}
 use Rattle.model.proofs.Changes.{Change, same, entering, cutting, step-change}
 
 pub record Later (l k : Log) : Type 0 where

@@ -14,11 +14,11 @@ use Rattle.hmac.specs.Hmac.{hmac}
 use Rattle.receipt.specs.Attestation.{Attestation, LOOKUP, END, attestedBytes, receiptBytes, readAttestation, Sized}
 use Rattle.receipt.proofs.Fields.{read-receipt}
 use Rattle.layout.specs.Image.{Entry}
-use Rattle.a2m.specs.Call.{Call, append, advance, truncate, lookup, end, Reply}
+use Rattle.a2m.specs.Call.{Call, append, advance, truncate, lookup, end, Reply, Wide}
 use Rattle.a2m.proofs.Lists.{In}
 use Rattle.model.specs.Log.{Log, lastEntry, keepFrom, Standing, unassigned, forgotten, assigned, skipped, standingAmong, standing, kindOf, referenceOf}
 use Rattle.model.specs.Model.{Rules, Model, logAt, isNil, modelReceipt, shownFor, lookupReply, endReply, modelDone, modelAccept, modelStep}
-use Rattle.model.specs.Claim.{Shows, receiptIn, Wide}
+use Rattle.model.specs.Claim.{Shows, receiptIn}
 use Rattle.model.proofs.Represents.{LogOk, Sound}
 use Rattle.model.proofs.Passed.{Passed, Stepped, turned, taken, stepped}
 use Rattle.model.proofs.Later.{in-keepFrom}

@@ -9,10 +9,9 @@ use native.Mathlib.Decide.{ℕ-discrete}
 use lib.Dec.{leb}
 use borrow.Author.Tests.{leb-true, leb-false}
 use Rattle.layout.specs.Image.{Entry}
-use Rattle.a2m.specs.Call.{Call}
+use Rattle.a2m.specs.Call.{Call, Wide}
 use Rattle.model.specs.Log.{Log, lastEntry, entered, keepFrom, cutAt}
 use Rattle.model.specs.Model.{Rules, Model, logAt, modelStep}
-use Rattle.model.specs.Claim.{Wide}
 use Rattle.model.proofs.Represents.{LogOk, Sound, Rising}
 use Rattle.model.proofs.Reading.{lastEntry-snoc}
 use Rattle.model.proofs.Positions.{rising-last, ok-low}

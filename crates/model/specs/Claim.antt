@@ -1,5 +1,5 @@
 -- Demand 3: what it says of a list of calls on a freshly formatted table.
-use Prim.Native.Nat.{ℕ, suc, _<_, _≤_, _^_}
+use Prim.Native.Nat.{ℕ, suc, _<_, _≤_}
 use mathlib.Core.Path.{_≡_}
 use mathlib.Core.Logic.{_≢_}
 use mathlib.Core.List.{List, [], _∷_}
@@ -10,7 +10,7 @@ use lib.Dec.{eqb}
 use Rattle.receipt.specs.Attestation.{readAttestation}
 use Rattle.layout.specs.Image.{Image}
 use Rattle.table.specs.WholeImage.{meets}
-use Rattle.a2m.specs.Call.{Call, append, advance, truncate, lookup, end, Reply, refused, done, found, ended, replies, after}
+use Rattle.a2m.specs.Call.{Call, advance, truncate, Reply, refused, done, found, ended, replies, after}
 use Rattle.a2m.specs.ImageCalls.{rowIn, entriesIn}
 use Rattle.model.specs.Log.{Log}
 use Rattle.model.specs.Model.{Rules, rules01, Model, newModel, logAt, modelStep}
@@ -73,20 +73,6 @@ pub record RowSays (m : Image) (g : ℕ) (l : Log) : Type 0 where
   pub low : rowIn m g .low ≡ l .low
   pub high : rowIn m g .high ≡ l .high
   pub entries : entriesIn m g ≡ l .entries
-
--- ---- arguments as wide as their types
-
--- positions have 64 bits
-abbrev pub Wide : Call → Type 0
-Wide (append g x) = Unit {0}
-Wide (advance g n d x) = n < 2 ^ 64
-Wide (truncate g n) = n < 2 ^ 64
-Wide (lookup g n c k) = n < 2 ^ 64
-Wide (end g c k) = Unit {0}
-
-abbrev pub AllWide : List Call → Type 0
-AllWide [] = Unit {0}
-AllWide (c ∷ cs) = Wide c × AllWide cs
 
 -- ---- the claim
 
