@@ -10,7 +10,6 @@ use lib.ListN.{length, getD, set, length-set}
 use lib.Dec.{eqb, leb}
 use borrow.Author.Tests.{eqb-true, eqb-false, leb-false, not-false}
 use Rattle.octets.proofs.Tests.{or-none}
-use Rattle.sha256.proofs.Sizes.{length-sha256}
 use Rattle.layout.specs.declared.Row.{Row}
 use Rattle.layout.specs.Image.{Entry, Slot, Image, freeSlot, freshRow, slotAt, setSlot, rowAt}
 use Rattle.layout.specs.Changes.{withNext, advancedRow, truncatedRow}
@@ -18,10 +17,10 @@ use Rattle.layout.specs.Fits.{RowFits, SlotFits, Fits}
 use Rattle.layout.proofs.ListLaws.{every-set}
 use Rattle.layout.proofs.TableLaws.{free-fits}
 use Rattle.a2m.specs.Call.{Call, append, advance, truncate, lookup, end, Wide}
-use Rattle.a2m.specs.Digest.{entryDigest, newEntry}
+use Rattle.a2m.specs.Digest.{newEntry}
 use Rattle.a2m.specs.ImageCalls.{rowIn, lastFree, wrongLength, spent, imageRefusal, changed, joined, firstOf, heldSlot, put, previousIn, release, releases, lowered, imageDone, imageAccept, imageStep}
 use Rattle.a2m.proofs.Clear.{Clear, clear}
-use Rattle.a2m.proofs.Links.{length-setSlot}
+use Rattle.a2m.proofs.DigestLaws.{length-digest}
 use Rattle.a2m.proofs.Moves.{length-joined}
 
 abbrev SlotsFit : List Slot → Type 0
@@ -103,10 +102,6 @@ lowered-fits m f g n h =
 
 is32 : (x : List ℕ) → not (eqb (length x) 32) ≡ false → length x ≡ 32
 is32 x h = eqb-true (length x) 32 (not-false (eqb (length x) 32) h)
-
-length-digest : (n : ℕ) (x d : List ℕ) → length (newEntry n x d .digest) ≡ 32
-unfolding entryDigest
-length-digest n x d = length-sha256 _
 
 accept-fits : (torn : Bool) (m : Image) → Fits m → (call : Call) → Wide call → Clear torn m call → Fits (imageAccept m call .state)
 unfolding imageAccept imageDone wrongLength spent

@@ -6,10 +6,10 @@ use native.Mathlib.Omega.{arith}
 use native.Mathlib.Decide.{ℕ-discrete}
 use lib.ListN.{length, set}
 use lib.Seq.{getD-set-same, getD-set-other}
-use Rattle.sha256.proofs.Sizes.{length-sha256}
 use Rattle.layout.specs.Image.{Entry}
 use Rattle.a2m.specs.Call.{Call, append, advance, truncate, lookup, end, Wide}
-use Rattle.a2m.specs.Digest.{entryDigest, newEntry}
+use Rattle.a2m.specs.Digest.{newEntry}
+use Rattle.a2m.proofs.DigestLaws.{length-digest}
 use Rattle.model.specs.Log.{Log, freshLog, lastEntry, entered, cutAt}
 use Rattle.model.specs.Model.{Rules, Model, logAt, modelDone, modelAccept, modelStep}
 use Rattle.model.proofs.Passed.{Passed, Stepped, turned, taken, stepped}
@@ -19,10 +19,6 @@ pub data Change (Ok : Type 0) (l k : Log) : Type 0 where
   same : k ≡ l → Change Ok l k
   entering : (e : Entry) → l .high < e .position → (Ok → l .high < 2 ^ 64 → e .position < 2 ^ 64) → length (e .value) ≡ 32 → length (e .digest) ≡ 32 → k ≡ entered l e → Change Ok l k
   cutting : (n : ℕ) → l .low < n → n ≤ l .high → k ≡ cutAt n l → Change Ok l k
-
-length-digest : (n : ℕ) (x d : List ℕ) → length (newEntry n x d .digest) ≡ 32
-unfolding entryDigest
-length-digest n x d = length-sha256 _
 
 module _ (ru : Rules) (b : Model) where
   -- the log named changes, and no other
