@@ -33,7 +33,7 @@ accept-fixed ru b (truncate g n) = record { size = refl; keeper = refl; count = 
 accept-fixed ru b (lookup g n c k) = record { size = refl; keeper = refl; count = refl }
 accept-fixed ru b (end g c k) = record { size = refl; keeper = refl; count = refl }
 
-step-fixed : (ru : Rules) (b : Model) (c : Call) → Fixed b (modelStep ru b c .state)
+pub step-fixed : (ru : Rules) (b : Model) (c : Call) → Fixed b (modelStep ru b c .state)
 step-fixed ru b c = go (stepped ru b c)
   where
     go : Stepped ru b c → Fixed b (modelStep ru b c .state)

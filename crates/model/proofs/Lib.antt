@@ -20,3 +20,4 @@ pub mod Fresh
 pub mod ImageClaim
 pub mod Untorn
 pub mod MarkedSet
+pub mod TableClaim
