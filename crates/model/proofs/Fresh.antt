@@ -1,17 +1,20 @@
 -- The image of an accepted format says the new model.
-use Prim.Native.Nat.{ℕ, zero, suc, _+_, _≤_, _<_}
+use Prim.Native.Nat.{ℕ, zero, suc, _+_, _^_, _≤_, _<_}
 use mathlib.Core.Path.{_≡_, refl, sym, ap, ap₂, _∙_}
 use mathlib.Core.List.{List, [], _∷_}
-use mathlib.Core.Bool.{true, false}
+use mathlib.Core.Bool.{Bool, true, false, cond}
 use native.Mathlib.Omega.{arith}
 use native.Mathlib.Nat.{zero-add, add-zero, le-refl}
 use lib.ListN.{length, getD, replicate, length-replicate}
 use lib.Dec.{ltb}
-use borrow.Author.Tests.{lt-ltb, le-ltb}
+use borrow.Author.Tests.{ltb-true, lt-ltb, le-ltb}
 use Rattle.layout.specs.Image.{Entry, Slot, Image, entryOf, blankEntry, slotAt, freeSlot, rowAt, freshRow}
-use Rattle.layout.proofs.ListLaws.{length-tabulate, getD-tabulate}
+use Rattle.layout.specs.Fits.{SlotFits, Fits}
+use Rattle.layout.proofs.ListLaws.{length-tabulate, getD-tabulate, every-tabulate}
+use Rattle.layout.proofs.TableLaws.{fresh-fits, free-fits}
 use Rattle.table.specs.Chains.{entriesOf}
 use Rattle.table.specs.Free.{queue, queuedNext}
+use Rattle.table.specs.Format.{formatted}
 use Rattle.a2m.proofs.Lists.{lastOf-nil}
 use Rattle.a2m.proofs.Links.{Links}
 use Rattle.model.specs.Log.{freshLog, lastEntry}
@@ -63,19 +66,43 @@ unfolding total
 total-fresh zero = refl
 total-fresh (suc G) = rw zero-add (total-fresh G)
 
--- an image of G fresh rows over the queue of S slots
-pub fresh-rep : (G S keeper : ℕ) (key : List ℕ) → 1 ≤ S → (m : Image) → m .keeper ≡ keeper → m .key ≡ key → m .free ≡ 1 → length (m .rows) ≡ G → ((g : ℕ) → rowAt (m .rows) g ≡ freshRow) → m .slots ≡ queue S → Rep m (newModel G S keeper key)
-fresh-rep G zero keeper key h m ek ey ef eg er es = absurd (omega arith)
-fresh-rep G (suc k) keeper key h m ek ey ef eg er es = record {
-  keeper = ek;
-  key = ey;
-  count = eg ∙ sym (length-replicate G freshLog);
-  size = ap length es ∙ length-queue (suc k);
-  rows = λ (g : ℕ). rw (er g, getD-same G g freshLog) (record { chain = []; holds = record { links = refl; held = refl }; last = sym lastOf-nil; low = refl; high = refl });
+pub formatted-rep : (G S keeper : ℕ) (key : List ℕ) → 1 ≤ S → Rep (formatted G S keeper key) (newModel G S keeper key)
+unfolding formatted
+formatted-rep G zero keeper key h = absurd (omega arith)
+formatted-rep G (suc k) keeper key h = record {
+  keeper = refl;
+  key = refl;
+  count = length-replicate G freshRow ∙ sym (length-replicate G freshLog);
+  size = length-queue (suc k);
+  rows = λ (g : ℕ). rw (getD-same G g freshRow, getD-same G g freshLog) (record { chain = []; holds = record { links = refl; held = refl }; last = sym lastOf-nil; low = refl; high = refl });
   queue = upFrom 1 (suc k);
-  free = rw (es, ef) (record { links = queue-links (suc k) k 1 (omega arith) (omega arith); held = queue-blank (suc k) (suc k) 1 (omega arith) (omega arith) ∙ ap (λ (n : ℕ). replicate n blankEntry) (sym (length-up 1 (suc k))) });
-  sum = rw (length-up 1 (suc k), total-fresh G, es, length-queue (suc k)) (add-zero (suc k));
+  free = record { links = queue-links (suc k) k 1 (omega arith) (omega arith); held = queue-blank (suc k) (suc k) 1 (omega arith) (omega arith) ∙ ap (λ (n : ℕ). replicate n blankEntry) (sym (length-up 1 (suc k))) };
+  sum = rw (length-up 1 (suc k), total-fresh G, length-queue (suc k)) (add-zero (suc k));
 }
+
+next-queued : (S s : ℕ) → S < 256 ^ 2 → queuedNext S s < 256 ^ 2
+unfolding queuedNext
+next-queued S s h = go (ltb s S) refl
+  where
+    go : (t : Bool) → ltb s S ≡ t → cond t (suc s) 0 < 256 ^ 2
+    go true e = let l = ltb-true s S e in omega arith
+    go false e = omega arith
+
+-- and fits its bytes
+pub formatted-fits : (G S keeper : ℕ) (key : List ℕ) → G ≤ 16 → S ≤ 800 → keeper < 2 ^ 64 → length key ≡ 32 → Fits (formatted G S keeper key)
+unfolding formatted queue
+formatted-fits G S keeper key g s k y =
+    let n = length-replicate G freshRow in
+    let q = length-queue S in
+    record {
+      logs = omega arith;
+      count = omega arith;
+      keeper = k;
+      free = omega arith;
+      key = y;
+      rows = λ (i : ℕ). rw (getD-same G i freshRow) fresh-fits;
+      slots = every-tabulate SlotFits S (λ i. freeSlot (queuedNext S (suc i))) (freeSlot 0) (free-fits 0 (omega arith)) (λ (i : ℕ) (h : i < S). free-fits (queuedNext S (suc i)) (next-queued S (suc i) (omega arith)));
+    }
 
 fresh-ok : LogOk freshLog
 unfolding lastEntry

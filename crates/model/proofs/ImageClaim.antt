@@ -18,6 +18,7 @@ use Rattle.model.proofs.Step.{step-agrees}
 use Rattle.model.proofs.Sound.{step-sound}
 use Rattle.model.proofs.Along.{Keeps, after-fixed}
 use Rattle.model.proofs.History.{model-agreeing, model-unskipped, model-remembered}
+use Rattle.model.proofs.Remembers.{model-remembers}
 use Rattle.model.proofs.Once.{meets-once}
 use Rattle.model.proofs.Untorn.{model-untorn}
 use Rattle.model.proofs.Fresh.{getD-same, fresh-sound}
@@ -64,4 +65,5 @@ image-claim G S keeper key k64 m R cs w =
       logs = A .state .count ∙ after-fixed rules01 b cs .count ∙ length-replicate G freshLog;
       size = size;
       untorn = rw e (model-untorn b cs);
+      found = rw e (model-remembers rules01 b keeps cs w);
     }

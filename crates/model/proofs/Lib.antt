@@ -21,3 +21,5 @@ pub mod ImageClaim
 pub mod Untorn
 pub mod MarkedSet
 pub mod TableClaim
+pub mod Remembers
+pub mod Demand3

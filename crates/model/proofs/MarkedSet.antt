@@ -1,17 +1,16 @@
 -- The marked set, answered by the image and by the model.
 use Prim.Native.Nat.{ℕ}
 use mathlib.Core.Path.{_≡_, refl}
-use mathlib.Core.List.{List}
-use lib.ListN.{replicate}
 use Rattle.octets.specs.Octets.{same, zeros}
 use Rattle.bigendian.specs.BigEndian.{be, unbe}
 use Rattle.refusal.specs.Order.{firstFault}
 use Rattle.receipt.specs.Attestation.{LOOKUP, END, attestedBytes, receiptBytes, readAttestation}
-use Rattle.layout.specs.Image.{Image, freshRow, slotAt, setSlot}
+use Rattle.layout.specs.Image.{Image, slotAt, setSlot}
 use Rattle.layout.specs.Changes.{advancedRow, truncatedRow}
 use Rattle.layout.specs.Lists.{tabulate}
 use Rattle.table.specs.Chains.{walk, reaches, chain, lastOf}
 use Rattle.table.specs.Free.{queue, queuedNext}
+use Rattle.table.specs.Format.{formatted}
 use Rattle.table.specs.WholeImage.{all, blank, freeOk, fresh, risingFrom, started, rowOk, rowsOk, heldBy, meets, wholeImage}
 use Rattle.a2m.specs.Digest.{entryDigest}
 use Rattle.a2m.specs.Search.{search, lookedUp}
@@ -20,11 +19,8 @@ use Rattle.model.specs.Log.{lastEntry, keepFrom, keepBelow, entered, cut
 use Rattle.model.specs.Model.{rules01, Model, newModel, logAt, total, isNil, modelRefusal, modelReceipt, shownFor, lookupReply, endReply, modelDone, modelAccept, modelStep}
 use Rattle.model.specs.Marked.{placed, zero32, marked, answered}
 
-abbrev start : Image
-start = record { keeper = 7; key = zeros 32; free = 1; rows = replicate 2 freshRow; slots = queue 3 }
-
-pub marked-image : answered imageStep (λ (m : Image) (g : ℕ). rowIn m g .low) (λ (m : Image) (g : ℕ). rowIn m g .high) start marked ≡ marked
-unfolding marked answered placed zero32 same zeros be unbe firstFault LOOKUP END attestedBytes receiptBytes readAttestation slotAt setSlot advancedRow truncatedRow tabulate walk reaches chain lastOf queue queuedNext all blank freeOk fresh risingFrom started rowOk rowsOk heldBy meets wholeImage entryDigest search lookedUp entriesIn lastFree wrongLength misplaced spent nothingHeld full faults imageRefusal joined put release releases lowered lookupAttested endAttested imageDone imageAccept imageStep
+pub marked-image : answered imageStep (λ (m : Image) (g : ℕ). rowIn m g .low) (λ (m : Image) (g : ℕ). rowIn m g .high) (formatted 2 3 7 (zeros 32)) marked ≡ marked
+unfolding formatted marked answered placed zero32 same zeros be unbe firstFault LOOKUP END attestedBytes receiptBytes readAttestation slotAt setSlot advancedRow truncatedRow tabulate walk reaches chain lastOf queue queuedNext all blank freeOk fresh risingFrom started rowOk rowsOk heldBy meets wholeImage entryDigest search lookedUp entriesIn lastFree wrongLength misplaced spent nothingHeld full faults imageRefusal joined put release releases lowered lookupAttested endAttested imageDone imageAccept imageStep
 marked-image = refl
 
 pub marked-model : answered (modelStep rules01) (λ (b : Model) (g : ℕ). logAt (b .logs) g .low) (λ (b : Model) (g : ℕ). logAt (b .logs) g .high) (newModel 2 3 7 (zeros 32)) marked ≡ marked

@@ -35,7 +35,7 @@ shown-kind : (b : Model) (name : List ℕ) → length name ≡ 6 → (kind g n r
 unfolding modelReceipt
 shown-kind b name six kind g n reference nonce e r q = ap (λ (x : List ℕ). readAttestation x .kind) (sym q) ∙ kind-read (b .key) _ six
 
-length-LOOKUP : length LOOKUP ≡ 6
+pub length-LOOKUP : length LOOKUP ≡ 6
 unfolding LOOKUP
 length-LOOKUP = refl
 

@@ -10,7 +10,7 @@ use lib.Dec.{eqb}
 use Rattle.receipt.specs.Attestation.{readAttestation}
 use Rattle.layout.specs.Image.{Image}
 use Rattle.table.specs.WholeImage.{meets}
-use Rattle.a2m.specs.Call.{Call, advance, truncate, Reply, refused, done, found, ended, replies, after}
+use Rattle.a2m.specs.Call.{Call, append, advance, truncate, lookup, end, Reply, refused, done, found, ended, replies, after}
 use Rattle.a2m.specs.ImageCalls.{rowIn, entriesIn}
 use Rattle.model.specs.Log.{Log}
 use Rattle.model.specs.Model.{Rules, rules01, Model, newModel, logAt, modelStep}
@@ -61,6 +61,27 @@ pub record ForgetsAt (cs : List Call) (rs : List Reply) (j g n : ℕ) : Type 0 w
   pub high : ℕ
   pub accepted : replyAt rs j ≡ done low high
 
+-- the call puts x into log g
+abbrev pub Stores : ℕ → List ℕ → Call → Type 0
+Stores g x (append k y) = (k ≡ g) × (y ≡ x)
+Stores g x (advance k n d y) = (k ≡ g) × (y ≡ x)
+Stores g x (truncate k n) = ⊥
+Stores g x (lookup k n c r) = ⊥
+Stores g x (end k c r) = ⊥
+
+-- call i put x at n of log g and was accepted; call j, later, looks n up; no truncate between them that was accepted goes past n
+pub record Asked (cs : List Call) (rs : List Reply) (i j g n : ℕ) (x : List ℕ) : Type 0 where
+  pub put : Call
+  pub stores : Stores g x put
+  pub first : getElem? cs i ≡ some put
+  pub low : ℕ
+  pub accepted : replyAt rs i ≡ done low n
+  pub nonce : List ℕ
+  pub sized : length nonce ≡ 32
+  pub second : getElem? cs j ≡ some (lookup g n nonce 160)
+  pub later : i < j
+  pub kept : (k m : ℕ) → i < k → k < j → ForgetsAt cs rs k g m → m ≤ n
+
 -- ---- what the table after the list says
 
 -- how often s stands in a list
@@ -95,3 +116,5 @@ pub record ListClaim (G S keeper : ℕ) (key : List ℕ) (cs : List Call) (rs : 
   pub size : length (m .slots) ≡ S
   -- "1 never occurs."
   pub untorn : (i : ℕ) → replyAt rs i ≢ refused 1
+  -- and what a call put is found again: a later lookup shows it assigned with the value put, unless an accepted truncate went past it
+  pub found : (i j g n : ℕ) (x : List ℕ) → Asked cs rs i j g n x → (d : List ℕ) × ShowsAt rs j g n x d
