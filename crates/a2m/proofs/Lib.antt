@@ -4,4 +4,6 @@ pub mod FitsAfter
 pub mod Links
 pub mod Lists
 pub mod Moves
+pub mod Unchanged
+pub mod WholeBytes
 pub mod Written
