@@ -16,9 +16,10 @@ use Rattle.layout.specs.Changes.{withNext, advancedRow, truncatedRow}
 use Rattle.layout.specs.Fits.{RowFits, SlotFits, Fits}
 use Rattle.layout.proofs.ListLaws.{every-set}
 use Rattle.layout.proofs.TableLaws.{free-fits}
+use Rattle.table.specs.Free.{joint}
 use Rattle.a2m.specs.Call.{Call, append, advance, truncate, lookup, end, Wide}
 use Rattle.a2m.specs.Digest.{newEntry}
-use Rattle.a2m.specs.ImageCalls.{rowIn, lastFree, wrongLength, spent, imageRefusal, changed, joined, firstOf, heldSlot, put, previousIn, release, releases, lowered, imageDone, imageAccept, imageStep}
+use Rattle.a2m.specs.ImageCalls.{rowIn, wrongLength, spent, imageRefusal, changed, joined, firstOf, heldSlot, put, previousIn, release, releases, lowered, imageDone, imageAccept, imageStep}
 use Rattle.a2m.proofs.Clear.{Clear, clear}
 use Rattle.a2m.proofs.DigestLaws.{length-digest}
 use Rattle.a2m.proofs.Moves.{length-joined}
@@ -80,10 +81,10 @@ release-fits : (m : Image) → Fits m → (g : ℕ) → Fits (release m g)
 unfolding release truncatedRow
 release-fits m f g =
     let r = f .rows g in
-    changed-fits m f _ g _ _ (first-fits (lastFree m) (m .free) (rowIn m g .first) (f .free) (r .first))
+    changed-fits m f _ g _ _ (first-fits (joint m) (m .free) (rowIn m g .first) (f .free) (r .first))
     (record { low = r .low; high = r .high; first = slot-fits (m .slots) (f .slots) (rowIn m g .first) .next; last = r .last })
-    (length-joined (m .slots) (rowIn m g .first) (lastFree m) (freeSlot 0))
-    (joined-fits (m .slots) (f .slots) (rowIn m g .first) (lastFree m) (freeSlot 0) (r .first) (free-fits 0 (omega arith)))
+    (length-joined (m .slots) (rowIn m g .first) (joint m) (freeSlot 0))
+    (joined-fits (m .slots) (f .slots) (rowIn m g .first) (joint m) (freeSlot 0) (r .first) (free-fits 0 (omega arith)))
 
 releases-fits : (k n : ℕ) (m : Image) → Fits m → (g : ℕ) → Fits (releases k n m g)
 unfolding releases

@@ -10,7 +10,8 @@ use Rattle.receipt.specs.Attestation.{Attestation, LOOKUP, END, receiptBytes}
 use Rattle.layout.specs.declared.Row.{Row}
 use Rattle.layout.specs.Image.{Entry, Slot, Image, entryOf, freeSlot, slotAt, setSlot, rowAt}
 use Rattle.layout.specs.Changes.{withNext, slotOf, advancedRow, truncatedRow}
-use Rattle.table.specs.Chains.{chain, lastOf, entriesOf}
+use Rattle.table.specs.Chains.{chain, entriesOf}
+use Rattle.table.specs.Free.{taken, afterTaken, joint}
 use Rattle.table.specs.WholeImage.{wholeImage}
 use Rattle.a2m.specs.Call.{Call, append, advance, truncate, lookup, end, logOf, Reply, refused, done, found, ended, Outcome, outcome}
 use Rattle.a2m.specs.Digest.{newEntry}
@@ -22,10 +23,6 @@ rowIn m g = rowAt (m .rows) g
 
 unfoldable pub entriesIn : Image → ℕ → List Entry
 entriesIn m g = entriesOf (m .slots) (chain (m .slots) (suc g) (rowIn m g .first))
-
--- the last slot of the free chain, 0 if none
-unfoldable pub lastFree : Image → ℕ
-lastFree m = lastOf (chain (m .slots) 0 (m .free))
 
 -- ---- refusals
 
@@ -96,11 +93,10 @@ firstOf last first t = cond (eqb last 0) t first
 abbrev pub heldSlot : ℕ → Entry → Slot
 heldSlot g e = slotOf (suc g) 0 (e .position) (e .value) (e .digest)
 
--- the entry goes into the first free slot (document 01 leaves open which; this is the policy), and that behind the log's last
+-- the entry goes into a free slot, and that behind the log's last
 unfoldable pub put : Image → ℕ → Entry → Image
 put m g e =
-    changed m (slotAt (m .slots) (m .free) .next) g (advancedRow (rowIn m g) (e .position) (m .free))
-    (joined (m .slots) (m .free) (rowIn m g .last) (heldSlot g e))
+    changed m (afterTaken m) g (advancedRow (rowIn m g) (e .position) (taken m)) (joined (m .slots) (taken m) (rowIn m g .last) (heldSlot g e))
 
 -- "the digest of the entry at the old H (32). On a fresh log the last part is 32 zero bytes": those of slot 0
 abbrev pub previousIn : Image → ℕ → List ℕ
@@ -108,13 +104,13 @@ previousIn m g = slotAt (m .slots) (rowIn m g .last) .digest
 
 -- ---- truncate
 
--- the log's first slot becomes free, behind the last free one
+-- the log's first slot becomes free, at the free chain's end
 unfoldable pub release : Image → ℕ → Image
 release m g =
-    changed m (firstOf (lastFree m) (m .free) (rowIn m g .first)) g (truncatedRow (rowIn m g) (rowIn m g .low) (slotAt (m .slots) (rowIn m g .first) .next))
-    (joined (m .slots) (rowIn m g .first) (lastFree m) (freeSlot 0))
+    changed m (firstOf (joint m) (m .free) (rowIn m g .first)) g (truncatedRow (rowIn m g) (rowIn m g .low) (slotAt (m .slots) (rowIn m g .first) .next))
+    (joined (m .slots) (rowIn m g .first) (joint m) (freeSlot 0))
 
--- "Entries below n leave, their slots become free": by rising position, each at the free chain's end (the policy, which document 01 leaves open)
+-- "Entries below n leave, their slots become free": one by one, by rising position
 unfoldable pub releases : ℕ → ℕ → Image → ℕ → Image
 releases zero n m g = m
 releases (suc k) n m g = elim (leb n (slotAt (m .slots) (rowIn m g .first) .position)) [ true ↦ m | false ↦ releases k n (release m g) g ]

@@ -14,13 +14,13 @@ use Rattle.table.specs.Format.{formatted}
 use Rattle.table.specs.WholeImage.{all, blank, freeOk, fresh, risingFrom, started, rowOk, rowsOk, heldBy, meets, wholeImage}
 use Rattle.a2m.specs.Digest.{entryDigest}
 use Rattle.a2m.specs.Search.{search, lookedUp}
-use Rattle.a2m.specs.ImageCalls.{rowIn, entriesIn, lastFree, wrongLength, misplaced, spent, nothingHeld, full, faults, imageRefusal, joined, put, release, releases, lowered, lookupAttested, endAttested, imageDone, imageAccept, imageStep}
+use Rattle.a2m.specs.ImageCalls.{rowIn, entriesIn, wrongLength, misplaced, spent, nothingHeld, full, faults, imageRefusal, joined, put, release, releases, lowered, lookupAttested, endAttested, imageDone, imageAccept, imageStep}
 use Rattle.model.specs.Log.{lastEntry, keepFrom, keepBelow, entered, cutAt, standingAmong, standing, kindOf, referenceOf, examinedFor}
 use Rattle.model.specs.Model.{rules01, Model, newModel, logAt, total, isNil, modelRefusal, modelReceipt, shownFor, lookupReply, endReply, modelDone, modelAccept, modelStep}
 use Rattle.model.specs.Marked.{placed, zero32, marked, answered}
 
 pub marked-image : answered imageStep (λ (m : Image) (g : ℕ). rowIn m g .low) (λ (m : Image) (g : ℕ). rowIn m g .high) (formatted 2 3 7 (zeros 32)) marked ≡ marked
-unfolding formatted marked answered placed zero32 same zeros be unbe firstFault LOOKUP END attestedBytes receiptBytes readAttestation slotAt setSlot advancedRow truncatedRow tabulate walk reaches chain lastOf queue queuedNext all blank freeOk fresh risingFrom started rowOk rowsOk heldBy meets wholeImage entryDigest search lookedUp entriesIn lastFree wrongLength misplaced spent nothingHeld full faults imageRefusal joined put release releases lowered lookupAttested endAttested imageDone imageAccept imageStep
+unfolding formatted marked answered placed zero32 same zeros be unbe firstFault LOOKUP END attestedBytes receiptBytes readAttestation slotAt setSlot advancedRow truncatedRow tabulate walk reaches chain lastOf queue queuedNext all blank freeOk fresh risingFrom started rowOk rowsOk heldBy meets wholeImage entryDigest search lookedUp entriesIn wrongLength misplaced spent nothingHeld full faults imageRefusal joined put release releases lowered lookupAttested endAttested imageDone imageAccept imageStep
 marked-image = refl
 
 pub marked-model : answered (modelStep rules01) (λ (b : Model) (g : ℕ). logAt (b .logs) g .low) (λ (b : Model) (g : ℕ). logAt (b .logs) g .high) (newModel 2 3 7 (zeros 32)) marked ≡ marked

@@ -12,7 +12,8 @@ use borrow.Author.Tests.{leb-true, leb-false, le-leb, lt-leb}
 use Rattle.layout.specs.Image.{Entry, Slot, Image, entryOf, blankEntry, freeSlot, slotAt, rowAt}
 use Rattle.layout.specs.Changes.{truncatedRow}
 use Rattle.table.specs.Chains.{lastOf, entriesOf}
-use Rattle.a2m.specs.ImageCalls.{rowIn, lastFree, joined, firstOf, release, releases, lowered}
+use Rattle.table.specs.Free.{joint}
+use Rattle.a2m.specs.ImageCalls.{rowIn, joined, firstOf, release, releases, lowered}
 use Rattle.a2m.proofs.Lists.{lastOf-snoc}
 use Rattle.a2m.proofs.Links.{Links, Holds, links-head}
 use Rattle.a2m.proofs.Moves.{Move, move-other, move-from, move-to, length-joined}
@@ -27,7 +28,7 @@ withEntries l es = record { low = l .low; high = l .high; entries = es }
 module _ (m : Image) (b : Model) (R : Rep m b) (g : ℕ) (gG : g < length (b .logs)) where
   -- f is the entry that leaves; one at least is left
   release-rep : (t : ℕ) (A : List ℕ) (x y : Entry) (es : List Entry) → Links (m .slots) (suc g) (rowIn m g .first) (rowIn m g .first ∷ t ∷ A) 0 → rowIn m g .last ≡ lastOf (rowIn m g .first ∷ t ∷ A) → entriesOf (m .slots) (t ∷ A) ≡ y ∷ es → logAt (b .logs) g .entries ≡ x ∷ y ∷ es → Rep (release m g) (withLog b g (withEntries (logAt (b .logs) g) (y ∷ es)))
-  unfolding release lastFree lastOf truncatedRow
+  unfolding release lastOf truncatedRow
   release-rep t A x y es links last held was = record {
     keeper = R .keeper;
     key = R .key;
@@ -46,7 +47,7 @@ module _ (m : Image) (b : Model) (R : Rep m b) (g : ℕ) (gG : g < length (b .lo
   }
     where
       z : ℕ
-      z = lastFree m
+      z = joint m
 
       M : Move (m .slots) (suc g) 0 (rowIn m g .first) (t ∷ A) (m .free) (R .queue) z (freeSlot 0)
       M = record { from = links; to = R .free .links; apart = λ (q : suc g ≡ 0). omega arith; end = ap lastOf (free-chain m b R); owner = refl; stops = refl }
@@ -85,8 +86,7 @@ module _ (m : Image) (b : Model) (R : Rep m b) (g : ℕ) (gG : g < length (b .lo
       go (u ∷ t ∷ A) l h k = (release-rep t A x y es (links-head (m .slots) (suc g) (rowIn m g .first) u (t ∷ A) 0 h) (l ∙ ap (λ (x : ℕ). lastOf (x ∷ t ∷ A)) (sym (h .0))) (tail-eq-of-cons-eq k) was, refl)
 
   -- the slot freed is the last of the free chain: a loop need not look for it again
-  pub release-last : (x y : Entry) (es : List Entry) → logAt (b .logs) g .entries ≡ x ∷ y ∷ es → lastFree (release m g) ≡ rowIn m g .first
-  unfolding lastFree
+  pub release-last : (x y : Entry) (es : List Entry) → logAt (b .logs) g .entries ≡ x ∷ y ∷ es → joint (release m g) ≡ rowIn m g .first
   release-last x y es was =
       let r = release-keeps x y es was in
       ap lastOf (free-chain (release m g) _ (r .0) ∙ r .1) ∙ lastOf-snoc (R .queue) (rowIn m g .first)
