@@ -1,3 +1,4 @@
+pub mod Chained
 pub mod Clear
 pub mod DigestLaws
 pub mod FitsAfter
@@ -6,4 +7,5 @@ pub mod Lists
 pub mod Moves
 pub mod Unchanged
 pub mod WholeBytes
+pub mod WholeChains
 pub mod Written
