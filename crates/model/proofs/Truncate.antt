@@ -1,6 +1,6 @@
 -- Truncate on an image and on the model: the slots of entries below n go to the free chain's end, one by one.
 use Prim.Native.Nat.{ℕ, zero, suc, _+_, _≤_, _<_}
-use mathlib.Core.Path.{_≡_, refl, sym, ap, _∙_}
+use mathlib.Core.Path.{_≡_, refl, sym, ap, subst, _∙_}
 use mathlib.Core.Logic.{_≢_}
 use mathlib.Core.List.{List, [], _∷_, _++_, nil≢cons, tail-eq-of-cons-eq, head-eq-of-cons-eq}
 use mathlib.Core.Bool.{Bool, true, false}
@@ -14,82 +14,75 @@ use Rattle.layout.specs.Changes.{truncatedRow}
 use Rattle.table.specs.Chains.{lastOf, entriesOf}
 use Rattle.table.specs.Free.{joint}
 use Rattle.a2m.specs.ImageCalls.{rowIn, joined, firstOf, release, releases, lowered}
-use Rattle.a2m.proofs.Lists.{lastOf-snoc}
 use Rattle.a2m.proofs.Links.{Links, Holds, links-head}
+use Rattle.a2m.proofs.Chained.{Chained, release-move}
 use Rattle.a2m.proofs.Moves.{Move, move-other, move-from, move-to, length-joined}
 use Rattle.model.specs.Log.{Log, freshLog, lastEntry, keepFrom, cutAt}
 use Rattle.model.specs.Model.{Model, logAt, total, withLog}
 use Rattle.model.proofs.Represents.{Rep, RowRep, LogOk, Rising}
-use Rattle.model.proofs.Reading.{total-set, total-at, free-chain, rows-set}
+use Rattle.model.proofs.Reading.{total-set, total-at, rows-set}
+
+-- ---- release: the log's first slot goes to the end of the free chain
 
 abbrev pub withEntries : Log → List Entry → Log
 withEntries l es = record { low = l .low; high = l .high; entries = es }
 
 module _ (m : Image) (b : Model) (R : Rep m b) (g : ℕ) (gG : g < length (b .logs)) where
-  -- f is the entry that leaves; one at least is left
-  release-rep : (t : ℕ) (A : List ℕ) (x y : Entry) (es : List Entry) → Links (m .slots) (suc g) (rowIn m g .first) (rowIn m g .first ∷ t ∷ A) 0 → rowIn m g .last ≡ lastOf (rowIn m g .first ∷ t ∷ A) → entriesOf (m .slots) (t ∷ A) ≡ y ∷ es → logAt (b .logs) g .entries ≡ x ∷ y ∷ es → Rep (release m g) (withLog b g (withEntries (logAt (b .logs) g) (y ∷ es)))
+  -- x is the entry that leaves; one at least is left
+  release-rep : (t : ℕ) (A : List ℕ) (x y : Entry) (es : List Entry) → Chained m g (rowIn m g .first ∷ t ∷ A) (x ∷ y ∷ es) (R .queue) → logAt (b .logs) g .entries ≡ x ∷ y ∷ es → Rep (release m g) (withLog b g (withEntries (logAt (b .logs) g) (y ∷ es)))
   unfolding release lastOf truncatedRow
-  release-rep t A x y es links last held was = record {
+  release-rep t A x y es chained was = record {
     keeper = R .keeper;
     key = R .key;
     count = length-set (m .rows) g _ ∙ R .count ∙ sym (length-set (b .logs) g _);
-    size = length-joined (m .slots) (rowIn m g .first) z (freeSlot 0) ∙ R .size;
-    rows = rows-set (joined (m .slots) (rowIn m g .first) z (freeSlot 0)) (m .rows) (b .logs) g _ _ (rw (R .count) gG) gG others this;
+    size = same-size ∙ R .size;
+    rows = rows-set slots (m .rows) (b .logs) g _ _ (rw (R .count) gG) gG others this;
     queue = R .queue ++ (rowIn m g .first ∷ []);
-    free = blanks (move-to (m .slots) (suc g) 0 (rowIn m g .first) (t ∷ A) (m .free) (R .queue) z (freeSlot 0) M (replicate (length (R .queue)) blankEntry) (R .free .held));
+    free = blanks (move-to _ _ _ _ _ _ _ _ _ M _ (R .free .held));
     sum =
         let s = total-set (b .logs) g (withEntries (logAt (b .logs) g) (y ∷ es)) gG in
         let a = length-append (R .queue) (rowIn m g .first ∷ []) in
-        let l = length-joined (m .slots) (rowIn m g .first) z (freeSlot 0) in
+        let l = same-size in
         let n : length (logAt (b .logs) g .entries) ≡ suc (suc (length es)) = ap length was in
         let k = R .sum in
         omega arith;
   }
     where
-      z : ℕ
-      z = joint m
+      slots : List Slot
+      slots = joined (m .slots) (rowIn m g .first) (joint m) (freeSlot 0)
 
-      M : Move (m .slots) (suc g) 0 (rowIn m g .first) (t ∷ A) (m .free) (R .queue) z (freeSlot 0)
-      M = record { from = links; to = R .free .links; apart = λ (q : suc g ≡ 0). omega arith; end = ap lastOf (free-chain m b R); owner = refl; stops = refl }
+      same-size : length slots ≡ length (m .slots)
+      same-size = length-joined (m .slots) (rowIn m g .first) (joint m) (freeSlot 0)
 
-      others : (k : ℕ) → k ≢ g → RowRep (joined (m .slots) (rowIn m g .first) z (freeSlot 0)) k (rowAt (m .rows) k) (logAt (b .logs) k)
-      others k n = let v = R .rows k in record {
-        chain = v .chain;
-        holds = move-other (m .slots) (suc g) 0 (rowIn m g .first) (t ∷ A) (m .free) (R .queue) z (freeSlot 0) M (suc k) (rowAt (m .rows) k .first) (v .chain) (logAt (b .logs) k .entries) (λ (q : suc k ≡ suc g). n (omega arith)) (λ (q : suc k ≡ 0). omega arith) (v .holds);
-        last = v .last;
-        low = v .low;
-        high = v .high;
-      }
+      M : Move (m .slots) (suc g) 0 (rowIn m g .first) (t ∷ A) (m .free) (R .queue) (joint m) (freeSlot 0)
+      M = release-move m g t A x (y ∷ es) (R .queue) chained
 
-      this : RowRep (joined (m .slots) (rowIn m g .first) z (freeSlot 0)) g (truncatedRow (rowIn m g) (rowIn m g .low) (slotAt (m .slots) (rowIn m g .first) .next)) (withEntries (logAt (b .logs) g) (y ∷ es))
-      this = record {
-        chain = t ∷ A;
-        holds = move-from (m .slots) (suc g) 0 (rowIn m g .first) (t ∷ A) (m .free) (R .queue) z (freeSlot 0) M (y ∷ es) held;
-        last = last;
-        low = R .rows g .low;
-        high = R .rows g .high;
-      }
+      others : (k : ℕ) → k ≢ g → RowRep slots k (rowAt (m .rows) k) (logAt (b .logs) k)
+      others k n =
+          let v = R .rows k in
+          record { chain = v .chain; holds = move-other _ _ _ _ _ _ _ _ _ M _ _ _ _ (λ (q : suc k ≡ suc g). n (omega arith)) (λ (q : suc k ≡ 0). omega arith) (v .holds); last = v .last; low = v .low; high = v .high }
 
-      blanks : Holds (joined (m .slots) (rowIn m g .first) z (freeSlot 0)) 0 (firstOf z (m .free) (rowIn m g .first)) (R .queue ++ (rowIn m g .first ∷ [])) (replicate (length (R .queue)) blankEntry ++ (blankEntry ∷ [])) → Holds (joined (m .slots) (rowIn m g .first) z (freeSlot 0)) 0 (firstOf z (m .free) (rowIn m g .first)) (R .queue ++ (rowIn m g .first ∷ [])) (replicate (length (R .queue ++ (rowIn m g .first ∷ []))) blankEntry)
+      this : RowRep slots g (truncatedRow (rowIn m g) (rowIn m g .low) (slotAt (m .slots) (rowIn m g .first) .next)) (withEntries (logAt (b .logs) g) (y ∷ es))
+      this = record { chain = t ∷ A; holds = move-from _ _ _ _ _ _ _ _ _ M (y ∷ es) (tail-eq-of-cons-eq (chained .log .held)); last = chained .last; low = R .rows g .low; high = R .rows g .high }
+
+      first : ℕ
+      first = firstOf (joint m) (m .free) (rowIn m g .first)
+
+      queue : List ℕ
+      queue = R .queue ++ (rowIn m g .first ∷ [])
+
+      blanks : Holds slots 0 first queue (replicate (length (R .queue)) blankEntry ++ (blankEntry ∷ [])) → Holds slots 0 first queue (replicate (length queue) blankEntry)
       blanks h = rw (length-append (R .queue) (rowIn m g .first ∷ []), ← (replicate-append-replicate (length (R .queue)) 1 blankEntry)) h
 
-  abbrev Released : Entry → List Entry → Type 0
-  Released y es = (r : Rep (release m g) (withLog b g (withEntries (logAt (b .logs) g) (y ∷ es)))) × (r .queue ≡ R .queue ++ (rowIn m g .first ∷ []))
-
-  pub release-keeps : (x y : Entry) (es : List Entry) → logAt (b .logs) g .entries ≡ x ∷ y ∷ es → Released y es
-  unfolding release-rep
+  pub release-keeps : (x y : Entry) (es : List Entry) → logAt (b .logs) g .entries ≡ x ∷ y ∷ es → Rep (release m g) (withLog b g (withEntries (logAt (b .logs) g) (y ∷ es)))
   release-keeps x y es was = go (R .rows g .chain) (R .rows g .last) (R .rows g .holds .links) (R .rows g .holds .held ∙ was)
     where
-      go : (c : List ℕ) → rowIn m g .last ≡ lastOf c → Links (m .slots) (suc g) (rowIn m g .first) c 0 → entriesOf (m .slots) c ≡ x ∷ y ∷ es → Released y es
+      go : (c : List ℕ) → rowIn m g .last ≡ lastOf c → Links (m .slots) (suc g) (rowIn m g .first) c 0 → entriesOf (m .slots) c ≡ x ∷ y ∷ es → Rep (release m g) (withLog b g (withEntries (logAt (b .logs) g) (y ∷ es)))
       go [] l h k = absurd (nil≢cons k)
       go (u ∷ []) l h k = absurd (nil≢cons (tail-eq-of-cons-eq k))
-      go (u ∷ t ∷ A) l h k = (release-rep t A x y es (links-head (m .slots) (suc g) (rowIn m g .first) u (t ∷ A) 0 h) (l ∙ ap (λ (x : ℕ). lastOf (x ∷ t ∷ A)) (sym (h .0))) (tail-eq-of-cons-eq k) was, refl)
-
-  -- the slot freed is the last of the free chain: a loop need not look for it again
-  pub release-last : (x y : Entry) (es : List Entry) → logAt (b .logs) g .entries ≡ x ∷ y ∷ es → joint (release m g) ≡ rowIn m g .first
-  release-last x y es was =
-      let r = release-keeps x y es was in
-      ap lastOf (free-chain (release m g) _ (r .0) ∙ r .1) ∙ lastOf-snoc (R .queue) (rowIn m g .first)
+      go (u ∷ t ∷ A) l h k =
+          let first : u ≡ rowIn m g .first = sym (h .0) in
+          release-rep t A x y es (record { log = record { links = links-head (m .slots) (suc g) (rowIn m g .first) u (t ∷ A) 0 h; held = subst (λ (v : ℕ). entriesOf (m .slots) (v ∷ t ∷ A) ≡ x ∷ y ∷ es) first k }; last = l ∙ ap (λ (v : ℕ). lastOf (v ∷ t ∷ A)) first; free = R .free .links }) was
 
 -- ---- releases: every entry below n
 
@@ -151,7 +144,7 @@ releases-keeps (suc k) n m b R g gG (x ∷ es) was w r top n1 fuel =
     go false e [] was′ r′ top′ fuel′ below = absurd (let lt = leb-false n (x .position) e in omega arith)
     go false e (y ∷ fs) was′ r′ top′ fuel′ below =
         let lt : x .position < n = leb-false n (x .position) e in
-        let R1 : Rep (release m g) (withLog b g (withEntries (logAt (b .logs) g) (y ∷ fs))) = release-keeps m b R g gG x y fs was′ .0 in
+        let R1 : Rep (release m g) (withLog b g (withEntries (logAt (b .logs) g) (y ∷ fs))) = release-keeps m b R g gG x y fs was′ in
         let at : logAt (set (b .logs) g (withEntries (logAt (b .logs) g) (y ∷ fs))) g ≡ withEntries (logAt (b .logs) g) (y ∷ fs) = getD-set-same (b .logs) g (withEntries (logAt (b .logs) g) (y ∷ fs)) freshLog gG in
         let R2 = below (release m g) (withLog b g (withEntries (logAt (b .logs) g) (y ∷ fs))) R1 (rw (length-set (b .logs) g (withEntries (logAt (b .logs) g) (y ∷ fs))) gG) (y ∷ fs) (ap (λ (l : Log). l .entries) at) (suc (x .position)) r′ top′ fuel′ in
         rw (releases-go k n m g (rw (at-first (y ∷ fs) was′) lt), keepFrom-drop n x (y ∷ fs) lt) (rw (at, withLog-twice b g) at R2)
