@@ -23,3 +23,4 @@ pub mod MarkedSet
 pub mod TableClaim
 pub mod Remembers
 pub mod Demand3
+pub mod OfWhole

@@ -2,3 +2,4 @@ pub mod Claim
 pub mod Log
 pub mod Marked
 pub mod Model
+pub mod ModelOf
