@@ -5,6 +5,7 @@ pub mod FitsAfter
 pub mod Links
 pub mod Lists
 pub mod Moves
+pub mod Releases
 pub mod Unchanged
 pub mod WholeBytes
 pub mod WholeChains

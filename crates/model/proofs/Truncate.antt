@@ -16,6 +16,7 @@ use Rattle.table.specs.Free.{joint}
 use Rattle.a2m.specs.ImageCalls.{rowIn, joined, firstOf, release, releases, lowered}
 use Rattle.a2m.proofs.Links.{Links, Holds, links-head}
 use Rattle.a2m.proofs.Chained.{Chained, release-move}
+use Rattle.a2m.proofs.Releases.{releases-stop, releases-go}
 use Rattle.a2m.proofs.Moves.{Move, move-other, move-from, move-to, length-joined}
 use Rattle.model.specs.Log.{Log, freshLog, lastEntry, keepFrom, cutAt}
 use Rattle.model.specs.Model.{Model, logAt, total, withLog}
@@ -110,14 +111,6 @@ withLog-same b g es was =
 -- two changes of one log, the second given from the log as it was
 pub withLog-twice : (b : Model) (g : ℕ) (l k : Log) → withLog (withLog b g l) g k ≡ withLog b g k
 withLog-twice b g l k = λ i. record { size = b .size; keeper = b .keeper; key = b .key; logs = set-set (b .logs) g l k i }
-
-pub releases-stop : (k n : ℕ) (m : Image) (g : ℕ) → n ≤ slotAt (m .slots) (rowIn m g .first) .position → releases (suc k) n m g ≡ m
-unfolding releases
-releases-stop k n m g h = rw (releases, le-leb n (slotAt (m .slots) (rowIn m g .first) .position) h)
-
-pub releases-go : (k n : ℕ) (m : Image) (g : ℕ) → slotAt (m .slots) (rowIn m g .first) .position < n → releases (suc k) n m g ≡ releases k n (release m g) g
-unfolding releases
-releases-go k n m g h = rw (releases, lt-leb n (slotAt (m .slots) (rowIn m g .first) .position) h)
 
 pub keepFrom-drop : (n : ℕ) (x : Entry) (es : List Entry) → x .position < n → keepFrom n (x ∷ es) ≡ keepFrom n es
 unfolding keepFrom
