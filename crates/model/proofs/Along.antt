@@ -6,8 +6,8 @@ use mathlib.Core.Option.{none, some, Option·none-ne-some, Option·some-injectiv
 use native.Mathlib.Omega.{arith}
 use lib.ListN.{length, take, getElem?, length-set}
 use lib.Seq.{getD-set-same}
-use Rattle.a2m.specs.Call.{Call, append, advance, truncate, lookup, end, refused, done, replies, after, AllWide, Wide}
-use Rattle.a2m.specs.Digest.{newEntry}
+use Rattle.layout.specs.Image.{Entry}
+use Rattle.a2m.specs.Call.{Call, append, advance, truncate, lookup, end, refused, done, Outcome, replies, after, AllWide, Wide}
 use Rattle.model.specs.Log.{freshLog, entered, cutAt}
 use Rattle.model.specs.Model.{Rules, Model, logAt, modelDone, modelAccept, modelStep}
 use Rattle.model.specs.Claim.{replyAt, ShowsAt}
@@ -94,14 +94,14 @@ module _ (ru : Rules) where
   at-shown b k (c ∷ cs) w zero g n v d s = step-shown ru b (k .sound) (k .keeper) (k .fits) c (w .0) (s .receipt) (s .there) g n v d (s .shows)
   at-shown b k (c ∷ cs) w (suc i) g n v d s = at-shown (modelStep ru b c .state) (step-keeps ru b k c (w .0)) cs (w .1) i g n v d (record { receipt = s .receipt; there = s .there; shows = s .shows })
 
-  -- the log after an accepted advance, and after an accepted truncate
-  pub advanced : (b : Model) (g n : ℕ) (d x : List ℕ) (lo hi : ℕ) → modelStep ru b (advance g n d x) .reply ≡ done lo hi → logAt (modelStep ru b (advance g n d x) .state .logs) g ≡ entered (logAt (b .logs) g) (newEntry n x d)
+  -- the log after an accepted advance has one entry more, at n; after an accepted truncate it is cut
+  pub advanced : (b : Model) (g n : ℕ) (d x : List ℕ) (lo hi : ℕ) → modelStep ru b (advance g n d x) .reply ≡ done lo hi → (e : Entry) × (e .position ≡ n) × (logAt (modelStep ru b (advance g n d x) .state .logs) g ≡ entered (logAt (b .logs) g) e)
   unfolding modelAccept modelDone
   advanced b g n d x lo hi h = go (stepped ru b (advance g n d x))
     where
-      go : Stepped ru b (advance g n d x) → logAt (modelStep ru b (advance g n d x) .state .logs) g ≡ entered (logAt (b .logs) g) (newEntry n x d)
+      go : Stepped ru b (advance g n d x) → (e : Entry) × (e .position ≡ n) × (logAt (modelStep ru b (advance g n d x) .state .logs) g ≡ entered (logAt (b .logs) g) e)
       go (turned k e) = absurd (let q : refused k ≡ done lo hi = rw e at h in let z : _≡_ {A = ℕ} 0 1 = cc in omega arith)
-      go (taken a e) = rw e (getD-set-same (b .logs) g (entered (logAt (b .logs) g) (newEntry n x d)) freshLog (a .log))
+      go (taken a e) = (_, refl, ap (λ (o : Outcome Model). logAt (o .state .logs) g) e ∙ getD-set-same (b .logs) g _ freshLog (a .log))
 
   pub truncated : (b : Model) (g n : ℕ) (lo hi : ℕ) → modelStep ru b (truncate g n) .reply ≡ done lo hi → logAt (modelStep ru b (truncate g n) .state .logs) g ≡ cutAt n (logAt (b .logs) g)
   unfolding modelAccept modelDone

@@ -1,6 +1,6 @@
 -- Demand 3's facts on receipts, on the model alone: never two stories of one position, none of a skipped or forgotten one.
 use Prim.Native.Nat.{ℕ, suc, _≤_, _<_}
-use mathlib.Core.Path.{_≡_, refl, sym, ap, _∙_}
+use mathlib.Core.Path.{_≡_, refl, sym, ap, subst, _∙_}
 use mathlib.Core.Logic.{_⊎_, inl, inr}
 use mathlib.Core.List.{List, [], _∷_}
 use mathlib.Core.Bool.{Bool, true, false}
@@ -10,7 +10,6 @@ use lib.Dec.{leb}
 use borrow.Author.Tests.{leb-true, leb-false}
 use Rattle.layout.specs.Image.{Entry}
 use Rattle.a2m.specs.Call.{Call, advance, truncate, replies, after, AllWide}
-use Rattle.a2m.specs.Digest.{newEntry}
 use Rattle.a2m.proofs.Lists.{In, in-cases}
 use Rattle.model.specs.Log.{Log, entered, cutAt}
 use Rattle.model.specs.Model.{Rules, Model, logAt, modelStep}
@@ -54,10 +53,13 @@ module _ (ru : Rules) (b : Model) (keeps : Keeps b) (cs : List Call) (w : AllWid
       e : EntryAt (logAt (after (modelStep ru) b (take i cs) .logs) g) p v d
       e = at-shown ru b keeps cs w i g p v d s
 
-      next : at (suc j) ≡ entered (at j) (newEntry (k .n) (k .value) (k .given))
-      next = ap (λ (x : Model). logAt (x .logs) g) (at-next ru b cs j (advance g (k .n) (k .given) (k .value)) (k .call)) ∙ advanced ru (after (modelStep ru) b (take j cs)) g (k .n) (k .given) (k .value) (k .low) (k .high) (sym (at-reply ru b cs j (advance g (k .n) (k .given) (k .value)) (k .call)) ∙ k .accepted)
+      step : (x : Entry) × (x .position ≡ k .n) × (at (suc j) ≡ entered (at j) x)
+      step =
+          let c = advance g (k .n) (k .given) (k .value) in
+          let r = advanced ru (after (modelStep ru) b (take j cs)) g (k .n) (k .given) (k .value) (k .low) (k .high) (sym (at-reply ru b cs j c (k .call)) ∙ k .accepted) in
+          (r .0, r .1, ap (λ (x : Model). logAt (x .logs) g) (at-next ru b cs j c (k .call)) ∙ r .2)
 
-      cases : In (e .entry) (at j .entries) ⊎ In (e .entry) (newEntry (k .n) (k .value) (k .given) ∷ []) → ⊥
+      cases : In (e .entry) (at j .entries) ⊎ In (e .entry) (step .0 ∷ []) → ⊥
       cases (inl m) =
           let a = k .above in
           let q = e .position in
@@ -66,7 +68,7 @@ module _ (ru : Rules) (b : Model) (keeps : Keeps b) (cs : List Call) (w : AllWid
       cases (inr (inl z)) =
           let a = k .below in
           let q = e .position in
-          let w : e .entry .position ≡ k .n = ap (λ (y : Entry). y .position) z in
+          let w : e .entry .position ≡ k .n = ap (λ (y : Entry). y .position) z ∙ step .1 in
           omega arith
 
       go : (x : Bool) → leb i j ≡ x → ⊥
@@ -80,8 +82,9 @@ module _ (ru : Rules) (b : Model) (keeps : Keeps b) (cs : List Call) (w : AllWid
           let lt = leb-false i j h in
           let q = e .position in
           let a = k .below in
-          let L : Later (entered (at j) (newEntry (k .n) (k .value) (k .given))) (at i) = rw next at (at-later ru b cs (suc j) i lt g) in
-          cases (in-cases (e .entry) (at j .entries) (newEntry (k .n) (k .value) (k .given) ∷ []) (L .old (e .entry) (e .there) (omega arith)))
+          let n : step .0 .position ≡ k .n = step .1 in
+          let L : Later (entered (at j) (step .0)) (at i) = subst (λ (l : Log). Later l (at i)) (step .2) (at-later ru b cs (suc j) i lt g) in
+          cases (in-cases (e .entry) (at j .entries) (step .0 ∷ []) (L .old (e .entry) (e .there) (omega arith)))
 
   pub model-remembered : (i j g p n : ℕ) (v d : List ℕ) → j < i → ForgetsAt cs (replies (modelStep ru) b cs) j g n → p < n → ShowsAt (replies (modelStep ru) b cs) i g p v d → ⊥
   unfolding cutAt
