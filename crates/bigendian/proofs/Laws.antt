@@ -1,7 +1,7 @@
 -- The laws of big-endian numbers, each over all widths.
 use mathlib.Core.Path.{_≡_, refl, sym, ap, ap₂, _∙_, subst}
 use Prim.Native.Nat.{ℕ, zero, suc, _+_, _*_, _/_, _%_, _^_, _≤_, _<_, zero-le}
-use native.Mathlib.Nat.{not-suc-le-zero, le-of-suc-le-suc, mod-one, mod-lt, mod-eq-of-lt, pow-suc, pow-succ', pow-le-pow-right, mul-add-div-right, mul-add-mod-self-right, mul-assoc, mul-comm, add-assoc, div-div-eq-div-mul, div-add-mod', zero-add, suc-add, add-comm, div-one}
+use native.Mathlib.Nat.{mod-one, mod-lt, mod-eq-of-lt, pow-suc, pow-succ', pow-le-pow-right, mul-add-div-right, mul-add-mod-self-right, mul-assoc, mul-comm, add-assoc, div-div-eq-div-mul, div-add-mod', zero-add, suc-add, add-comm, div-one}
 use native.Mathlib.Omega.{arith}
 use mathlib.Core.List.{List, [], _∷_, _++_, append-assoc}
 use lib.Dec.{lit<}
@@ -21,12 +21,12 @@ unfolding be
 length-be zero n = refl
 length-be (suc w) n = ap suc (length-be w n)
 
--- every byte of be is below 256
-pub be-bytes : (w n i : ℕ) → i < w → getD (be w n) i 0 < 256
+-- every element is a byte
+pub bytes-be : (w n : ℕ) → Bytes (be w n)
 unfolding be
-be-bytes zero n i h = absurd (not-suc-le-zero h)
-be-bytes (suc w) n zero h = mod-lt (n / 256 ^ w) (lit< tt)
-be-bytes (suc w) n (suc i) h = be-bytes w n i (le-of-suc-le-suc h)
+bytes-be zero n i = lit< tt
+bytes-be (suc w) n zero = mod-lt (n / 256 ^ w) (lit< tt)
+bytes-be (suc w) n (suc i) = bytes-be w n i
 
 -- the low w bytes of n make n modulo 256^w
 pub unbe-be-mod : (w n : ℕ) → unbe (be w n) ≡ n % 256 ^ w

@@ -1,16 +1,15 @@
--- Key blocks: zero bytes after a key, a function applied byte by byte in place, and the cases of what `tag` answers.
---
-use mathlib.Core.Path.{_≡_, refl, sym, ap, ap₂, _∙_}
-use Prim.Native.Nat.{ℕ, zero, suc, _+_, _-_, _^_, _≤_, _<_}
+-- Key blocks: zero bytes after a key, and a function applied byte by byte in place.
+use mathlib.Core.Path.{_≡_, sym, ap, _∙_}
+use Prim.Native.Nat.{ℕ, zero, suc, _+_, _-_, _≤_, _<_}
 use native.Mathlib.Nat.{zero-sub, suc-sub-suc, sub-zero, zero-add}
 use native.Mathlib.Omega.{arith}
 use mathlib.Core.List.{List, [], _∷_, _++_, map, map-append}
 use lib.ListN.{length, getD, take, drop, set, replicate, length-map}
 use lib.Seq.{drop-cons, take-suc, getD-at, set-at, append-snoc, length-take-le}
-use borrow.Author.Tests.{lt-ltb, le-ltb, eq-eqb, ne-eqb, le-leb, lt-leb}
-use Rattle.octets.specs.Octets.{splice}
+use borrow.Author.Tests.{le-leb, lt-leb}
+use Rattle.octets.specs.Octets.{splice, zeros}
 use Rattle.sha256.specs.Sha256.{sha256}
-use Rattle.hmac.specs.Hmac.{shortKey, filled, hmac, accepts, answer, written}
+use Rattle.hmac.specs.Hmac.{shortKey, padded}
 
 drop-replicate : (n m a : ℕ) → drop n (replicate m a) ≡ replicate (m - n) a
 drop-replicate zero m a = ap (λ (k : ℕ). replicate k a) (sym (sub-zero m))
@@ -18,9 +17,9 @@ drop-replicate (suc n) zero a = ap (λ (k : ℕ). replicate k a) (sym (zero-sub 
 drop-replicate (suc n) (suc m) a = drop-replicate n m a ∙ ap (λ (k : ℕ). replicate k a) (sym (suc-sub-suc m n))
 
 -- bytes at the start of a block of zeros
-pub filled-is : (k : List ℕ) → splice (replicate 64 0) 0 k ≡ filled k
-unfolding splice filled
-filled-is k = ap (λ (l : List ℕ). k ++ l) (ap (λ (n : ℕ). drop n (replicate 64 0)) (zero-add (length k)) ∙ drop-replicate (length k) 64 0)
+pub padded-is : (k : List ℕ) → splice (replicate 64 0) 0 k ≡ padded k
+unfolding splice padded zeros
+padded-is k = ap (λ (l : List ℕ). k ++ l) (ap (λ (n : ℕ). drop n (replicate 64 0)) (zero-add (length k)) ∙ drop-replicate (length k) 64 0)
 
 pub short-key : (key : List ℕ) → length key ≤ 64 → key ≡ shortKey key
 unfolding shortKey
@@ -43,20 +42,3 @@ map-step f b i h =
     ∙ set-at p y t (f y) i size
     ∙ sym (append-snoc p (f y) t)
     ∙ ap (λ (l : List ℕ). l ++ t) (sym (map-append f (take i b) (y ∷ [])) ∙ ap (map f) (sym (take-suc b i 0 h)))
-
-module _ (key text out : List ℕ) where
-  pub other-length : (length out ≡ 32 → ⊥) → (7 ≡ answer key text out) × (out ≡ written key text out)
-  unfolding answer written accepts
-  other-length h = simp (ne-eqb (length out) 32 h) (refl, refl)
-
-  pub long-key-refused : length out ≡ 32 → 2 ^ 61 ≤ length key → (7 ≡ answer key text out) × (out ≡ written key text out)
-  unfolding answer written accepts
-  long-key-refused h k = simp (eq-eqb (length out) 32 h, le-ltb (length key) (2 ^ 61) k) (refl, refl)
-
-  pub long-text-refused : length out ≡ 32 → length key < 2 ^ 61 → 2 ^ 61 ≤ length text + 64 → (7 ≡ answer key text out) × (out ≡ written key text out)
-  unfolding answer written accepts
-  long-text-refused h k l = simp (eq-eqb (length out) 32 h, lt-ltb (length key) (2 ^ 61) k, le-ltb (length text + 64) (2 ^ 61) l) (refl, refl)
-
-  pub accepted : length out ≡ 32 → length key < 2 ^ 61 → length text + 64 < 2 ^ 61 → (0 ≡ answer key text out) × (hmac key text ≡ written key text out)
-  unfolding answer written accepts
-  accepted h k l = simp (eq-eqb (length out) 32 h, lt-ltb (length key) (2 ^ 61) k, lt-ltb (length text + 64) (2 ^ 61) l) (refl, refl)

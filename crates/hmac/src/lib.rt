@@ -28,16 +28,23 @@ fn key_block(key: &[u8]) -> [u8; 64]
     block
 }
 
-// The digest of the key's block, with x xored into each byte, and a text after it.
-fn keyed(mut block: [u8; 64], x: u8, text: &[u8]) -> [u8; 32]
-    requires { ⌜ 64 + length (now text) < 2 ^ 61 ⌝ }
-    ensures { λ r. ⌜ r ≡ sha256 (masked x block ++ now (text .entry)) ⌝ }
+// The block with x xored into each byte.
+fn mask(mut block: [u8; 64], x: u8) -> [u8; 64]
+    ensures { λ r. ⌜ r ≡ masked x block ⌝ }
 {
     let mut i = 0;
     while i < 64 {
         block[i] = block[i] ^ x;
         i += 1;
     }
+    block
+}
+
+// The digest of a block and a text after it.
+fn digest_after(block: [u8; 64], text: &[u8]) -> [u8; 32]
+    requires { ⌜ 64 + length (now text) < 2 ^ 61 ⌝ }
+    ensures { λ r. ⌜ r ≡ sha256 (block ++ now (text .entry)) ⌝ }
+{
     let s = Running::new();
     let t = s.absorb(&block);
     let u = t.absorb(text);
@@ -50,8 +57,8 @@ pub fn tag_of(key: &[u8], text: &[u8]) -> [u8; 32]
     ensures { λ r. ⌜ r ≡ hmac (now (key .entry)) (now (text .entry)) ⌝ }
 {
     let block = key_block(key);
-    let inner = keyed(block, 0x36, text);
-    keyed(block, 0x5c, &inner)
+    let inner = digest_after(mask(block, 0x36), text);
+    digest_after(mask(block, 0x5c), &inner)
 }
 
 // Writes the tag of a text into a buffer of 32 bytes. Refused with 7, the buffer as it was: a buffer of another length, or

@@ -59,6 +59,11 @@ bytes-take (suc n) (x ∷ l) h (suc i) = bytes-take n l (λ j. h (suc j)) i
 pub bytes-part : (l : List ℕ) (at n : ℕ) → Bytes l → Bytes (part l at n)
 bytes-part l at n h = bytes-take n (drop at l) (λ i. subst (λ (x : ℕ). x < 256) (sym (getD-drop at l i 0)) (h (at + i)))
 
+pub bytes-append : (a b : List ℕ) → Bytes a → Bytes b → Bytes (a ++ b)
+bytes-append [] b h k i = k i
+bytes-append (x ∷ a) b h k zero = h 0
+bytes-append (x ∷ a) b h k (suc i) = bytes-append a b (λ j. h (suc j)) k i
+
 -- splices
 
 module _ (l x : List ℕ) (at : ℕ) (fits : at + length x ≤ length l) where

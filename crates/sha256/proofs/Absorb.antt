@@ -85,6 +85,26 @@ finished-is m =
     (ap (λ (n : ℕ). absorbed (absorbed start m) (padding n) .value) (zero-add (length m))
     ∙ ap (λ (s : State). s .value) (absorbed-append start m (padding (length m))))
 
+-- for a caller: what a running digest has absorbed since `new`
+
+-- s has absorbed m and nothing else
+abbrev pub Holds : Running → List ℕ → Type 0
+Holds s m = stateOf s ≡ absorbed start m
+
+pub holds-new : (s : Running) → stateOf s ≡ start → Holds s []
+unfolding absorbed start blocks
+holds-new s h = h
+
+pub holds-more : (s t : Running) (m x : List ℕ) → Holds s m → stateOf t ≡ absorbed (stateOf s) x → Holds t (m ++ x)
+holds-more s t m x h k = k ∙ ap (λ (u : State). absorbed u x) h ∙ absorbed-append start m x
+
+pub holds-count : (s : Running) (m : List ℕ) → Holds s m → s .count ≡ length m
+unfolding stateOf absorbed start
+holds-count s m h = ap (λ (u : State). u .size) h ∙ zero-add (length m)
+
+pub holds-digest : (s : Running) (m d : List ℕ) → Holds s m → d ≡ finished (stateOf s) → d ≡ sha256 m
+holds-digest s m d h k = k ∙ ap finished h ∙ finished-is m
+
 -- a part that leaves the block unfilled
 pub short : (s : Running) (part : List ℕ) (n : ℕ) → length (s .block) ≡ 64 → length part < 64 - s .count % 64 → n ≡ s .count + length part
     → stateOf (record { chain = s .chain; block = splice (s .block) (s .count % 64) part; count = n }) ≡ absorbed (stateOf s) part

@@ -4,3 +4,4 @@ pub mod Bytes
 pub mod Choice
 pub mod Padding
 pub mod Schedule
+pub mod Sizes

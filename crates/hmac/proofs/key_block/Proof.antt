@@ -1,40 +1,49 @@
 -- `hmac::key_block` meets its contract.
-use Rattle.hmac.proofs.Keys.{filled-is, short-key, long-key}
-use Rattle.hmac.specs.Hmac.{filled}
+use Rattle.hmac.proofs.Keys.{padded-is, short-key, long-key}
+use Rattle.hmac.specs.Hmac.{padded}
 use mathlib.Core.Path.{ap, _∙_}
 use borrow.Author.Needs.{needs}
 use Rattle.hmac.proofs.key_block.Statement.{statement}
 use Rattle.hmac.proofs.key_block.Tie as tie
 
-copied-requires : tie.Need-copied-requires
-copied-requires c κs = search needs
+slice-aggregate-put : tie.Need-slice-aggregate-put
+slice-aggregate-put c = search needs
+
+put-requires : tie.Need-put-requires
+put-requires c κs = search needs
 
 returns : tie.Need-returns
 returns c =
-    let k = c .before .before .before .args .key .now in
-    c .copied .ensures ∙ filled-is k ∙ ap filled (short-key k (c .before .if1 .taken))
+    let k = c .before .before .before .before .before .args .key .now in
+    c .before .put .ensures ∙ padded-is k ∙ ap padded (short-key k (c .before .before .before .if1 .taken))
 
 digest-of-requires : tie.Need-digest-of-requires
 digest-of-requires c κs = search needs
 
-slice-aggregate-copied : tie.Need-slice-aggregate-copied
-slice-aggregate-copied c = search needs
+slice-aggregate-put-2 : tie.Need-slice-aggregate-put-2
+slice-aggregate-put-2 c = search needs
 
-copied-requires-2 : tie.Need-copied-requires-2
-copied-requires-2 c κs = search needs
+slice-aggregate-put-3 : tie.Need-slice-aggregate-put-3
+slice-aggregate-put-3 c = search needs
+
+put-requires-2 : tie.Need-put-requires-2
+put-requires-2 c κs = search needs
 
 returns-2 : tie.Need-returns-2
 returns-2 c =
-    let k = c .before .before .before .before .before .args .key .now in
-    c .copied2 .ensures ∙ filled-is (c .before .before .digest-of .result) ∙ ap filled (c .before .before .digest-of .ensures ∙ long-key k (c .before .before .before .if1 .left))
+    let k = c .before .before .before .before .before .before .before .args .key .now in
+    let d = c .before .before .before .before .digest-of in
+    c .before .put2 .ensures ∙ padded-is (d .result) ∙ ap padded (d .ensures ∙ long-key k (c .before .before .before .before .before .if1 .left))
 
 pub key-block-spec : {M : Type 1} → statement M
 key-block-spec =
     tie.close
     (tie.spec
-    copied-requires
+    slice-aggregate-put
+    put-requires
     returns
     digest-of-requires
-    slice-aggregate-copied
-    copied-requires-2
+    slice-aggregate-put-2
+    slice-aggregate-put-3
+    put-requires-2
     returns-2)

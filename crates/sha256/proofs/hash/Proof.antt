@@ -1,38 +1,42 @@
+-- `sha256::hash` meets its contract.
+use mathlib.Core.Path.{sym, ap, _∙_}
+use Rattle.octets.specs.Octets.{splice}
+use Rattle.octets.proofs.Parts.{splice-whole}
+use Rattle.refusal.proofs.OrderLaws.{refused-is, done-is}
+use Rattle.sha256.specs.Sha256.{sha256}
+use Rattle.sha256.proofs.Sizes.{length-sha256}
+use Rattle.sha256.proofs.HashCases.{other-length, too-long, accepted}
 use borrow.Author.Needs.{needs}
 use Rattle.sha256.proofs.hash.Statement.{statement}
 use Rattle.sha256.proofs.hash.Tie as tie
-use Rattle.sha256.proofs.hash.Reads as reads
-use Rattle.sha256.proofs.hash.Lts as lts
-use Rattle.octets.proofs.put.Reads as put-reads
-use Rattle.sha256.proofs.digest_of.Reads as digest-of-reads
 
--- src/lib.rt:144:9
 returns : tie.Need-returns
-returns c = ?
+returns c =
+    let x = c .before .before .before .args in
+    refused-is 7 _ (x .out .now) (other-length (x .message .now) (x .out .now) (c .if1 .taken))
 
--- src/lib.rt:147:9
 returns-2 : tie.Need-returns-2
-returns-2 c = ?
+returns-2 c =
+    let x = c .before .before .before .before .args in
+    refused-is 7 _ (x .out .now) (too-long (x .message .now) (x .out .now) (c .before .if1 .left) (c .if2 .taken))
 
--- src/lib.rt:149:13
 digest-of-requires : tie.Need-digest-of-requires
 digest-of-requires c κs = search needs
 
--- src/lib.rt:150:17
 slice-aggregate-put : tie.Need-slice-aggregate-put
 slice-aggregate-put c = search needs
 
--- src/lib.rt:150:5
 put-requires : tie.Need-put-requires
 put-requires c κs = search needs
 
--- src/lib.rt:139:1
 same-length : tie.Need-same-length
 same-length c = search needs
 
--- src/lib.rt:139:1
 returns-3 : tie.Need-returns-3
-returns-3 c = ?
+returns-3 c =
+    let x = c .before .before .before .before .before .before .before .before .before .before .args in
+    let d = done-is (sha256 (x .message .now)) (x .out .now) (accepted (x .message .now) (x .out .now) (c .before .before .before .before .before .before .before .if1 .left) (c .before .before .before .before .before .before .if2 .left)) in
+    (d .0, c .before .before .put .ensures ∙ ap (splice (x .out .now) 0) (c .before .before .before .before .before .digest-of .ensures) ∙ splice-whole (x .out .now) (sha256 (x .message .now)) (length-sha256 (x .message .now) ∙ sym (c .before .before .before .before .before .before .before .if1 .left)) ∙ d .1)
 
 pub hash-spec : {M : Type 1} → statement M
 hash-spec =

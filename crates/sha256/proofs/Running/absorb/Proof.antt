@@ -1,109 +1,110 @@
+-- `sha256::Running::absorb` meets its contract: the part leaves the block unfilled (`short`), or fills it (`long`).
+use lib.ListN.{length-map, length, take, drop, length-take}
+use Rattle.sha256.proofs.Absorb.{room, more, short, long}
+use Rattle.sha256.specs.declared.Running.{Running}
+use Rattle.sha256.specs.Running.{stateOf}
+use Rattle.sha256.specs.Sha256.{compress, blocks}
+use Rattle.octets.specs.Octets.{splice}
+use native.Mathlib.Omega.{arith}
+use mathlib.Core.List.{List}
+use mathlib.Core.Path.{_≡_, refl, ap, _∙_}
+use Prim.Native.Nat.{ℕ, _+_, _-_, _*_}
 use borrow.Author.Needs.{needs}
 use Rattle.sha256.proofs.Running.absorb.Statement.{statement}
 use Rattle.sha256.proofs.Running.absorb.Tie as tie
-use Rattle.sha256.proofs.Running.absorb.Reads as reads
-use Rattle.sha256.proofs.Running.absorb.Lts as lts
-use Rattle.octets.proofs.put.Reads as put-reads
-use Rattle.sha256.proofs.block.compress.Reads as compress-reads
-use Rattle.sha256.proofs.block.compress_blocks.Reads as compress-blocks-reads
-use Rattle.sha256.proofs.block.constants.Reads as constants-reads
-use Rattle.sha256.proofs.wide.Reads as wide-reads
 
--- src/lib.rt:61:20
 sub-room : tie.Need-sub-room
 sub-room c = search needs
 
--- src/lib.rt:63:34
 wide-requires : tie.Need-wide-requires
 wide-requires c κs = search needs
 
--- src/lib.rt:63:21
 add-count : tie.Need-add-count
 add-count c = search needs
 
--- src/lib.rt:67:17
 slice-aggregate-put : tie.Need-slice-aggregate-put
 slice-aggregate-put c = search needs
 
--- src/lib.rt:67:13
 put-requires : tie.Need-put-requires
-put-requires c κs = ?
+put-requires c κs =
+    let size : length (c .before .before .before .before .before .before .before .before .args .self .block) ≡ 64 = simp length-map at (c .before .before .before .before .before .before .before .before .good .0 .1 .1 .1 .0 .1 .0 .1) in
+    omega arith
 
--- src/lib.rt:68:13
 returns : tie.Need-returns
-returns c = ?
+returns c =
+    let x = c .before .before .before .before .before .before .before .before .before .before in
+    let s : Running = x .args .self in
+    let size : length (s .block) ≡ 64 = simp length-map at (x .good .0 .1 .1 .1 .0 .1 .0 .1) in
+    let n : ℕ = s .count + c .before .before .before .before .before .before .before .wide .result in
+    ap (λ (b : List ℕ). stateOf (record { chain = s .chain; block = b; count = n })) (c .before .put .ensures)
+    ∙ short s (x .args .part .now) n size (omega arith) (omega arith)
 
--- src/lib.rt:74:17
 constants-requires : tie.Need-constants-requires
 constants-requires c κs = search needs
 
--- src/lib.rt:75:13
 slice-aggregate-put-2 : tie.Need-slice-aggregate-put-2
 slice-aggregate-put-2 c = search needs
 
--- src/lib.rt:75:31
 slice-aggregate-put-3 : tie.Need-slice-aggregate-put-3
-slice-aggregate-put-3 c = ?
+slice-aggregate-put-3 c = simp length-take (omega arith)
 
--- src/lib.rt:75:9
 put-requires-2 : tie.Need-put-requires-2
-put-requires-2 c κs = ?
+put-requires-2 c κs =
+    let size : length (c .before .before .before .before .before .before .before .before .before .before .args .self .block) ≡ 64 = simp length-map at (c .before .before .before .before .before .before .before .before .before .before .good .0 .1 .1 .1 .0 .1 .0 .1) in
+    simp length-take (omega arith)
 
--- src/lib.rt:76:37
 slice-aggregate-compress : tie.Need-slice-aggregate-compress
 slice-aggregate-compress c = search needs
 
--- src/lib.rt:76:13
 compress-requires : tie.Need-compress-requires
 compress-requires c κs = search needs
 
--- src/lib.rt:78:43
 sub-compress-blocks : tie.Need-sub-compress-blocks
 sub-compress-blocks c = search needs
 
--- src/lib.rt:78:43
 part-compress-blocks-start : tie.Need-part-compress-blocks-start
 part-compress-blocks-start c = search needs
 
--- src/lib.rt:78:43
 part-compress-blocks-end : tie.Need-part-compress-blocks-end
 part-compress-blocks-end c = search needs
 
--- src/lib.rt:78:13
 compress-blocks-requires : tie.Need-compress-blocks-requires
 compress-blocks-requires c κs = search needs
 
--- src/lib.rt:79:25
 mul-at : tie.Need-mul-at
 mul-at c = search needs
 
--- src/lib.rt:79:18
 add-at : tie.Need-add-at
 add-at c = search needs
 
--- src/lib.rt:80:13
 slice-aggregate-put-4 : tie.Need-slice-aggregate-put-4
 slice-aggregate-put-4 c = search needs
 
--- src/lib.rt:80:28
 sub-put : tie.Need-sub-put
 sub-put c = search needs
 
--- src/lib.rt:80:28
 part-put-start : tie.Need-part-put-start
 part-put-start c = search needs
 
--- src/lib.rt:80:28
 part-put-end : tie.Need-part-put-end
 part-put-end c = search needs
 
--- src/lib.rt:80:9
 put-requires-3 : tie.Need-put-requires-3
 put-requires-3 c κs = search needs
 
--- src/lib.rt:56:5
 returns-2 : tie.Need-returns-2
-returns-2 c = ?
+returns-2 c =
+    let x = c .before .before .before .before .before .before .before .before .before .before .before .before .before .before .before .before .before .before .before .before .before .before in
+    let s : Running = x .args .self in
+    let p : List ℕ = x .args .part .now in
+    let size : length (s .block) ≡ 64 = simp length-map at (x .good .0 .1 .1 .1 .0 .1 .0 .1) in
+    let f = c .before .before .before .before .before .before .before .before .before .before .before .put2 .ensures in
+    long s p size (omega (arith, c .before .before .before .before .before .before .before .before .before .before .before .before .before .before .before .if1 .left)) (s .count + c .before .before .before .before .before .before .before .before .before .before .before .before .before .before .before .before .before .before .before .wide .result) (room s + more s p * 64)
+    (c .before .before .before .before .compress-blocks .ensures
+    ∙ ap (λ (h : List ℕ). blocks (more s p) h (take (length p - room s) (drop (room s) p))) (c .before .before .before .before .before .before .before .compress .ensures ∙ ap (compress (s .chain)) f))
+    (c .before .put3 .ensures ∙ ap (λ (h : List ℕ). splice h 0 (take (length p - (room s + more s p * 64)) (drop (room s + more s p * 64) p))) f)
+    refl
+    (omega (arith, c .before .before .before .before .before .before .before .before .before .before .before .before .before .before .before .before .before .before .before .wide .ensures))
 
 pub absorb-spec : {M : Type 1} → statement M
 absorb-spec =
