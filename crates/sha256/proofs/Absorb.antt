@@ -9,7 +9,7 @@ use mathlib.Core.List.{List, [], _∷_, _++_, append-assoc, append-nil}
 use lib.ListN.{length, take, drop, length-append, length-take, length-drop, drop-of-length-le}
 use lib.Seq.{take-at, take-all, take-append-le, drop-append-le, take-append-add, drop-append-add, drop-drop, length-take-le}
 use Rattle.octets.specs.Octets.{splice}
-use Rattle.octets.proofs.Parts.{splice-left}
+use Rattle.octets.proofs.Parts.{splice-nested}
 use Rattle.sha256.specs.Sha256.{H0, compress, blocks, padding, pad, bytes, blockCount, sha256}
 use Rattle.sha256.specs.Running.{State, stateOf, start, absorbed, finished}
 use Rattle.sha256.specs.declared.Running.{Running}
@@ -118,7 +118,7 @@ short s part n size k e =
     let q : n % 64 ≡ f + length part = omega arith in
     state-eq
     (ap (λ (i : ℕ). blocks i (s .chain) (r ++ part)) (sym none))
-    (ap (λ (i : ℕ). take i (splice (s .block) f part)) q ∙ ap (take (f + length part)) (splice-left (s .block) f part) ∙ take-at (r ++ part) (drop (f + length part) (s .block)) (f + length part) lj ∙ ap (λ (i : ℕ). drop (i * 64) (r ++ part)) (sym none))
+    (ap (λ (i : ℕ). take i (splice (s .block) f part)) q ∙ ap (take (f + length part)) (splice-nested (s .block) f part) ∙ take-at (r ++ part) (drop (f + length part) (s .block)) (f + length part) lj ∙ ap (λ (i : ℕ). drop (i * 64) (r ++ part)) (sym none))
     e
 
 -- a part that fills the block, with the blocks after that
@@ -146,7 +146,7 @@ module _ (s : Running) (part : List ℕ) (size : length (s .block) ≡ 64) (k : 
   full-is =
       let e : s .count % 64 + length (take (room s) part) ≡ 64 = rw (length-take-le (room s) part k) (omega arith) in
       let out : drop 64 (s .block) ≡ [] = drop-of-length-le (s .block) {i = 64} (omega arith) in
-      splice-left (s .block) (s .count % 64) (take (room s) part)
+      splice-nested (s .block) (s .count % 64) (take (room s) part)
       ∙ ap (λ (l : List ℕ). rest s ++ take (room s) part ++ l) (ap (λ (n : ℕ). drop n (s .block)) e ∙ out)
       ∙ append-nil (rest s ++ take (room s) part)
       ∙ sym (take-append-add (rest s) part (room s))

@@ -8,7 +8,7 @@ use lib.ListN.{length, getD, take, drop, length-append}
 use lib.Seq.{take-at, drop-at, drop-drop, take-suc, length-take-le}
 use Rattle.bigendian.specs.BigEndian.{be}
 use Rattle.octets.specs.Octets.{splice}
-use Rattle.octets.proofs.Parts.{splice-left}
+use Rattle.octets.proofs.Parts.{splice-nested}
 use Rattle.bigendian.proofs.Laws.{length-be}
 use Rattle.sha256.specs.Sha256.{bytes}
 
@@ -16,7 +16,7 @@ use Rattle.sha256.specs.Sha256.{bytes}
 pub splice-seam : (p q vs : List ℕ) (n : ℕ) → length p ≡ n → splice (p ++ q) n vs ≡ p ++ vs ++ drop (length vs) q
 unfolding splice
 splice-seam p q vs n e =
-    splice-left (p ++ q) n vs
+    splice-nested (p ++ q) n vs
     ∙ ap₂ (λ (a b : List ℕ). a ++ vs ++ b) (take-at p q n e)
     (sym (drop-drop (length vs) n (p ++ q)) ∙ ap (drop (length vs)) (drop-at p q n e))
 

@@ -10,7 +10,7 @@ use lib.ListN.{length, take, drop, replicate, length-append, length-replicate}
 use lib.Seq.{take-at}
 use Rattle.bigendian.specs.BigEndian.{be}
 use Rattle.octets.specs.Octets.{splice}
-use Rattle.octets.proofs.Parts.{splice-left}
+use Rattle.octets.proofs.Parts.{splice-nested}
 use Rattle.bigendian.proofs.Laws.{length-be}
 use Rattle.sha256.specs.Sha256.{padding, pad, blockCount}
 use Rattle.sha256.specs.Running.{paddedWith}
@@ -25,7 +25,7 @@ unfolding paddedWith
 padded-is z bits h =
     let head : take {A = ℕ} (z + 1) (128 ∷ replicate 71 0) ≡ 128 ∷ replicate z 0 = rw add-one (ap (λ (t : List ℕ). 128 ∷ t) (take-replicate z 71 0 (omega arith))) in
     let size : length (128 ∷ replicate z 0 ++ be 8 bits) ≡ z + 9 = simp (length-append, length-replicate) (omega (arith, length-be 8 bits)) in
-    ap (take (z + 9)) (splice-left (128 ∷ replicate 71 0) (z + 1) (be 8 bits))
+    ap (take (z + 9)) (splice-nested (128 ∷ replicate 71 0) (z + 1) (be 8 bits))
     ∙ rw head (take-at (128 ∷ replicate z 0 ++ be 8 bits) _ (z + 9) size)
 
 pub length-padded : (z bits : ℕ) → z < 64 → length (take (z + 9) (paddedWith z bits)) ≡ z + 9
