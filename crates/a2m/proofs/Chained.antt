@@ -14,7 +14,8 @@ use Rattle.table.specs.Free.{freeChain, joint}
 use Rattle.table.specs.WholeImage.{wholeImage}
 use Rattle.a2m.specs.ImageCalls.{rowIn, entriesIn, heldSlot, put, release}
 use Rattle.a2m.proofs.Lists.{lastOf-snoc}
-use Rattle.a2m.proofs.Links.{Links, Holds, chain-links, links-head}
+use Rattle.table.specs.Conditions.{Links}
+use Rattle.a2m.proofs.Links.{Holds, chain-links, links-head}
 use Rattle.a2m.proofs.Moves.{Move, move-from, move-to}
 use Rattle.a2m.proofs.WholeChains.{log-chain, free-links}
 

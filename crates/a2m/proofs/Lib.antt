@@ -7,6 +7,5 @@ pub mod Lists
 pub mod Moves
 pub mod Releases
 pub mod Unchanged
-pub mod WholeBytes
 pub mod WholeChains
 pub mod Written

@@ -11,11 +11,11 @@ use Rattle.layout.specs.Image.{Image}
 use Rattle.layout.specs.Layout.{readTable, writeTable}
 use Rattle.layout.proofs.TableLaws.{write-read}
 use Rattle.table.specs.Whole.{whole}
+use Rattle.table.proofs.WholeLaws.{whole-formed}
 use Rattle.a2m.specs.Call.{Call, append, advance, truncate, lookup, end, refused}
 use Rattle.a2m.specs.ImageCalls.{imageDone, imageAccept}
 use Rattle.a2m.specs.TableCalls.{tableRefusal, tableStep}
 use Rattle.a2m.proofs.Clear.{clear}
-use Rattle.a2m.proofs.WholeBytes.{whole-formed}
 
 accept-not : (m : Image) (call : Call) (k : ℕ) → imageAccept m call .reply ≡ refused k → ⊥
 unfolding imageAccept imageDone

@@ -18,7 +18,8 @@ use Rattle.layout.specs.Image.{Entry, Slot, Image, entryOf, blankEntry, slotAt,
 use Rattle.table.specs.Chains.{chain, lastOf, positionsOf, entriesOf}
 use Rattle.table.specs.WholeImage.{all, blank, freeOk, fresh, started, rowOk, rowsOk, heldBy, meets, wholeImage}
 use Rattle.a2m.proofs.Lists.{lastOf-nil}
-use Rattle.a2m.proofs.Links.{Links, chain-links, reaches-links}
+use Rattle.table.specs.Conditions.{Links}
+use Rattle.a2m.proofs.Links.{chain-links, reaches-links}
 use Rattle.model.specs.Log.{Log}
 use Rattle.model.specs.Model.{Model, logAt, total}
 use Rattle.model.proofs.Represents.{Rep, RowRep, LogOk, Sound}
