@@ -1,17 +1,17 @@
 -- The image after an accepted call fits its bytes, if the one before did and the call's numbers have their widths.
-use Prim.Native.Nat.{ℕ, zero, suc, _+_, _-_, _^_, _≤_, _<_}
-use mathlib.Core.Path.{_≡_, refl, ap}
+use Prim.Native.Nat.{ℕ, zero, suc, _+_, _-_, _^_, _<_}
+use mathlib.Core.Path.{_≡_, refl}
 use mathlib.Core.Logic.{_≢_}
 use mathlib.Core.List.{List}
-use mathlib.Core.Bool.{Bool, true, false, cond, not, _||_}
+use mathlib.Core.Bool.{Bool, true, false, cond, not}
 use mathlib.Core.Option.{Option, none, some}
 use native.Mathlib.Omega.{arith}
-use lib.ListN.{length, getD, set, length-set}
+use lib.ListN.{length, getD, length-set}
 use lib.Dec.{eqb, leb}
 use borrow.Author.Tests.{eqb-true, eqb-false, leb-false, not-false}
 use Rattle.octets.proofs.Tests.{or-none}
 use Rattle.layout.specs.declared.Row.{Row}
-use Rattle.layout.specs.Image.{Entry, Slot, Image, freeSlot, freshRow, slotAt, setSlot, rowAt}
+use Rattle.layout.specs.Image.{Entry, Slot, Image, freeSlot, freshRow, slotAt, setSlot}
 use Rattle.layout.specs.Changes.{withNext, advancedRow, truncatedRow}
 use Rattle.layout.specs.Fits.{RowFits, SlotFits, Fits}
 use Rattle.layout.proofs.ListLaws.{every-set}

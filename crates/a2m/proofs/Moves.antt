@@ -7,7 +7,7 @@ use mathlib.Core.Bool.{Bool, true, false, cond}
 use native.Mathlib.Omega.{arith}
 use lib.ListN.{length}
 use lib.Dec.{eqb}
-use borrow.Author.Tests.{eqb-false, eq-eqb, ne-eqb}
+use borrow.Author.Tests.{eq-eqb, ne-eqb}
 use Rattle.layout.specs.Image.{Entry, Slot, entryOf, slotAt, setSlot}
 use Rattle.layout.specs.Changes.{withNext}
 use Rattle.table.specs.Chains.{lastOf, entriesOf}

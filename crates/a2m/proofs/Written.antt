@@ -4,7 +4,7 @@ use mathlib.Core.Path.{_≡_, refl}
 use mathlib.Core.Option.{Option, none, some}
 use lib.ListN.{length}
 use Rattle.layout.specs.Image.{Image}
-use Rattle.layout.specs.Layout.{readTable, writeTable}
+use Rattle.layout.specs.Layout.{writeTable}
 use Rattle.layout.specs.Fits.{Fits}
 use Rattle.layout.proofs.TableLaws.{read-write}
 use Rattle.table.specs.Conditions.{Range}

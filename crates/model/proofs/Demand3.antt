@@ -1,10 +1,10 @@
 -- Demand 3, its part on lists of calls, whole: for every accepted format and every list of calls on the table that it wrote, each call getting the table
 -- as the last one left it.
 use Prim.Native.Nat.{ℕ, _^_, _<_}
-use mathlib.Core.Path.{_≡_, refl, sym, ap, _∙_}
+use mathlib.Core.Path.{_≡_}
 use mathlib.Core.List.{List}
-use mathlib.Core.Bool.{true, false, not, _&&_}
-use mathlib.Core.Option.{none, Option·some-ne-none}
+use mathlib.Core.Bool.{true, not, _&&_}
+use mathlib.Core.Option.{none}
 use lib.ListN.{length, length-replicate}
 use lib.Dec.{eqb}
 use borrow.Author.Tests.{eqb-true, not-false}

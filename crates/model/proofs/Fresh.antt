@@ -7,16 +7,16 @@ use lib.ListN.{length, getD, replicate, length-replicate}
 use lib.Seq.{ext-getD}
 use Rattle.layout.specs.declared.Row.{Row}
 use Rattle.layout.specs.Lists.{tabulate}
-use Rattle.layout.specs.Image.{Image, freshRow, rowAt}
+use Rattle.layout.specs.Image.{freshRow}
 use Rattle.layout.proofs.ListLaws.{length-tabulate}
-use Rattle.table.specs.Chains.{chain, entriesOf}
+use Rattle.table.specs.Chains.{entriesOf}
 use Rattle.table.specs.Format.{formatted}
 use Rattle.table.proofs.FillLaws.{length-queue}
 use Rattle.table.proofs.FormattedLaws.{formatted-image}
 use Rattle.table.proofs.WalkLaws.{chain-none}
 use Rattle.a2m.specs.ImageCalls.{rowIn, entriesIn}
-use Rattle.model.specs.Log.{Log, freshLog, lastEntry}
-use Rattle.model.specs.Model.{Model, logAt, newModel}
+use Rattle.model.specs.Log.{freshLog, lastEntry}
+use Rattle.model.specs.Model.{Model, newModel}
 use Rattle.model.specs.ModelOf.{logIn, modelOf}
 use Rattle.model.proofs.Represents.{Rep, LogOk, Sound}
 use Rattle.model.proofs.OfWhole.{log-in, model-says}

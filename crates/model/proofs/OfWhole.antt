@@ -1,27 +1,27 @@
 -- A whole image says one sound model, `modelOf`: a call on it answers as that model, and leaves a whole image.
-use Prim.Native.Nat.{ℕ, zero, suc, _+_, _≤_, _<_}
-use mathlib.Core.Path.{_≡_, refl, sym, ap, ap₂, _∙_}
-use mathlib.Core.List.{List, [], _∷_, _++_}
-use mathlib.Core.Bool.{Bool, true, false, _&&_, cond, not}
+use Prim.Native.Nat.{ℕ, suc, _≤_, _<_}
+use mathlib.Core.Path.{_≡_, refl, sym, ap, _∙_}
+use mathlib.Core.List.{List, []}
+use mathlib.Core.Bool.{Bool, true, false}
 use native.Mathlib.Omega.{arith}
 use native.Mathlib.Nat.{zero-add}
-use lib.ListN.{length, getD, length-append, length-map, replicate, List·getD-eq-default}
+use lib.ListN.{length, length-append, length-map, List·getD-eq-default}
 use lib.Seq.{ext-getD}
 use lib.Dec.{ltb}
 use borrow.Author.Tests.{ltb-true, ltb-false}
 use Rattle.octets.specs.Octets.{Bytes}
 use Rattle.layout.specs.declared.Row.{Row}
 use Rattle.layout.specs.Lists.{tabulate}
-use Rattle.layout.specs.Image.{Entry, Slot, Image, entryOf, slotAt, freshRow, rowAt}
-use Rattle.layout.specs.Layout.{readTable, writeTable}
+use Rattle.layout.specs.Image.{Image, entryOf, slotAt, freshRow}
+use Rattle.layout.specs.Layout.{readTable}
 use Rattle.layout.proofs.ListLaws.{length-tabulate, getD-tabulate}
 use Rattle.layout.proofs.TableLaws.{length-rows, length-slots, write-read, fits-read, read-write}
-use Rattle.table.specs.Chains.{chain, lastOf, positionsOf, entriesOf}
+use Rattle.table.specs.Chains.{chain, lastOf, entriesOf}
 use Rattle.table.specs.Free.{freeChain}
 use Rattle.table.specs.Conditions.{Range}
 use Rattle.table.specs.Whole.{whole}
 use Rattle.table.proofs.WholeLaws.{whole-formed, whole-range, whole-image}
-use Rattle.table.specs.WholeImage.{risingFrom, heldBy, meets, wholeImage}
+use Rattle.table.specs.WholeImage.{heldBy, meets, wholeImage}
 use Rattle.a2m.specs.Call.{Call, Wide, Outcome, outcome}
 use Rattle.a2m.specs.ImageCalls.{rowIn, entriesIn, imageStep}
 use Rattle.a2m.specs.TableCalls.{written, tableStep}

@@ -1,9 +1,9 @@
 -- Demand 3 on bytes: along every list of calls the table's bytes are those of the image, so what holds of images holds of them.
 use Prim.Native.Nat.{ℕ, _^_, _<_}
-use mathlib.Core.Path.{_≡_, refl, sym, ap, ap₂, _∙_}
+use mathlib.Core.Path.{_≡_, refl, ap, _∙_}
 use mathlib.Core.List.{List, [], _∷_}
 use mathlib.Core.Bool.{true}
-use lib.ListN.{length, length-replicate}
+use lib.ListN.{length}
 use Rattle.layout.specs.Image.{Image}
 use Rattle.layout.specs.Layout.{readTable, writeTable}
 use Rattle.layout.specs.Fits.{Fits}
@@ -16,7 +16,6 @@ use Rattle.a2m.specs.ImageCalls.{imageStep}
 use Rattle.a2m.specs.TableCalls.{tableStep}
 use Rattle.a2m.proofs.FitsAfter.{step-fits}
 use Rattle.a2m.proofs.Written.{step-written}
-use Rattle.model.specs.Log.{freshLog}
 use Rattle.model.specs.Model.{rules01, Model, newModel, modelStep}
 use Rattle.model.specs.Claim.{ListClaim}
 use Rattle.model.proofs.Represents.{Rep, Sound}
