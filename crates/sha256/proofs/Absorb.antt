@@ -85,6 +85,11 @@ finished-is m =
     (ap (λ (n : ℕ). absorbed (absorbed start m) (padding n) .value) (zero-add (length m))
     ∙ ap (λ (s : State). s .value) (absorbed-append start m (padding (length m))))
 
+-- for a caller: a part counts its bytes
+pub absorb-counts : (s t : Running) (x : List ℕ) → stateOf t ≡ absorbed (stateOf s) x → t .count ≡ s .count + length x
+unfolding stateOf absorbed
+absorb-counts s t x h = ap (λ (u : State). u .size) h
+
 -- for a caller: what a running digest has absorbed since `new`
 
 -- s has absorbed m and nothing else

@@ -2,7 +2,7 @@
 --
 use mathlib.Core.Path.{_≡_, refl, sym, ap, ap₂, _∙_, subst}
 use Prim.Native.Nat.{ℕ, zero, suc, _+_, _-_, _*_, _≤_, _<_}
-use native.Mathlib.Nat.{add-zero, add-suc, add-assoc}
+use native.Mathlib.Nat.{add-zero, zero-add, add-suc, add-assoc}
 use native.Mathlib.Numerals.{add-one}
 use native.Mathlib.Omega.{arith}
 use mathlib.Core.List.{List, [], _∷_, _++_}
@@ -11,7 +11,7 @@ use lib.Seq.{getD-at, take-all, take-append-le}
 use Rattle.octets.proofs.Parts.{run, part-run}
 use Rattle.sha256.specs.Words.{_⊞_, σ0, σ1}
 use Rattle.sha256.specs.Sha256.{K, words, next, schedule, round, rounds}
-use Rattle.sha256.specs.Window.{slid, turned, eightTurned, windows, eightRounds, lastRounds}
+use Rattle.sha256.specs.Window.{slid, turned, turns, lastRounds}
 use Rattle.sha256.specs.declared.block.Window.{Window}
 
 pub length-words : (t : ℕ) (b : List ℕ) → length (words t b) ≡ t
@@ -88,34 +88,42 @@ module _ (m : List ℕ) (sixteen : length m ≡ 16) where
     unfolding at turned slid rounds sucs mix
     step t k = ap₂ window refl (rw (rule-suc t k) refl) ∙ ap at (sym (add-one t))
 
-    step-from : (t i : ℕ) → t + i < 48 → turned (at (t + i)) (getD K (t + i) 0) ≡ at (t + (i + 1))
-    step-from t i k = step (t + i) k ∙ ap at (add-assoc t i 1)
+    turns-are : (n : ℕ) → n ≤ 48 → turns n (at 0) 0 ≡ at n
+    unfolding turns
+    turns-are zero k = refl
+    turns-are (suc n) k =
+        ap₂ turned (turns-are n (omega arith)) (ap (λ (i : ℕ). getD K i 0) (zero-add n)) ∙ step n (omega arith) ∙ ap at (add-one n)
 
-    eight : (t : ℕ) → t + 8 ≤ 48 → eightTurned (at t) t ≡ at (t + 8)
-    unfolding eightTurned
-    eight t k =
-        rw (
-          step t (omega arith),
-          step-from t 1 (omega arith),
-          step-from t 2 (omega arith),
-          step-from t 3 (omega arith),
-          step-from t 4 (omega arith),
-          step-from t 5 (omega arith),
-          step-from t 6 (omega arith),
-          step-from t 7 (omega arith),
-        )
+    start : window h m ≡ at 0
+    unfolding at rounds
+    start = ap (window h) (sym first)
 
-    window-is : (n : ℕ) → n ≤ 6 → windows n h m ≡ at (n * 8)
-    unfolding windows at rounds
-    window-is zero k = ap (window h) (sym first)
-    window-is (suc n) k =
-        ap (λ (s : Window). eightTurned s (n * 8)) (window-is n (omega arith)) ∙ eight (n * 8) (omega arith) ∙ ap at (omega arith)
-
-    last : lastRounds 2 (rounds 48 h W) (run 16 48 W) ≡ rounds 64 h W
-    unfolding lastRounds eightRounds rounds
+    last : lastRounds 16 (rounds 48 h W) (run 16 48 W) 0 ≡ rounds 64 h W
+    unfolding lastRounds rounds
     last = refl
 
     -- the rounds that the program computes are those of the standard
-    pub all-rounds : lastRounds 2 (windows 6 h m .v) (windows 6 h m .w) ≡ rounds 64 h (schedule 48 m)
+    pub all-rounds : lastRounds 16 (turns 48 (record { v = h; w = m }) 0 .v) (turns 48 (record { v = h; w = m }) 0 .w) 0 ≡ rounds 64 h (schedule 48 m)
     unfolding W at
-    all-rounds = ap (λ (s : Window). lastRounds 2 (s .v) (s .w)) (window-is 6 (omega arith)) ∙ last
+    all-rounds = ap (λ (s : Window). lastRounds 16 (s .v) (s .w) 0) (ap (λ (s : Window). turns 48 s 0) start ∙ turns-are 48 (omega arith)) ∙ last
+
+-- unrolling by doubling: n turns after m are m + n, and so of the last rounds
+
+turns-more : (m n : ℕ) (s : Window) (t : ℕ) → turns n (turns m s t) (t + m) ≡ turns (m + n) s t
+unfolding turns
+turns-more m zero s t = ap (λ (k : ℕ). turns k s t) (sym (add-zero m))
+turns-more m (suc n) s t =
+    ap₂ turned (turns-more m n s t) (ap (λ (i : ℕ). getD K i 0) (add-assoc t m n)) ∙ ap (λ (k : ℕ). turns k s t) (sym (add-suc m n))
+
+pub turns-join : (m n : ℕ) {q r : Window} (s : Window) (t : ℕ) → q ≡ turns m s t → r ≡ turns n q (t + m) → r ≡ turns (m + n) s t
+turns-join m n s t p e = e ∙ ap (λ (u : Window). turns n u (t + m)) p ∙ turns-more m n s t
+
+rounds-more : (m n : ℕ) (v w : List ℕ) (t : ℕ) → lastRounds n (lastRounds m v w t) w (t + m) ≡ lastRounds (m + n) v w t
+unfolding lastRounds
+rounds-more m zero v w t = ap (λ (k : ℕ). lastRounds k v w t) (sym (add-zero m))
+rounds-more m (suc n) v w t =
+    ap₂ (λ (u : List ℕ) (i : ℕ). round u (getD K (48 + i) 0) (getD w i 0)) (rounds-more m n v w t) (add-assoc t m n)
+    ∙ ap (λ (k : ℕ). lastRounds k v w t) (sym (add-suc m n))
+
+pub rounds-join : (m n : ℕ) {q r : List ℕ} (v w : List ℕ) (t : ℕ) → q ≡ lastRounds m v w t → r ≡ lastRounds n q w (t + m) → r ≡ lastRounds (m + n) v w t
+rounds-join m n v w t p e = e ∙ ap (λ (u : List ℕ). lastRounds n u w (t + m)) p ∙ rounds-more m n v w t

@@ -18,28 +18,12 @@ slid w =
 unfoldable pub turned : Window → ℕ → Window
 turned s k = record { v = round (s .v) k (getD (s .w) 0 0); w = slid (s .w) }
 
--- eight turns, the first with the constant at t
-unfoldable pub eightTurned : Window → ℕ → Window
-eightTurned s t =
-    turned (turned (turned (turned (turned (turned (turned (turned s
-    (getD K t 0)) (getD K (t + 1) 0)) (getD K (t + 2) 0)) (getD K (t + 3) 0))
-    (getD K (t + 4) 0)) (getD K (t + 5) 0)) (getD K (t + 6) 0)) (getD K (t + 7) 0)
+-- n turns, the first with the constant at t
+unfoldable pub turns : ℕ → Window → ℕ → Window
+turns zero s t = s
+turns (suc n) s t = turned (turns n s t) (getD K (t + n) 0)
 
--- n times eight turns, from the hash value h and the words m of a block
-unfoldable pub windows : ℕ → List ℕ → List ℕ → Window
-windows zero h m = record { v = h; w = m }
-windows (suc n) h m = eightTurned (windows n h m) (n * 8)
-
--- eight rounds with the words of w from t on and the constants from 48 + t on
-unfoldable pub eightRounds : List ℕ → List ℕ → ℕ → List ℕ
-eightRounds v w t =
-    round (round (round (round (round (round (round (round v
-    (getD K (48 + t) 0) (getD w t 0)) (getD K (48 + t + 1) 0) (getD w (t + 1) 0))
-    (getD K (48 + t + 2) 0) (getD w (t + 2) 0)) (getD K (48 + t + 3) 0) (getD w (t + 3) 0))
-    (getD K (48 + t + 4) 0) (getD w (t + 4) 0)) (getD K (48 + t + 5) 0) (getD w (t + 5) 0))
-    (getD K (48 + t + 6) 0) (getD w (t + 6) 0)) (getD K (48 + t + 7) 0) (getD w (t + 7) 0)
-
--- n times eight of the last rounds
-unfoldable pub lastRounds : ℕ → List ℕ → List ℕ → List ℕ
-lastRounds zero v w = v
-lastRounds (suc n) v w = eightRounds (lastRounds n v w) w (n * 8)
+-- n rounds with the words of w from t on and the constants from 48 + t on
+unfoldable pub lastRounds : ℕ → List ℕ → List ℕ → ℕ → List ℕ
+lastRounds zero v w t = v
+lastRounds (suc n) v w t = round (lastRounds n v w t) (getD K (48 + (t + n)) 0) (getD w (t + n) 0)

@@ -1,0 +1,39 @@
+-- `vectors::digest_after` is safe.
+use Rattle.sha256.proofs.Absorb.{holds-new, holds-count, absorb-counts}
+use native.Mathlib.Omega.{arith}
+use borrow.Author.Needs.{needs}
+use Rattle.vectors.proofs.digest_after.Statement.{statement}
+use Rattle.vectors.proofs.digest_after.Tie as tie
+
+returns : tie.Need-returns
+returns c = search needs
+
+new-requires : tie.Need-new-requires
+new-requires c κs = search needs
+
+slice-aggregate-fed : tie.Need-slice-aggregate-fed
+slice-aggregate-fed c = search needs
+
+fed-requires : tie.Need-fed-requires
+fed-requires c κs = omega (arith, holds-count _ _ (holds-new _ (c .before .new .ensures)), c .before .before .before .before .good .0 .1 .0 .1)
+
+fed-requires-2 : tie.Need-fed-requires-2
+fed-requires-2 c κs = omega (arith, holds-count _ _ (holds-new _ (c .before .before .new .ensures)), absorb-counts _ _ _ (c .fed .ensures), c .before .before .before .before .before .good .0 .1 .0 .1)
+
+finish-requires : tie.Need-finish-requires
+finish-requires c κs = omega (arith, holds-count _ _ (holds-new _ (c .before .before .before .new .ensures)), absorb-counts _ _ _ (c .before .fed .ensures), absorb-counts _ _ _ (c .fed2 .ensures), c .before .before .before .before .before .before .good .0 .1 .0 .1)
+
+returns-2 : tie.Need-returns-2
+returns-2 c = search needs
+
+pub digest-after-spec : {M : Type 1} → statement M
+digest-after-spec =
+    tie.close
+    (tie.spec
+    returns
+    new-requires
+    slice-aggregate-fed
+    fed-requires
+    fed-requires-2
+    finish-requires
+    returns-2)

@@ -1,0 +1,25 @@
+-- `vectors::digest_in_parts` is safe.
+use Rattle.sha256.proofs.Absorb.{holds-new, holds-count, absorb-counts}
+use native.Mathlib.Omega.{arith}
+use borrow.Author.Needs.{needs}
+use Rattle.vectors.proofs.digest_in_parts.Statement.{statement}
+use Rattle.vectors.proofs.digest_in_parts.Tie as tie
+
+returns : tie.Need-returns
+returns c = search needs
+
+new-requires : tie.Need-new-requires
+new-requires c κs = search needs
+
+fed-requires : tie.Need-fed-requires
+fed-requires c κs = omega (arith, holds-count _ _ (holds-new _ (c .new .ensures)))
+
+finish-requires : tie.Need-finish-requires
+finish-requires c κs = omega (arith, holds-count _ _ (holds-new _ (c .before .new .ensures)), absorb-counts _ _ _ (c .fed .ensures))
+
+returns-2 : tie.Need-returns-2
+returns-2 c = search needs
+
+pub digest-in-parts-spec : {M : Type 1} → statement M
+digest-in-parts-spec =
+    tie.close (tie.spec returns new-requires fed-requires finish-requires returns-2)
