@@ -1,0 +1,1 @@
+// The digest of an entry.
