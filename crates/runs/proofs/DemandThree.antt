@@ -1,17 +1,17 @@
 -- Demand 3 on runs: "And for every two runs of readings with equal closing digests, whatever they hold, our comparison hands over
 -- two different blocks with one SHA-256 exactly when the runs differ, as far back as both reach." By document 01 it "speaks of every
 -- two runs that refusals 7 and 14 do not turn away": `hands-over-exactly`. Then what each verdict of such a call says.
-use mathlib.Core.Path.{_≡_, refl, sym, ap, ap₂, _∙_}
+use mathlib.Core.Path.{_≡_, sym, ap, _∙_}
 use mathlib.Core.Logic.{_↔_}
-use Prim.Native.Nat.{ℕ, zero, suc, _+_, _-_, _/_, _^_, _≤_, _<_}
+use Prim.Native.Nat.{ℕ, zero, suc, _+_, _-_, _^_, _≤_, _<_}
 use native.Mathlib.Omega.{arith}
-use mathlib.Core.Bool.{Bool, true, false, not}
-use mathlib.Core.Option.{Option, none, some}
-use mathlib.Core.List.{List, [], _∷_, _++_}
+use mathlib.Core.Bool.{false, not}
+use mathlib.Core.Option.{none}
+use mathlib.Core.List.{List}
 use lib.Dec.{eqb}
 use lib.ListN.{length}
 use borrow.Author.Tests.{eqb-true, not-false}
-use Rattle.refusal.specs.Order.{fault, firstFault, afterwards}
+use Rattle.refusal.specs.Order.{afterwards}
 use Rattle.refusal.proofs.OrderLaws.{peel}
 use Rattle.sha256.specs.Sha256.{sha256}
 use Rattle.sha256.proofs.Sizes.{length-sha256}
@@ -21,9 +21,9 @@ use Rattle.runs.specs.Run.{Run, count, valueAt, digestAt, blockAt, closi
 use Rattle.runs.specs.Compare.{Verdict, differ, agree, collision, reach, left, right, Unlike, comparison, handedOver}
 use Rattle.runs.specs.Call.{Answer, noRun, compareRefusal, done, answered, compareAnswer, compareBytes}
 use Rattle.runs.specs.Claim.{Collides, Agreement, HandsOver}
-use Rattle.runs.specs.Scan.{Reaches}
 use Rattle.runs.proofs.NoRun.{run-reaches}
-use Rattle.runs.proofs.Verdicts.{value-size, differ-exactly, collision-exactly, collision-handed, untouched, agree-exactly}
+use Rattle.runs.proofs.AgreeLaws.{agree-exactly}
+use Rattle.runs.proofs.Verdicts.{value-size, differ-exactly, collision-exactly, collision-handed, untouched}
 
 -- sizes of digests and blocks
 

@@ -1,23 +1,20 @@
--- What each verdict says of the runs, over any hash function.
-use mathlib.Core.Path.{_≡_, refl, sym, ap, ap₂, subst, _∙_}
+-- What the verdicts "digests differ" and a collision say of the runs, over any hash function.
+use mathlib.Core.Path.{_≡_, refl, sym, ap, subst, _∙_}
 use mathlib.Core.Logic.{⊎-elim, _↔_}
-use Prim.Native.Nat.{ℕ, zero, suc, _+_, _-_, _*_, _/_, _^_, _≤_, _<_}
-use native.Mathlib.Nat.{add-zero, add-suc}
+use Prim.Native.Nat.{ℕ, suc, _+_, _-_, _*_, _≤_, _<_}
 use native.Mathlib.Omega.{arith}
 use mathlib.Core.Bool.{Bool, true, false, cond}
 use mathlib.Core.Option.{Option, none, some}
-use mathlib.Core.List.{List, _++_}
-use lib.ListN.{length, drop, replicate}
-use Rattle.octets.specs.Octets.{part, same}
+use mathlib.Core.List.{List}
+use lib.ListN.{length, drop}
+use Rattle.octets.specs.Octets.{same}
 use Rattle.octets.proofs.Tests.{equal-or-not}
-use Rattle.octets.proofs.Same.{same-eq, eq-same, same-not}
+use Rattle.octets.proofs.Same.{same-eq, eq-same}
 use Rattle.octets.proofs.Parts.{length-part}
-use Rattle.bigendian.specs.BigEndian.{be}
-use Rattle.entry.specs.Digest.{block}
-use Rattle.entry.proofs.DigestLaws.{block-previous, block-parts}
-use Rattle.runs.specs.Run.{Run, run, count, valueAt, digestAt, blockAt, closing}
-use Rattle.runs.specs.Compare.{Verdict, differ, agree, collision, reach, lastUnequal, verdictOf, filledWith, left, right, nearest, pairAt, Unlike, comparison, handedOver}
-use Rattle.runs.specs.Claim.{Collides, Agreement}
+use Rattle.entry.proofs.DigestLaws.{block-previous}
+use Rattle.runs.specs.Run.{Run, count, valueAt, digestAt, blockAt, closing}
+use Rattle.runs.specs.Compare.{differ, collision, reach, verdictOf, filledWith, left, right, nearest, pairAt, Unlike, comparison, handedOver}
+use Rattle.runs.specs.Claim.{Collides}
 use Rattle.runs.proofs.LastUnequal.{Last, last-is}
 
 pub value-size : (r : Run) (k : ℕ) → k < count r → length (valueAt r k) ≡ 32
@@ -35,7 +32,7 @@ module _ (hash : List ℕ → List ℕ) where
   after r k = refl
 
   module _ (a b : Run) where
-    fits : (reach a b ≤ count a) × (reach a b ≤ count b)
+    pub fits : (reach a b ≤ count a) × (reach a b ≤ count b)
     unfolding reach
     fits = (omega arith, omega arith)
 
@@ -67,7 +64,7 @@ module _ (hash : List ℕ → List ℕ) where
         (equal-or-not (suc j) (reach a b))
         ∙ sym (right-after j)
 
-    nearest-is : Last (left hash a b) (right hash a b) (reach a b) (nearest hash a b)
+    pub nearest-is : Last (left hash a b) (right hash a b) (reach a b) (nearest hash a b)
     unfolding nearest
     nearest-is = last-is (left hash a b) (right hash a b) (reach a b)
 
@@ -82,7 +79,7 @@ module _ (hash : List ℕ → List ℕ) where
     no-differ (some j) h = let z : _≡_ {A = ℕ} 0 1 = cc in omega arith
 
     -- with one closing digest the verdict and the buffer go by the nearest unequal pair
-    by-nearest : closing hash a ≡ closing hash b → comparison hash a b ≡ verdictOf (nearest hash a b)
+    pub by-nearest : closing hash a ≡ closing hash b → comparison hash a b ≡ verdictOf (nearest hash a b)
     unfolding comparison
     by-nearest c = simp (eq-same (closing hash a) (closing hash b) c)
 
@@ -131,80 +128,3 @@ module _ (hash : List ℕ → List ℕ) where
     pub untouched : (out : List ℕ) → (comparison hash a b ≡ collision → ⊥) → handedOver hash a b out ≡ out
     unfolding comparison handedOver
     untouched out n = untouched-by (same (closing hash a) (closing hash b)) (nearest hash a b) (pairAt hash a b) out n
-
-    -- agree
-
-    equal-blocks : (o : Option ℕ) → Last (left hash a b) (right hash a b) (reach a b) o → verdictOf o ≡ agree → (i : ℕ) → i < reach a b → left hash a b i ≡ right hash a b i
-    equal-blocks none l h = l
-    equal-blocks (some j) l h = let z : _≡_ {A = ℕ} 0 1 = cc in absurd (omega arith)
-
-    all-equal : (o : Option ℕ) → Last (left hash a b) (right hash a b) (reach a b) o → ((i : ℕ) → i < reach a b → left hash a b i ≡ right hash a b i) → verdictOf o ≡ agree
-    all-equal none l h = refl
-    all-equal (some j) l h = absurd (l .1 .0 (h j (l .0)))
-
-    agree-closing : comparison hash a b ≡ agree → closing hash a ≡ closing hash b
-    unfolding comparison
-    agree-closing h = go (same (closing hash a) (closing hash b)) refl h
-      where
-        go : (t : Bool) → same (closing hash a) (closing hash b) ≡ t → cond t (verdictOf (nearest hash a b)) differ ≡ agree → closing hash a ≡ closing hash b
-        go true e k = same-eq (closing hash a) (closing hash b) e
-        go false e k = let z : _≡_ {A = ℕ} 0 1 = cc in absurd (omega arith)
-
-    -- equal parts make equal digests
-    digests : Agreement hash a b → (i : ℕ) → i ≤ reach a b → digestAt hash a (count a - reach a b + i) ≡ digestAt hash b (count b - reach a b + i)
-    unfolding digestAt
-    digests g zero h = ap (digestAt hash a) (add-zero (count a - reach a b)) ∙ g .before ∙ ap (digestAt hash b) (sym (add-zero (count b - reach a b)))
-    digests g (suc i) h =
-        let p = g .positions i (omega arith) in
-        let v = g .values i (omega arith) in
-        let d = digests g i (omega arith) in
-        ap (digestAt hash a) (add-suc (count a - reach a b) i)
-        ∙ ap hash (ap₂ (λ (n : ℕ) (x : List ℕ). block n x (digestAt hash a (count a - reach a b + i))) p v ∙ ap (block (b .first + (count b - reach a b + i)) (valueAt b (count b - reach a b + i))) d)
-        ∙ ap (digestAt hash b) (sym (add-suc (count b - reach a b) i))
-
-    blocks-equal : Agreement hash a b → (i : ℕ) → i < reach a b → left hash a b i ≡ right hash a b i
-    unfolding left right blockAt
-    blocks-equal g i h =
-        ap₂ (λ (n : ℕ) (x : List ℕ). block n x (digestAt hash a (count a - reach a b + i))) (g .positions i h) (g .values i h)
-        ∙ ap (block (b .first + (count b - reach a b + i)) (valueAt b (count b - reach a b + i))) (digests g i (omega arith))
-
-    closings-equal : Agreement hash a b → closing hash a ≡ closing hash b
-    unfolding closing
-    closings-equal g = ap (digestAt hash a) (omega (arith, fits)) ∙ digests g (reach a b) (omega arith) ∙ ap (digestAt hash b) (omega (arith, fits))
-
-    -- equal blocks have equal parts
-    module _ (ha : a .first + count a ≤ 2 ^ 64) (hb : b .first + count b ≤ 2 ^ 64) where
-      parts : (i : ℕ) → i < reach a b → left hash a b i ≡ right hash a b i
-          → (a .first + (count a - reach a b + i) ≡ b .first + (count b - reach a b + i))
-          × ((valueAt a (count a - reach a b + i) ≡ valueAt b (count b - reach a b + i))
-          × (digestAt hash a (count a - reach a b + i) ≡ digestAt hash b (count b - reach a b + i)))
-      unfolding left right blockAt
-      parts i h e =
-          let f = fits in
-          block-parts (a .first + (count a - reach a b + i)) (b .first + (count b - reach a b + i)) (valueAt a (count a - reach a b + i))
-          (valueAt b (count b - reach a b + i)) (digestAt hash a (count a - reach a b + i)) (digestAt hash b (count b - reach a b + i))
-          (omega arith) (omega arith) (value-size a (count a - reach a b + i) (omega arith)) (value-size b (count b - reach a b + i) (omega arith)) e
-
-      pub agree-exactly : 0 < reach a b → comparison hash a b ≡ agree ↔ Agreement hash a b
-      agree-exactly n = (
-        λ h.
-            let e = equal-blocks (nearest hash a b) nearest-is (sym (by-nearest (agree-closing h)) ∙ h) in
-            record {
-              positions = λ i k. parts i k (e i k) .0;
-              values = λ i k. parts i k (e i k) .1 .0;
-              before = ap (digestAt hash a) (sym (add-zero (count a - reach a b))) ∙ parts 0 n (e 0 n) .1 .1 ∙ ap (digestAt hash b) (add-zero (count b - reach a b));
-            },
-        λ g. by-nearest (closings-equal g) ∙ all-equal (nearest hash a b) nearest-is (blocks-equal g),
-      )
-
--- the collision verdict is no empty one: a hash that forgets everything, and two runs of one value each
-
-abbrev forget : List ℕ → List ℕ
-forget m = replicate 32 0
-
-abbrev ofOne : ℕ → Run
-ofOne x = run (replicate 32 0) 1 (replicate 32 x)
-
-pub collision-reached : comparison forget (ofOne 1) (ofOne 2) ≡ collision
-unfolding comparison closing nearest lastUnequal left right blockAt digestAt reach count same block be
-collision-reached = refl

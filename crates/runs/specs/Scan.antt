@@ -1,5 +1,5 @@
 -- The one forward pass over both runs: what it keeps, and what it concludes.
-use Prim.Native.Nat.{ℕ, suc, _+_, _-_, _*_, _^_, _≤_}
+use Prim.Native.Nat.{ℕ, _+_, _-_, _*_, _^_, _≤_}
 use mathlib.Core.Bool.{Bool, true, false, cond}
 use mathlib.Core.Option.{Option, none, some}
 use mathlib.Core.List.{List, _++_}
@@ -31,7 +31,7 @@ pointAfter first values p = record { passed = p .passed + 1; digest = entryDiges
 unfoldable pub pointAt : Run → ℕ → Point
 pointAt r k = record { passed = k; digest = digestAt sha256 r k }
 
--- what is kept after one more pair of blocks, p and q, which stand at one and two
+-- what is kept after one more pair of blocks, alike or not, which stand at one and two
 unfoldable pub keptAfter : Kept → Bool → Point → Point → Kept
 keptAfter k alike one two = cond alike k (record { found = true; one = one; two = two })
 

@@ -20,23 +20,23 @@ pub enum Comparison {
 }
 
 // How far a run was walked: the number of values passed, and the digest after them.
-pub struct Point {
-    pub passed: usize,
-    pub digest: [u8; 32],
+struct Point {
+    passed: usize,
+    digest: [u8; 32],
 }
 
 // Where the last unequal pair of blocks stands, if one was found.
-pub struct Kept {
-    pub found: bool,
-    pub one: Point,
-    pub two: Point,
+struct Kept {
+    found: bool,
+    one: Point,
+    two: Point,
 }
 
 // Both runs walked, and what was kept.
-pub struct Scan {
-    pub one: Point,
-    pub two: Point,
-    pub kept: Kept,
+struct Scan {
+    one: Point,
+    two: Point,
+    kept: Kept,
 }
 
 // Whether there are no values, a part of one, a first position 0 or a last one beyond 2^64 - 1.

@@ -2,7 +2,7 @@
 use mathlib.Core.Path.{sym, _∙_}
 use Rattle.runs.specs.Run.{run}
 use Rattle.runs.proofs.NoRun.{run-reaches, reaches-fewer}
-use Rattle.runs.proofs.ScanLaws.{kept-inside, concludes}
+use Rattle.runs.proofs.PassLaws.{kept-inside, concludes}
 use Rattle.runs.proofs.CompareCases.{other-start1, other-start2, other-buffer, no-run1, no-run2, compares}
 use borrow.Author.Needs.{needs}
 use Rattle.runs.proofs.compare.Statement.{statement}

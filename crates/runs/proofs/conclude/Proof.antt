@@ -3,7 +3,7 @@ use mathlib.Core.Path.{sym, _∙_}
 use lib.ListN.{length-map}
 use borrow.Author.Tests.{not-true, not-false}
 use Rattle.runs.proofs.BlockLaws.{size-blockFrom}
-use Rattle.runs.proofs.ScanLaws.{differs, agrees, collides}
+use Rattle.runs.proofs.PassLaws.{differs, agrees, collides}
 use borrow.Author.Needs.{needs}
 use Rattle.runs.proofs.conclude.Statement.{statement}
 use Rattle.runs.proofs.conclude.Tie as tie

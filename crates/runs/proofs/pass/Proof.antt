@@ -1,6 +1,6 @@
 -- `runs::pass` meets its contract.
 use Rattle.runs.specs.Run.{run}
-use Rattle.runs.proofs.ScanLaws.{pass-is}
+use Rattle.runs.proofs.PassLaws.{pass-is}
 use borrow.Author.Needs.{needs}
 use Rattle.runs.proofs.pass.Statement.{statement}
 use Rattle.runs.proofs.pass.Tie as tie
