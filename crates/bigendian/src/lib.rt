@@ -5,7 +5,7 @@ ghost use lib.ListN.{length};
 ghost use Rattle.bigendian.specs.BigEndian.{be, unbe};
 ghost use Rattle.octets.specs.Octets.{part, splice};
 
-// Each reader joins the numbers of two halves, and each writer writes two halves: one law for every width proves them all.
+// Each reader joins the numbers of two parts, and each writer writes two halves: one law for every width proves them all.
 
 fn wide16(b: u8) -> u16
     ensures { λ r. ⌜ (r ≡ b) × (r < 256) ⌝ }
@@ -19,8 +19,8 @@ fn wide32(n: u16) -> u32
     n as u32
 }
 
-fn wide64(n: u32) -> u64
-    ensures { λ r. ⌜ (r ≡ n) × (r < 4294967296) ⌝ }
+fn wide64(n: u16) -> u64
+    ensures { λ r. ⌜ (r ≡ n) × (r < 65536) ⌝ }
 {
     n as u64
 }
@@ -41,12 +41,16 @@ pub fn get_u32(s: &[u8], at: usize) -> u32
     wide32(get_u16(s, at)) * 65536 + wide32(get_u16(s, at + 2))
 }
 
-// The number that the 8 bytes of s from at on make.
+// The number that the 8 bytes of s from at on make. Joined pair by pair, the compiler makes them one load.
 pub fn get_u64(s: &[u8], at: usize) -> u64
     requires { ⌜ at + 8 ≤ length (now s) ⌝ }
     ensures { λ r. ⌜ r ≡ unbe (part (now (s .entry)) at 8) ⌝ }
 {
-    wide64(get_u32(s, at)) * 4294967296 + wide64(get_u32(s, at + 4))
+    let a = wide64(get_u16(s, at));
+    let b = wide64(get_u16(s, at + 2));
+    let c = wide64(get_u16(s, at + 4));
+    let d = wide64(get_u16(s, at + 6));
+    ((a * 65536 + b) * 65536 + c) * 65536 + d
 }
 
 // Writes n as 2 bytes from at on.

@@ -1,1 +1,5 @@
+pub mod Changes
+pub mod Fits
 pub mod Image
+pub mod Layout
+pub mod Lists

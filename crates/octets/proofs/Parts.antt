@@ -6,7 +6,7 @@ use native.Mathlib.Nat.{add-zero, zero-add}
 use native.Mathlib.Numerals.{add-one}
 use native.Mathlib.Omega.{arith}
 use lib.ListN.{length, getD, take, drop, set, length-append, length-take, length-drop, drop-of-length-le, take-append-drop}
-use lib.Seq.{sets, sets-eq, set-split, drop-cons, take-add, drop-drop, take-take, length-take-le, take-at, drop-at, take-length, take-append-le, drop-append-le, drop-append-add, take-append-seam, getD-drop}
+use lib.Seq.{sets, sets-eq, set-split, drop-cons, take-add, drop-drop, take-take, length-take-le, take-at, drop-at, take-length, take-append-le, take-append-add, drop-append-le, drop-append-add, take-append-seam, getD-drop}
 use borrow.Rule.Slice.PartMut.{putMid}
 use Rattle.octets.specs.Octets.{Bytes, part, splice}
 
@@ -155,3 +155,17 @@ put-back l y x at n e h =
 pub splice-nested : (l : List ℕ) (at : ℕ) (x : List ℕ) → splice l at x ≡ take at l ++ x ++ drop (at + length x) l
 unfolding splice
 splice-nested l at x = sym (append-assoc (take at l) x (drop (at + length x) l))
+
+-- a splice in the first or the second of two lists
+pub splice-left : (p q : List ℕ) (at : ℕ) (x : List ℕ) → at + length x ≤ length p → splice (p ++ q) at x ≡ splice p at x ++ q
+unfolding splice
+splice-left p q at x h =
+    ap₂ (λ (a b : List ℕ). a ++ (x ++ b)) (take-append-le at p q (omega arith)) (drop-append-le (at + length x) p q h)
+    ∙ simp append-assoc
+
+pub splice-right : (p q : List ℕ) (at : ℕ) (x : List ℕ) → splice (p ++ q) (length p + at) x ≡ p ++ splice q at x
+unfolding splice
+splice-right p q at x =
+    let e : length p + at + length x ≡ length p + (at + length x) = omega arith in
+    ap₂ (λ (a b : List ℕ). a ++ (x ++ b)) (take-append-add p q at) (ap (λ (k : ℕ). drop k (p ++ q)) e ∙ drop-append-add p q (at + length x))
+    ∙ append-assoc p (take at q) (x ++ drop (at + length x) q)

@@ -1,1 +1,23 @@
 // Whole tables, and format (document 01, "Table bytes").
+mod blank;
+pub mod format;
+mod runs;
+pub mod whole;
+
+// What the check finds: a torn table; or a whole one, how many slots are free, and the last of the free chain (0 if none).
+pub enum Check {
+    Torn,
+    Whole { free: usize, last: usize },
+}
+
+// What a walk along a chain finds: that it is broken; or how many slots it met, and the last.
+pub enum Run {
+    Broken,
+    Met { count: usize, last: usize },
+}
+
+// How many slots all logs hold, or that a chain is broken.
+pub enum Held {
+    Broken,
+    Slots(usize),
+}

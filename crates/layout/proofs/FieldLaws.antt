@@ -1,0 +1,197 @@
+-- A row, a slot and a header, field by field: what was written is read, and what was read is written.
+use Prim.Native.Nat.{ℕ, _+_, _-_, _*_, _^_, _≤_, _<_}
+use mathlib.Core.Path.{_≡_, refl, sym, ap, ap₂, _∙_}
+use mathlib.Core.List.{List, [], _∷_, _++_}
+use native.Mathlib.Omega.{arith}
+use lib.ListN.{length, length-append, length-replicate}
+use lib.Seq.{take-at, take-all}
+use Rattle.octets.specs.Octets.{Bytes, part, splice, zeros}
+use Rattle.octets.proofs.Parts.{length-part, part-append-right, part-add, splice-left, splice-right, splice-whole}
+use Rattle.bigendian.specs.BigEndian.{be, unbe}
+use Rattle.bigendian.proofs.Laws.{length-be, unbe-be, unbe-part-lt, be-unbe-part}
+use Rattle.layout.specs.declared.Row.{Row}
+use Rattle.layout.specs.Image.{Slot}
+use Rattle.layout.specs.Layout.{mark, headerSize, rowSize, slotSize, freeOffset, zeroOffset, zerosOffset, readRow, rowBytes, readSlot, slotBytes, headerBytes}
+use Rattle.layout.specs.Changes.{withNext}
+use Rattle.layout.specs.Fits.{RowFits, SlotFits}
+
+pub length-zeros : (n : ℕ) → length (zeros n) ≡ n
+unfolding zeros
+length-zeros n = length-replicate n 0
+
+pub length-rowBytes : (r : Row) → length (rowBytes r) ≡ rowSize
+unfolding rowBytes
+length-rowBytes r = simp (length-append, length-be)
+
+pub length-slotBytes : (s : Slot) → SlotFits s → length (slotBytes s) ≡ slotSize
+unfolding slotBytes
+length-slotBytes s h = simp (length-append, length-be, length-zeros) (omega (arith, h .value, h .digest))
+
+pub length-headerBytes : (logs slots keeper free : ℕ) (key : List ℕ) → length key ≡ 32 → length (headerBytes logs slots keeper free key) ≡ headerSize
+unfolding headerBytes
+length-headerBytes logs slots keeper free key h = simp (length-append, length-be, length-zeros) (omega (arith, h))
+
+-- a field of fields on end: past one of k bytes, at the front, and the last
+pub skip : (p q : List ℕ) (k a n : ℕ) → length p ≡ k → part (p ++ q) (k + a) n ≡ part q a n
+skip p q k a n h = ap (λ (m : ℕ). part (p ++ q) (m + a) n) (sym h) ∙ part-append-right p q a n
+
+here : (p q : List ℕ) (n : ℕ) → length p ≡ n → part (p ++ q) 0 n ≡ p
+here p q n h = take-at p q n h
+
+only : (p : List ℕ) (n : ℕ) → length p ≡ n → part p 0 n ≡ p
+only p n h = take-all n p (omega arith)
+
+-- the same for a splice
+pub over : (p q : List ℕ) (k a : ℕ) (x : List ℕ) → length p ≡ k → splice (p ++ q) (k + a) x ≡ p ++ splice q a x
+over p q k a x h = ap (λ (m : ℕ). splice (p ++ q) (m + a) x) (sym h) ∙ splice-right p q a x
+
+front : (p q x : List ℕ) → length x ≡ length p → splice (p ++ q) 0 x ≡ x ++ q
+front p q x h = splice-left p q 0 x (omega arith) ∙ ap (λ (l : List ℕ). l ++ q) (splice-whole p x h)
+
+pub read-row : (r : Row) → RowFits r → readRow (rowBytes r) ≡ r
+unfolding readRow rowBytes
+read-row r h =
+    let l : List ℕ = be 8 (r .low) in
+    let m : List ℕ = be 8 (r .high) in
+    let f : List ℕ = be 2 (r .first) in
+    let e : List ℕ = be 2 (r .last) in
+    λ i. record {
+      low = (ap unbe (here l (m ++ (f ++ e)) 8 (length-be 8 (r .low))) ∙ unbe-be 8 (r .low) (h .low)) i;
+      high = (ap unbe (skip l (m ++ (f ++ e)) 8 0 8 (length-be 8 (r .low)) ∙ here m (f ++ e) 8 (length-be 8 (r .high))) ∙ unbe-be 8 (r .high) (h .high)) i;
+      first = (ap unbe (skip l (m ++ (f ++ e)) 8 8 2 (length-be 8 (r .low)) ∙ skip m (f ++ e) 8 0 2 (length-be 8 (r .high)) ∙ here f e 2 (length-be 2 (r .first))) ∙ unbe-be 2 (r .first) (h .first)) i;
+      last = (ap unbe (skip l (m ++ (f ++ e)) 8 10 2 (length-be 8 (r .low)) ∙ skip m (f ++ e) 8 2 2 (length-be 8 (r .high)) ∙ skip f e 2 0 2 (length-be 2 (r .first)) ∙ only e 2 (length-be 2 (r .last))) ∙ unbe-be 2 (r .last) (h .last)) i;
+    }
+
+pub write-row : (b : List ℕ) → Bytes b → length b ≡ rowSize → rowBytes (readRow b) ≡ b
+unfolding readRow rowBytes
+write-row b h l =
+    ap₂ _++_ (be-unbe-part b 0 8 h (omega arith)) (ap₂ _++_ (be-unbe-part b 8 8 h (omega arith)) (ap₂ _++_ (be-unbe-part b 16 2 h (omega arith)) (be-unbe-part b 18 2 h (omega arith))))
+    ∙ sym (part-add b 0 8 12 ∙ ap (λ (q : List ℕ). part b 0 8 ++ q) (part-add b 8 8 4 ∙ ap (λ (q : List ℕ). part b 8 8 ++ q) (part-add b 16 2 2)))
+    ∙ only b rowSize l
+
+-- the parts of a slot's bytes: the first of one byte, the zero, and what follows
+module _ (s : Slot) where
+  after-pad : List ℕ
+  after-pad = be 2 (s .next) ++ (be 8 (s .position) ++ (s .value ++ s .digest))
+
+  past-pad : (a k : ℕ) → part (slotBytes s) (1 + (1 + a)) k ≡ part after-pad a k
+  unfolding slotBytes after-pad
+  past-pad a k = skip (be 1 (s .owner)) (zeros 1 ++ after-pad) 1 (1 + a) k (length-be 1 (s .owner)) ∙ skip (zeros 1) after-pad 1 a k (length-zeros 1)
+
+  pub pad-written : part (slotBytes s) 1 1 ≡ zeros 1
+  unfolding slotBytes after-pad
+  pad-written = skip (be 1 (s .owner)) (zeros 1 ++ after-pad) 1 0 1 (length-be 1 (s .owner)) ∙ here (zeros 1) after-pad 1 (length-zeros 1)
+
+  owner-written : part (slotBytes s) 0 1 ≡ be 1 (s .owner)
+  unfolding slotBytes after-pad
+  owner-written = here (be 1 (s .owner)) (zeros 1 ++ after-pad) 1 (length-be 1 (s .owner))
+
+  pub read-slot : SlotFits s → readSlot (slotBytes s) ≡ s
+  unfolding readSlot after-pad
+  read-slot h =
+      let n : List ℕ = be 2 (s .next) in
+      let p : List ℕ = be 8 (s .position) in
+      let v : List ℕ = s .value in
+      let d : List ℕ = s .digest in
+      let ln = length-be 2 (s .next) in
+      let lp = length-be 8 (s .position) in
+      λ i. record {
+        owner = (ap unbe owner-written ∙ unbe-be 1 (s .owner) (h .owner)) i;
+        next = (ap unbe (past-pad 0 2 ∙ here n (p ++ (v ++ d)) 2 ln) ∙ unbe-be 2 (s .next) (h .next)) i;
+        position = (ap unbe (past-pad 2 8 ∙ skip n (p ++ (v ++ d)) 2 0 8 ln ∙ here p (v ++ d) 8 lp) ∙ unbe-be 8 (s .position) (h .position)) i;
+        value = (past-pad 10 32 ∙ skip n (p ++ (v ++ d)) 2 8 32 ln ∙ skip p (v ++ d) 8 0 32 lp ∙ here v d 32 (h .value)) i;
+        digest = (past-pad 42 32 ∙ skip n (p ++ (v ++ d)) 2 40 32 ln ∙ skip p (v ++ d) 8 32 32 lp ∙ skip v d 32 0 32 (h .value) ∙ only d 32 (h .digest)) i;
+      }
+
+  -- another next in a slot's bytes
+  pub splice-next : (n : ℕ) → slotBytes (withNext s n) ≡ splice (slotBytes s) 2 (be 2 n)
+  unfolding slotBytes
+  splice-next n =
+      let r : List ℕ = be 8 (s .position) ++ (s .value ++ s .digest) in
+      sym (over (be 1 (s .owner)) (zeros 1 ++ (be 2 (s .next) ++ r)) 1 1 (be 2 n) (length-be 1 (s .owner))
+      ∙ ap (λ (q : List ℕ). be 1 (s .owner) ++ q) (over (zeros 1) (be 2 (s .next) ++ r) 1 0 (be 2 n) (length-zeros 1)
+      ∙ ap (λ (q : List ℕ). zeros 1 ++ q) (front (be 2 (s .next)) r (be 2 n) (length-be 2 n ∙ sym (length-be 2 (s .next))))))
+
+pub write-slot : (b : List ℕ) → Bytes b → length b ≡ slotSize → part b 1 1 ≡ zeros 1 → slotBytes (readSlot b) ≡ b
+unfolding readSlot slotBytes
+write-slot b h l z =
+    ap₂ _++_ (be-unbe-part b 0 1 h (omega arith)) (ap₂ _++_ (sym z) (ap₂ _++_ (be-unbe-part b 2 2 h (omega arith)) (ap (λ (q : List ℕ). q ++ (part b 12 32 ++ part b 44 32)) (be-unbe-part b 4 8 h (omega arith)))))
+    ∙ sym (part-add b 0 1 75 ∙ ap (λ (q : List ℕ). part b 0 1 ++ q) (part-add b 1 1 74 ∙ ap (λ (q : List ℕ). part b 1 1 ++ q) (part-add b 2 2 72 ∙ ap (λ (q : List ℕ). part b 2 2 ++ q) (part-add b 4 8 64 ∙ ap (λ (q : List ℕ). part b 4 8 ++ q) (part-add b 12 32 32)))))
+    ∙ only b slotSize l
+
+-- the header's fields
+module _ (logs slots keeper free : ℕ) (key : List ℕ) where
+  -- what follows the slot count
+  after-count : List ℕ
+  after-count = be 8 keeper ++ (be 2 free ++ (zeros 2 ++ key))
+
+  pub mark-header : part (headerBytes logs slots keeper free key) 0 4 ≡ mark
+  unfolding headerBytes
+  mark-header = here mark (be 1 logs ++ (zeros 1 ++ (be 2 slots ++ (be 8 keeper ++ (be 2 free ++ (zeros 2 ++ key)))))) 4 refl
+
+  pub logs-header : part (headerBytes logs slots keeper free key) 4 1 ≡ be 1 logs
+  unfolding headerBytes after-count
+  logs-header = skip mark (be 1 logs ++ (zeros 1 ++ (be 2 slots ++ after-count))) 4 0 1 refl ∙ here (be 1 logs) (zeros 1 ++ (be 2 slots ++ after-count)) 1 (length-be 1 logs)
+
+  pub zero-header : part (headerBytes logs slots keeper free key) zeroOffset 1 ≡ zeros 1
+  unfolding headerBytes after-count
+  zero-header =
+      skip mark (be 1 logs ++ (zeros 1 ++ (be 2 slots ++ after-count))) 4 1 1 refl ∙ skip (be 1 logs) (zeros 1 ++ (be 2 slots ++ after-count)) 1 0 1 (length-be 1 logs) ∙ here (zeros 1) (be 2 slots ++ after-count) 1 (length-zeros 1)
+
+  past-zero : (a n : ℕ) → part (headerBytes logs slots keeper free key) (4 + (1 + (1 + a))) n ≡ part (be 2 slots ++ after-count) a n
+  unfolding headerBytes after-count
+  past-zero a n =
+      skip mark (be 1 logs ++ (zeros 1 ++ (be 2 slots ++ after-count))) 4 (1 + (1 + a)) n refl
+      ∙ skip (be 1 logs) (zeros 1 ++ (be 2 slots ++ after-count)) 1 (1 + a) n (length-be 1 logs)
+      ∙ skip (zeros 1) (be 2 slots ++ after-count) 1 a n (length-zeros 1)
+
+  past-count : (a n : ℕ) → part (headerBytes logs slots keeper free key) (8 + a) n ≡ part after-count a n
+  past-count a n = let e : 8 + a ≡ 4 + (1 + (1 + (2 + a))) = omega arith in ap (λ (k : ℕ). part (headerBytes logs slots keeper free key) k n) e ∙ past-zero (2 + a) n ∙ skip (be 2 slots) after-count 2 a n (length-be 2 slots)
+
+  pub slots-header : part (headerBytes logs slots keeper free key) 6 2 ≡ be 2 slots
+  slots-header = past-zero 0 2 ∙ here (be 2 slots) after-count 2 (length-be 2 slots)
+
+  pub keeper-header : part (headerBytes logs slots keeper free key) 8 8 ≡ be 8 keeper
+  unfolding after-count
+  keeper-header = past-count 0 8 ∙ here (be 8 keeper) _ 8 (length-be 8 keeper)
+
+  past-keeper : (a n : ℕ) → part (headerBytes logs slots keeper free key) (16 + a) n ≡ part (be 2 free ++ (zeros 2 ++ key)) a n
+  unfolding after-count
+  past-keeper a n = let e : 16 + a ≡ 8 + (8 + a) = omega arith in ap (λ (k : ℕ). part (headerBytes logs slots keeper free key) k n) e ∙ past-count (8 + a) n ∙ skip (be 8 keeper) (be 2 free ++ (zeros 2 ++ key)) 8 a n (length-be 8 keeper)
+
+  pub free-header : part (headerBytes logs slots keeper free key) freeOffset 2 ≡ be 2 free
+  free-header = past-keeper 0 2 ∙ here (be 2 free) (zeros 2 ++ key) 2 (length-be 2 free)
+
+  pub zeros-header : part (headerBytes logs slots keeper free key) zerosOffset 2 ≡ zeros 2
+  zeros-header = past-keeper 2 2 ∙ skip (be 2 free) (zeros 2 ++ key) 2 0 2 (length-be 2 free) ∙ here (zeros 2) key 2 (length-zeros 2)
+
+  pub key-header : length key ≡ 32 → part (headerBytes logs slots keeper free key) 20 32 ≡ key
+  key-header h = past-keeper 4 32 ∙ skip (be 2 free) (zeros 2 ++ key) 2 2 32 (length-be 2 free) ∙ skip (zeros 2) key 2 0 32 (length-zeros 2) ∙ only key 32 h
+
+  -- another first free slot in a header
+  pub splice-free : (f : ℕ) → splice (headerBytes logs slots keeper free key) freeOffset (be 2 f) ≡ headerBytes logs slots keeper f key
+  unfolding headerBytes
+  splice-free f =
+      let t : List ℕ = zeros 2 ++ key in
+      let k : List ℕ = be 8 keeper ++ (be 2 free ++ t) in
+      let s : List ℕ = be 2 slots ++ k in
+      over mark (be 1 logs ++ (zeros 1 ++ s)) 4 12 (be 2 f) refl
+      ∙ ap (λ (q : List ℕ). mark ++ q) (over (be 1 logs) (zeros 1 ++ s) 1 11 (be 2 f) (length-be 1 logs)
+      ∙ ap (λ (q : List ℕ). be 1 logs ++ q) (over (zeros 1) s 1 10 (be 2 f) (length-zeros 1)
+      ∙ ap (λ (q : List ℕ). zeros 1 ++ q) (over (be 2 slots) k 2 8 (be 2 f) (length-be 2 slots)
+      ∙ ap (λ (q : List ℕ). be 2 slots ++ q) (over (be 8 keeper) (be 2 free ++ t) 8 0 (be 2 f) (length-be 8 keeper)
+      ∙ ap (λ (q : List ℕ). be 8 keeper ++ q) (front (be 2 free) t (be 2 f) (length-be 2 f ∙ sym (length-be 2 free)))))))
+
+-- a header that was read, written again
+pub write-header : (b : List ℕ) → Bytes b → headerSize ≤ length b → part b 0 4 ≡ mark → part b zeroOffset 1 ≡ zeros 1 → part b zerosOffset 2 ≡ zeros 2
+    → headerBytes (unbe (part b 4 1)) (unbe (part b 6 2)) (unbe (part b 8 8)) (unbe (part b freeOffset 2)) (part b 20 32) ≡ part b 0 headerSize
+unfolding headerBytes
+write-header b h l m z zs =
+    ap₂ _++_ (sym m) (ap₂ _++_ (be-unbe-part b 4 1 h (omega arith)) (ap₂ _++_ (sym z) (ap₂ _++_ (be-unbe-part b 6 2 h (omega arith)) (ap₂ _++_ (be-unbe-part b 8 8 h (omega arith)) (ap₂ _++_ (be-unbe-part b 16 2 h (omega arith)) (ap (λ (q : List ℕ). q ++ part b 20 32) (sym zs)))))))
+    ∙ sym (part-add b 0 4 48
+    ∙ ap (λ (q : List ℕ). part b 0 4 ++ q) (part-add b 4 1 47
+    ∙ ap (λ (q : List ℕ). part b 4 1 ++ q) (part-add b 5 1 46
+    ∙ ap (λ (q : List ℕ). part b 5 1 ++ q) (part-add b 6 2 44
+    ∙ ap (λ (q : List ℕ). part b 6 2 ++ q) (part-add b 8 8 36
+    ∙ ap (λ (q : List ℕ). part b 8 8 ++ q) (part-add b 16 2 34
+    ∙ ap (λ (q : List ℕ). part b 16 2 ++ q) (part-add b 18 2 32)))))))

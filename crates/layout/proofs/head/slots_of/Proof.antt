@@ -1,0 +1,15 @@
+-- `layout::head::slots_of` meets its contract. Assumes nothing.
+use Rattle.layout.specs.Layout.{slotsOf}
+use borrow.Author.Needs.{needs}
+use Rattle.layout.proofs.head.slots_of.Statement.{statement}
+use Rattle.layout.proofs.head.slots_of.Tie as tie
+
+pair-at-requires : tie.Need-pair-at-requires
+pair-at-requires c κs = search needs
+
+returns : tie.Need-returns
+unfolding slotsOf
+returns c = c .pair-at .ensures
+
+pub slots-of-spec : {M : Type 1} → statement M
+slots-of-spec = tie.close (tie.spec pair-at-requires returns)

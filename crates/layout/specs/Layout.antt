@@ -1,0 +1,132 @@
+-- Document 01, "Table bytes": where each field of a table stands, a table read off its bytes, and written. Sizes and offsets are named here and nowhere else.
+use Prim.Native.Nat.{ℕ, _+_, _-_, _*_}
+use mathlib.Core.List.{List, [], _∷_, _++_}
+use lib.ListN.{length, getD}
+use Rattle.octets.specs.Octets.{part, splice, zeros}
+use Rattle.bigendian.specs.BigEndian.{be, unbe}
+use Rattle.layout.specs.declared.Row.{Row}
+use Rattle.layout.specs.Image.{Slot, Image}
+use Rattle.layout.specs.Lists.{tabulate, flat}
+
+-- "Header, 52 bytes"
+abbrev pub headerSize : ℕ
+headerSize = 52
+
+-- "Then G rows of 20 bytes"
+abbrev pub rowSize : ℕ
+rowSize = 20
+
+-- "Then slots 1 to S of 76 bytes"
+abbrev pub slotSize : ℕ
+slotSize = 76
+
+-- "0–3 ASCII A2MT"
+abbrev pub mark : List ℕ
+mark = 65 ∷ 50 ∷ 77 ∷ 84 ∷ []
+
+-- "4 log count G"
+unfoldable pub logsOf : List ℕ → ℕ
+logsOf b = unbe (part b 4 1)
+
+-- "6–7 slot count S"
+unfoldable pub slotsOf : List ℕ → ℕ
+slotsOf b = unbe (part b 6 2)
+
+-- "8–15 keeper number"
+unfoldable pub keeperOf : List ℕ → ℕ
+keeperOf b = unbe (part b 8 8)
+
+-- "16–17 first free slot, 0 if none"
+abbrev pub freeOffset : ℕ
+freeOffset = 16
+
+unfoldable pub freeOf : List ℕ → ℕ
+freeOf b = unbe (part b freeOffset 2)
+
+-- "20–51 key"
+unfoldable pub keyOf : List ℕ → List ℕ
+keyOf b = part b 20 32
+
+-- the rows follow the header
+abbrev pub rowOffset : ℕ → ℕ
+rowOffset g = headerSize + rowSize * g
+
+-- the slots follow the rows: slot i + 1 of a table of so many logs
+abbrev pub cellOffset : ℕ → ℕ → ℕ
+cellOffset logs i = rowOffset logs + slotSize * i
+
+-- slots count from 1
+abbrev pub slotOffset : ℕ → ℕ → ℕ
+slotOffset logs s = cellOffset logs (s - 1)
+
+-- "The length is 52 + 20G + 76S exactly"
+abbrev pub tableSize : ℕ → ℕ → ℕ
+tableSize logs slots = cellOffset logs slots
+
+-- "5 zero": the header's first zero byte; "18–19 zero": the other two
+abbrev pub zeroOffset : ℕ
+zeroOffset = 5
+
+abbrev pub zerosOffset : ℕ
+zerosOffset = 18
+
+-- "L (8), H (8), first slot (2), last slot (2)", read off a row's 20 bytes
+unfoldable pub readRow : List ℕ → Row
+readRow b = record { low = unbe (part b 0 8); high = unbe (part b 8 8); first = unbe (part b 16 2); last = unbe (part b 18 2) }
+
+-- the same, written
+unfoldable pub rowBytes : Row → List ℕ
+rowBytes r = be 8 (r .low) ++ (be 8 (r .high) ++ (be 2 (r .first) ++ be 2 (r .last)))
+
+-- "0 owner (0 free, log number + 1 held); 1 zero; 2–3 next slot, 0 at the chain's end; 4–11 position; 12–43 value; 44–75 digest", read off a slot's 76 bytes
+unfoldable pub readSlot : List ℕ → Slot
+readSlot b = record { owner = unbe (part b 0 1); next = unbe (part b 2 2); position = unbe (part b 4 8); value = part b 12 32; digest = part b 44 32 }
+
+-- the same, written
+unfoldable pub slotBytes : Slot → List ℕ
+slotBytes s = be 1 (s .owner) ++ (zeros 1 ++ (be 2 (s .next) ++ (be 8 (s .position) ++ (s .value ++ s .digest))))
+
+-- "1 zero": the zero byte of slot i + 1
+abbrev pub padOffset : ℕ → ℕ → ℕ
+padOffset logs i = cellOffset logs i + 1
+
+-- "2–3 next slot"
+abbrev pub nextOffset : ℕ → ℕ → ℕ
+nextOffset logs s = slotOffset logs s + 2
+
+-- the G rows, and the slots 1 to S
+unfoldable pub rowsOf : List ℕ → List Row
+rowsOf b = tabulate (logsOf b) (λ g. readRow (part b (rowOffset g) rowSize))
+
+unfoldable pub cellsOf : List ℕ → List Slot
+cellsOf b = tabulate (slotsOf b) (λ i. readSlot (part b (cellOffset (logsOf b) i) slotSize))
+
+-- what a table's bytes say
+unfoldable pub readTable : List ℕ → Image
+readTable b = record { keeper = keeperOf b; key = keyOf b; free = freeOf b; rows = rowsOf b; slots = cellsOf b }
+
+-- "0–3 ASCII A2MT; 4 log count G; 5 zero; 6–7 slot count S"
+abbrev pub countBytes : ℕ → ℕ → List ℕ
+countBytes logs slots = mark ++ (be 1 logs ++ (zeros 1 ++ be 2 slots))
+
+-- "0–3 ASCII A2MT; 4 log count G; 5 zero; 6–7 slot count S; 8–15 keeper number; 16–17 first free slot, 0 if none; 18–19 zero; 20–51 key"
+unfoldable pub headerBytes : ℕ → ℕ → ℕ → ℕ → List ℕ → List ℕ
+headerBytes logs slots keeper free key =
+    mark ++ (be 1 logs ++ (zeros 1 ++ (be 2 slots ++ (be 8 keeper ++ (be 2 free ++ (zeros 2 ++ key))))))
+
+-- the bytes of an image: header, rows, slots
+unfoldable pub writeTable : Image → List ℕ
+writeTable m = headerBytes (length (m .rows)) (length (m .slots)) (m .keeper) (m .free) (m .key) ++ (flat rowBytes (m .rows) ++ flat slotBytes (m .slots))
+
+-- a table's bytes with another row of log g, another slot s, another next in slot s, another first free slot
+unfoldable pub putRow : List ℕ → ℕ → Row → List ℕ
+putRow b g r = splice b (rowOffset g) (rowBytes r)
+
+unfoldable pub putSlot : List ℕ → ℕ → Slot → List ℕ
+putSlot b s x = splice b (slotOffset (logsOf b) s) (slotBytes x)
+
+unfoldable pub putNext : List ℕ → ℕ → ℕ → List ℕ
+putNext b s n = splice b (nextOffset (logsOf b) s) (be 2 n)
+
+unfoldable pub putFree : List ℕ → ℕ → List ℕ
+putFree b f = splice b freeOffset (be 2 f)

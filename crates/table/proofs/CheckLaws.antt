@@ -1,0 +1,93 @@
+-- The check, way out by way out.
+use Prim.Native.Nat.{ℕ, _+_, _-_, _≤_, _<_}
+use mathlib.Core.Path.{_≡_, refl, sym, ap, ap₂, _∙_}
+use mathlib.Core.Bool.{Bool, true, false, not, _&&_}
+use mathlib.Core.List.{List, _++_}
+use mathlib.Core.Logic.{_≢_}
+use native.Mathlib.Omega.{arith}
+use borrow.Author.Tests.{eq-eqb, ne-eqb, not-true, not-false}
+use lib.Dec.{eqb}
+use lib.ListN.{length, length-append}
+use Rattle.layout.specs.Image.{Image}
+use Rattle.layout.specs.Layout.{logsOf, slotsOf, readTable}
+use Rattle.layout.specs.Fits.{Counted}
+use Rattle.table.specs.declared.Run.{Run}
+use Rattle.table.specs.declared.Run.the-variants as run
+use Rattle.table.specs.declared.Held.{Held}
+use Rattle.table.specs.declared.Held.the-variants as held
+use Rattle.table.specs.declared.Check.{Check}
+use Rattle.table.specs.declared.Check.the-variants as check
+use Rattle.table.specs.Chains.{lastOf}
+use Rattle.table.specs.Free.{freeChain}
+use Rattle.table.specs.Runs.{runOf, heldOf}
+use Rattle.table.specs.WholeImage.{freeOk, rowsOk, heldBy, meets, wholeImage}
+use Rattle.table.specs.Whole.{headerFits, padsFit, whole, checked, checkOf}
+use Rattle.table.proofs.TestLaws.{and-yes, and-no, and-not}
+use Rattle.table.proofs.WalkLaws.{len}
+use Rattle.table.proofs.HeldLaws.{run-broken, run-met, held-broken, held-slots}
+
+-- the slots that all chains meet
+pub length-meets : (m : Image) → length (meets m) ≡ length (freeChain m) + length (heldBy (m .slots) 0 (m .rows))
+unfolding meets
+length-meets m = length-append (freeChain m) (heldBy (m .slots) 0 (m .rows))
+
+torn : (b : List ℕ) → whole b ≡ false → check.Torn ≡ checkOf b
+unfolding checkOf checked
+torn b e = sym (ap (λ (t : Bool). checked t (freeChain (readTable b))) e)
+
+torn-image : (b : List ℕ) → wholeImage (readTable b) ≡ false → check.Torn ≡ checkOf b
+unfolding whole
+torn-image b e = torn b (and-not (headerFits b && padsFit b (logsOf b) (slotsOf b)) e)
+
+pub torn-header : (b : List ℕ) (t : Bool) → t ≡ headerFits b → not t ≡ true → check.Torn ≡ checkOf b
+unfolding whole
+torn-header b t e h = torn b (and-no _ (and-no _ (sym e ∙ not-true t h)))
+
+module _ (b : List ℕ) (logs slots : ℕ) (c : Counted b logs slots) where
+  pads-as : padsFit b logs slots ≡ padsFit b (logsOf b) (slotsOf b)
+  pads-as = ap₂ (padsFit b) (c .logs-are) (c .slots-are)
+
+  pub torn-pads : (t : Bool) → t ≡ padsFit b logs slots → not t ≡ true → check.Torn ≡ checkOf b
+  unfolding whole
+  torn-pads t e h = torn b (and-no _ (and-not (headerFits b) (sym (e ∙ pads-as) ∙ not-true t h)))
+
+  pub torn-free : run.Broken ≡ runOf (freeOk (readTable b)) (freeChain (readTable b)) → check.Torn ≡ checkOf b
+  unfolding wholeImage
+  torn-free e = torn-image b (and-no _ (and-no _ (run-broken (freeOk (readTable b)) (freeChain (readTable b)) e)))
+
+  pub torn-held : held.Broken ≡ heldOf (rowsOk (readTable b .slots) 0 (readTable b .rows)) (heldBy (readTable b .slots) 0 (readTable b .rows)) → check.Torn ≡ checkOf b
+  unfolding wholeImage
+  torn-held e =
+      torn-image b (and-no _ (and-not (freeOk (readTable b)) (held-broken (rowsOk (readTable b .slots) 0 (readTable b .rows)) (heldBy (readTable b .slots) 0 (readTable b .rows)) e)))
+
+  module _ (count last n : ℕ) (free : run.Met count last ≡ runOf (freeOk (readTable b)) (freeChain (readTable b)))
+      (held : held.Slots n ≡ heldOf (rowsOk (readTable b .slots) 0 (readTable b .rows)) (heldBy (readTable b .slots) 0 (readTable b .rows))) where
+    f : (freeOk (readTable b) ≡ true) × (length (freeChain (readTable b)) ≡ count) × (lastOf (freeChain (readTable b)) ≡ last)
+    f = run-met (freeOk (readTable b)) (freeChain (readTable b)) count last free
+
+    h : (rowsOk (readTable b .slots) 0 (readTable b .rows) ≡ true) × (length (heldBy (readTable b .slots) 0 (readTable b .rows)) ≡ n)
+    h = held-slots (rowsOk (readTable b .slots) 0 (readTable b .rows)) (heldBy (readTable b .slots) 0 (readTable b .rows)) n held
+
+    total : length (meets (readTable b)) ≡ count + n
+    total = length-meets (readTable b) ∙ ap₂ _+_ (f .1) (h .1)
+
+    missed : count + n ≢ slots → check.Torn ≡ checkOf b
+    unfolding wholeImage
+    missed e =
+        torn-image b (and-not (freeOk (readTable b) && rowsOk (readTable b .slots) 0 (readTable b .rows))
+        (ne-eqb (length (meets (readTable b))) (length (readTable b .slots)) (λ q. e (sym total ∙ q ∙ len b logs slots c))))
+
+    pub torn-over : slots < n → check.Torn ≡ checkOf b
+    torn-over k = missed (λ q. omega arith)
+
+    pub torn-total : n ≤ slots → count ≢ slots - n → check.Torn ≡ checkOf b
+    torn-total k e = missed (λ q. e (omega arith))
+
+    pub is-whole : (t u : Bool) → t ≡ headerFits b → not t ≡ false → u ≡ padsFit b logs slots → not u ≡ false → n ≤ slots → count ≡ slots - n → check.Whole count last ≡ checkOf b
+    unfolding checkOf checked whole wholeImage
+    is-whole t u e p q r k z =
+        let w : whole b ≡ true =
+        and-yes _ (and-yes _ (sym e ∙ not-false t p) ∙ (sym (q ∙ pads-as) ∙ not-false u r))
+        ∙ (and-yes _ (and-yes _ (f .0) ∙ h .0)
+        ∙ eq-eqb (length (meets (readTable b))) (length (readTable b .slots)) (total ∙ omega (arith, len b logs slots c))) in
+        sym (ap (λ (x : Bool). checked x (freeChain (readTable b))) w ∙ ap₂ check.Whole (f .1) (f .2))

@@ -1,0 +1,171 @@
+-- Laws for code that writes elements of n bytes one after the other, and the parts of a formatted table.
+use Prim.Native.Nat.{ℕ, zero, suc, _+_, _-_, _*_, _≤_, _<_}
+use mathlib.Core.Path.{_≡_, refl, sym, ap, ap₂, _∙_, subst}
+use mathlib.Core.List.{List, [], _∷_, _++_, append-assoc, append-nil}
+use mathlib.Core.Bool.{Bool, true, false, cond}
+use native.Mathlib.Nat.{mul-le-mul-left}
+use native.Mathlib.Numerals.{add-one}
+use native.Mathlib.Omega.{arith}
+use borrow.Author.Tests.{lt-ltb, le-ltb}
+use borrow.Rule.Slice.PartMut.{putMid}
+use lib.Dec.{ltb}
+use lib.ListN.{length, take, getD, replicate, length-append, length-take, length-replicate, getD-replicate}
+use lib.Seq.{take-suc, take-all}
+use Rattle.octets.specs.Octets.{splice}
+use Rattle.octets.proofs.Parts.{length-splice, put-back, splice-nil, splice-then, splice-whole}
+use Rattle.bigendian.proofs.Laws.{length-be}
+use Rattle.layout.specs.declared.Row.{Row}
+use Rattle.layout.specs.Lists.{tabulate, flat}
+use Rattle.layout.specs.Image.{Slot, freshRow, freeSlot}
+use Rattle.layout.specs.Layout.{headerSize, rowSize, slotSize, rowOffset, tableSize, rowBytes, slotBytes, headerBytes, writeTable}
+use Rattle.layout.proofs.ListLaws.{length-flat, length-tabulate, getD-tabulate, every-tabulate}
+use Rattle.layout.proofs.FieldLaws.{length-zeros, length-rowBytes, length-headerBytes}
+use Rattle.table.specs.Free.{queuedNext, queue}
+use Rattle.table.specs.Format.{formatted}
+
+-- elements of n bytes each, one after the other over o
+module _ {A : Type 0} (f : A → List ℕ) (n : ℕ) (d : A) (l : List A) (sizes : (i : ℕ) → length (f (getD l i d)) ≡ n) (default : length (f d) ≡ n) where
+  taken-sizes : (l : List A) (i : ℕ) → ((j : ℕ) → length (f (getD l j d)) ≡ n) → (j : ℕ) → length (f (getD (take i l) j d)) ≡ n
+  taken-sizes l zero h j = default
+  taken-sizes [] (suc i) h j = default
+  taken-sizes (x ∷ l) (suc i) h zero = h zero
+  taken-sizes (x ∷ l) (suc i) h (suc j) = taken-sizes l i (λ k. h (suc k)) j
+
+  length-taken : (i : ℕ) → i ≤ length l → length (flat f (take i l)) ≡ n * i
+  length-taken i h =
+      let e : length (take i l) ≡ i = rw length-take (omega arith) in
+      length-flat f n d (take i l) (taken-sizes l i sizes) ∙ ap (λ (k : ℕ). n * k) e
+
+  flat-append : (p q : List A) → flat f (p ++ q) ≡ flat f p ++ flat f q
+  unfolding flat
+  flat-append [] q = refl
+  flat-append (x ∷ p) q = ap (λ (r : List ℕ). f x ++ r) (flat-append p q) ∙ sym (append-assoc (f x) (flat f p) (flat f q))
+
+  flat-more : (i : ℕ) → i < length l → flat f (take (i + 1) l) ≡ flat f (take i l) ++ f (getD l i d)
+  unfolding flat
+  flat-more i h =
+      ap (λ (k : ℕ). flat f (take k l)) (add-one i)
+      ∙ ap (flat f) (take-suc l i d h)
+      ∙ flat-append (take i l) (getD l i d ∷ [])
+      ∙ ap (λ (x : List ℕ). flat f (take i l) ++ x) (append-nil (f (getD l i d)))
+
+  pub fill-none : (o : List ℕ) → o ≡ splice o 0 (flat f (take 0 l))
+  unfolding flat
+  fill-none o = sym (splice-nil o 0)
+
+  -- the element's part was lent, and came back as y
+  pub fill-turn : (o b y : List ℕ) (i : ℕ) → i < length l → length o ≡ n * length l → b ≡ splice o 0 (flat f (take i l)) → y ≡ f (getD l i d)
+      → putMid (n * i) (n * i + n - n * i) b y ≡ splice o 0 (flat f (take (i + 1) l))
+  fill-turn o b y i h z w e =
+      let x : List ℕ = f (getD l i d) in
+      let m : i + 1 ≤ length l = omega arith in
+      let below : n * (i + 1) ≤ n * length l = mul-le-mul-left n m in
+      let room : n * i + length x ≤ length o = omega (arith, sizes i) in
+      let p : splice b (n * i) x ≡ splice o 0 (flat f (take i l) ++ x) =
+      splice-then o (flat f (take i l)) x (n * i) w (length-taken i (omega arith)) room refl in
+      put-back b y x (n * i) n e (sizes i) ∙ p ∙ ap (splice o 0) (sym (flat-more i h))
+
+  pub fill-length : (o b : List ℕ) (i : ℕ) → i ≤ length l → length o ≡ n * length l → b ≡ splice o 0 (flat f (take i l)) → length b ≡ length o
+  fill-length o b i h z w =
+      let below : n * i ≤ n * length l = mul-le-mul-left n h in
+      ap length w ∙ length-splice o (flat f (take i l)) 0 (omega (arith, length-taken i h))
+
+  pub fill-done : (o b : List ℕ) (i : ℕ) → length l ≤ i → i ≤ length l → length o ≡ n * length l → b ≡ splice o 0 (flat f (take i l)) → b ≡ flat f l
+  fill-done o b i h k e w =
+      w ∙ ap (λ (q : List A). splice o 0 (flat f q)) (take-all i l h) ∙ splice-whole o (flat f l) (length-flat f n d l sizes ∙ sym e)
+
+-- the queue's slots
+
+pub length-queue : (slots : ℕ) → length (queue slots) ≡ slots
+unfolding queue
+length-queue slots = length-tabulate slots (λ i. freeSlot (queuedNext slots (suc i)))
+
+pub getD-queue : (slots i : ℕ) → i < slots → getD (queue slots) i (freeSlot 0) ≡ freeSlot (queuedNext slots (suc i))
+unfolding queue
+getD-queue slots i h = getD-tabulate slots (λ i. freeSlot (queuedNext slots (suc i))) i (freeSlot 0) h
+
+length-free : (n : ℕ) → length (slotBytes (freeSlot n)) ≡ slotSize
+unfolding slotBytes
+length-free n = simp (length-append, length-be, length-zeros)
+
+pub queue-sizes : (slots i : ℕ) → length (slotBytes (getD (queue slots) i (freeSlot 0))) ≡ slotSize
+unfolding queue
+queue-sizes slots = every-tabulate (λ (s : Slot). length (slotBytes s) ≡ slotSize) slots (λ i. freeSlot (queuedNext slots (suc i))) (freeSlot 0) (length-free 0) (λ i h. length-free (queuedNext slots (suc i)))
+
+pub fresh-sizes : (logs i : ℕ) → length (rowBytes (getD (replicate logs freshRow) i freshRow)) ≡ rowSize
+fresh-sizes logs i = length-rowBytes (getD (replicate logs freshRow) i freshRow)
+
+-- the two loops
+
+pub rows-turn : (logs : ℕ) (o b y : List ℕ) (g : ℕ) → g < logs → length o ≡ rowSize * logs → b ≡ splice o 0 (flat rowBytes (take g (replicate logs freshRow))) → y ≡ rowBytes freshRow
+    → putMid (rowSize * g) (rowSize * g + rowSize - rowSize * g) b y ≡ splice o 0 (flat rowBytes (take (g + 1) (replicate logs freshRow)))
+rows-turn logs o b y g h z w e =
+    let l : length (replicate logs freshRow) ≡ logs = length-replicate logs freshRow in
+    fill-turn rowBytes rowSize freshRow (replicate logs freshRow) (fresh-sizes logs) (length-rowBytes freshRow) o b y g (omega arith) (z ∙ ap (λ (k : ℕ). rowSize * k) (sym l)) w
+    (e ∙ ap rowBytes (sym (getD-replicate logs g freshRow freshRow h)))
+
+pub rows-length : (logs : ℕ) (o b : List ℕ) (g : ℕ) → g < logs → length o ≡ rowSize * logs → b ≡ splice o 0 (flat rowBytes (take (g + 1) (replicate logs freshRow))) → length b ≡ length o
+rows-length logs o b g h z w =
+    let l : length (replicate logs freshRow) ≡ logs = length-replicate logs freshRow in
+    fill-length rowBytes rowSize freshRow (replicate logs freshRow) (fresh-sizes logs) (length-rowBytes freshRow) o b (g + 1) (omega arith) (z ∙ ap (λ (k : ℕ). rowSize * k) (sym l)) w
+
+pub rows-done : (logs : ℕ) (o b : List ℕ) (g : ℕ) → logs ≤ g → g ≤ logs → length o ≡ rowSize * logs → b ≡ splice o 0 (flat rowBytes (take g (replicate logs freshRow))) → b ≡ flat rowBytes (replicate logs freshRow)
+rows-done logs o b g h k z w =
+    let l : length (replicate logs freshRow) ≡ logs = length-replicate logs freshRow in
+    fill-done rowBytes rowSize freshRow (replicate logs freshRow) (fresh-sizes logs) (length-rowBytes freshRow) o b g (omega arith) (omega arith) (z ∙ ap (λ (k : ℕ). rowSize * k) (sym l)) w
+
+pub rows-none : (logs : ℕ) (o : List ℕ) → o ≡ splice o 0 (flat rowBytes (take 0 (replicate logs freshRow)))
+rows-none logs o = fill-none rowBytes rowSize freshRow (replicate logs freshRow) (fresh-sizes logs) (length-rowBytes freshRow) o
+
+pub slots-turn : (slots : ℕ) (o b y : List ℕ) (i next : ℕ) → i < slots → length o ≡ slotSize * slots → b ≡ splice o 0 (flat slotBytes (take i (queue slots))) → next ≡ queuedNext slots (i + 1) → y ≡ slotBytes (freeSlot next)
+    → putMid (slotSize * i) (slotSize * i + slotSize - slotSize * i) b y ≡ splice o 0 (flat slotBytes (take (i + 1) (queue slots)))
+slots-turn slots o b y i next h z w q e =
+    let l : length (queue slots) ≡ slots = length-queue slots in
+    fill-turn slotBytes slotSize (freeSlot 0) (queue slots) (queue-sizes slots) (length-free 0) o b y i (omega arith) (z ∙ ap (λ (k : ℕ). slotSize * k) (sym l)) w
+    (e ∙ ap (λ (n : ℕ). slotBytes (freeSlot n)) (q ∙ ap (queuedNext slots) (add-one i)) ∙ ap slotBytes (sym (getD-queue slots i h)))
+
+pub slots-length : (slots : ℕ) (o b : List ℕ) (i : ℕ) → i < slots → length o ≡ slotSize * slots → b ≡ splice o 0 (flat slotBytes (take (i + 1) (queue slots))) → length b ≡ length o
+slots-length slots o b i h z w =
+    let l : length (queue slots) ≡ slots = length-queue slots in
+    fill-length slotBytes slotSize (freeSlot 0) (queue slots) (queue-sizes slots) (length-free 0) o b (i + 1) (omega arith) (z ∙ ap (λ (k : ℕ). slotSize * k) (sym l)) w
+
+pub slots-done : (slots : ℕ) (o b : List ℕ) (i : ℕ) → slots ≤ i → i ≤ slots → length o ≡ slotSize * slots → b ≡ splice o 0 (flat slotBytes (take i (queue slots))) → b ≡ flat slotBytes (queue slots)
+slots-done slots o b i h k z w =
+    let l : length (queue slots) ≡ slots = length-queue slots in
+    fill-done slotBytes slotSize (freeSlot 0) (queue slots) (queue-sizes slots) (length-free 0) o b i (omega arith) (omega arith) (z ∙ ap (λ (k : ℕ). slotSize * k) (sym l)) w
+
+pub slots-none : (slots : ℕ) (o : List ℕ) → o ≡ splice o 0 (flat slotBytes (take 0 (queue slots)))
+slots-none slots o = fill-none slotBytes slotSize (freeSlot 0) (queue slots) (queue-sizes slots) (length-free 0) o
+
+-- the slot after s
+pub next-queued : (slots s : ℕ) → s < slots → s + 1 ≡ queuedNext slots s
+unfolding queuedNext
+next-queued slots s h = add-one s ∙ sym (ap (λ (t : Bool). cond t (suc s) 0) (lt-ltb s slots h))
+
+pub none-queued : (slots s : ℕ) → slots ≤ s → 0 ≡ queuedNext slots s
+unfolding queuedNext
+none-queued slots s h = sym (ap (λ (t : Bool). cond t (suc s) 0) (le-ltb s slots h))
+
+-- header, rows and slots, written one after the other
+pub three : (o h r s : List ℕ) (logs slots keeper : ℕ) (key : List ℕ) → length o ≡ tableSize logs slots → length key ≡ 32
+    → h ≡ headerBytes logs slots keeper 1 key → r ≡ flat rowBytes (replicate logs freshRow) → s ≡ flat slotBytes (queue slots)
+    → putMid (rowOffset logs) (tableSize logs slots - rowOffset logs) (putMid headerSize (rowOffset logs - headerSize) (putMid 0 headerSize o h) r) s ≡ writeTable (formatted logs slots keeper key)
+unfolding writeTable formatted
+three o h r s logs slots keeper key e k eh er es =
+    let H : List ℕ = headerBytes logs slots keeper 1 key in
+    let R : List ℕ = flat rowBytes (replicate logs freshRow) in
+    let S : List ℕ = flat slotBytes (queue slots) in
+    let o₁ : List ℕ = putMid 0 headerSize o h in
+    let o₂ : List ℕ = putMid headerSize (rowOffset logs - headerSize) o₁ r in
+    let lh : length H ≡ headerSize = length-headerBytes logs slots keeper 1 key k in
+    let lr : length R ≡ rowSize * logs = length-flat rowBytes rowSize freshRow (replicate logs freshRow) (fresh-sizes logs) ∙ ap (λ (n : ℕ). rowSize * n) (length-replicate logs freshRow) in
+    let ls : length S ≡ slotSize * slots = length-flat slotBytes slotSize (freeSlot 0) (queue slots) (queue-sizes slots) ∙ ap (λ (n : ℕ). slotSize * n) (length-queue slots) in
+    let w₁ : o₁ ≡ splice o 0 H = put-back o h H 0 headerSize eh lh in
+    let w₂ : o₂ ≡ splice o 0 (H ++ R) = splice-then o H R headerSize w₁ lh (omega arith) (put-back o₁ r R headerSize (rowSize * logs) er lr) in
+    let l₂ : length (H ++ R) ≡ rowOffset logs = length-append H R ∙ omega arith in
+    let w₃ : putMid (rowOffset logs) (tableSize logs slots - rowOffset logs) o₂ s ≡ splice o 0 ((H ++ R) ++ S) =
+    splice-then o (H ++ R) S (rowOffset logs) w₂ l₂ (omega arith) (put-back o₂ s S (rowOffset logs) (slotSize * slots) es ls) in
+    w₃
+    ∙ splice-whole o ((H ++ R) ++ S) (length-append (H ++ R) S ∙ omega arith)
+    ∙ append-assoc H R S
+    ∙ ap₂ (λ (g n : ℕ). headerBytes g n keeper 1 key ++ (R ++ S)) (sym (length-replicate logs freshRow)) (sym (length-queue slots))

@@ -1,0 +1,14 @@
+pub mod TestLaws
+pub mod BlankLaws
+pub mod WalkLaws
+pub mod RunLaws
+pub mod TurnLaws
+pub mod HeldLaws
+pub mod HeaderLaws
+pub mod CheckLaws
+pub mod FillLaws
+pub mod FormatLaws
+pub mod LinkLaws
+pub mod ConditionLaws
+pub mod WholeLaws
+pub mod FormattedLaws

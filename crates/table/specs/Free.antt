@@ -1,0 +1,35 @@
+-- The free policy, which document 01 leaves open: the free chain is a queue. The first is taken, freed slots join at its end, and formatting queues 1 to S.
+use Prim.Native.Nat.{ℕ, zero, suc}
+use mathlib.Core.List.{List, [], _∷_}
+use mathlib.Core.Bool.{cond}
+use lib.Dec.{ltb}
+use Rattle.layout.specs.Image.{Image, Slot, slotAt, freeSlot}
+use Rattle.layout.specs.Lists.{tabulate}
+use Rattle.table.specs.Chains.{chain, lastOf}
+
+-- the free slots, the first to be taken in front
+abbrev pub freeChain : Image → List ℕ
+freeChain m = chain (m .slots) 0 (m .free)
+
+-- the slot that is taken, and the first free slot after that
+abbrev pub taken : Image → ℕ
+taken m = m .free
+
+abbrev pub afterTaken : Image → ℕ
+afterTaken m = slotAt (m .slots) (taken m) .next
+
+-- the slot behind which freed slots join; 0 where none is free
+abbrev pub joint : Image → ℕ
+joint m = lastOf (freeChain m)
+
+-- k numbers from s on
+unfoldable pub countUp : ℕ → ℕ → List ℕ
+countUp s zero = []
+countUp s (suc k) = s ∷ countUp (suc s) k
+
+-- formatting queues 1 to S: the slot after s
+unfoldable pub queuedNext : ℕ → ℕ → ℕ
+queuedNext slots s = cond (ltb s slots) (suc s) 0
+
+unfoldable pub queue : ℕ → List Slot
+queue slots = tabulate slots (λ i. freeSlot (queuedNext slots (suc i)))
