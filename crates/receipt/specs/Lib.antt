@@ -1,1 +1,5 @@
+pub mod Answer
 pub mod Attestation
+pub mod Possible
+pub mod Writer
+pub mod Verdict

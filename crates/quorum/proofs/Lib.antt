@@ -1,0 +1,6 @@
+pub mod Certificates
+pub mod Good
+pub mod Masks
+pub mod RosterLaws
+pub mod StationLaws
+pub mod Tallies

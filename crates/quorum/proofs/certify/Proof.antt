@@ -1,0 +1,61 @@
+-- `quorum::certify` meets its contract. Assumes nothing.
+use Rattle.quorum.specs.Tally.{firstIn}
+use Rattle.quorum.specs.Certificate.{receiptCount}
+use Rattle.quorum.specs.Roster.{size}
+use Rattle.quorum.proofs.Tallies.{other-nonce, no-roster, not-whole, too-many-receipts, is-certificate, codes-bounded, by-codes}
+use Rattle.quorum.proofs.RosterLaws.{roster-most}
+use borrow.Author.Tests.{not-true, not-false}
+use mathlib.Core.Path.{sym, ap, _∙_}
+use native.Mathlib.Omega.{arith}
+use lib.ListN.{length}
+use Prim.Native.Nat.{ℕ, _/_}
+use borrow.Author.Needs.{needs}
+use Rattle.quorum.proofs.certify.Statement.{statement}
+use Rattle.quorum.proofs.certify.Tie as tie
+
+returns : tie.Need-returns
+returns c = other-nonce (c .before .before .before .before .args .roster .now) (c .before .before .before .before .args .nonce .now) (c .before .before .before .before .args .log) (c .before .before .before .before .args .position) (c .before .before .before .before .args .cert .now) (c .if1 .taken)
+
+is-roster-requires : tie.Need-is-roster-requires
+is-roster-requires c κs = search needs
+
+returns-2 : tie.Need-returns-2
+returns-2 c = no-roster (c .before .before .before .before .before .before .args .roster .now) (c .before .before .before .before .before .before .args .nonce .now) (c .before .before .before .before .before .before .args .log) (c .before .before .before .before .before .before .args .position) (c .before .before .before .before .before .before .args .cert .now) (c .before .before .if1 .left) (sym (c .before .is-roster .ensures) ∙ not-true _ (c .if2 .taken))
+
+returns-3 : tie.Need-returns-3
+returns-3 c = not-whole (c .before .before .before .before .before .before .before .args .roster .now) (c .before .before .before .before .before .before .before .args .nonce .now) (c .before .before .before .before .before .before .before .args .log) (c .before .before .before .before .before .before .before .args .position) (c .before .before .before .before .before .before .before .args .cert .now) (c .before .before .before .if1 .left) (sym (c .before .before .is-roster .ensures) ∙ not-false _ (c .before .if2 .left)) (c .if3 .taken)
+
+returns-4 : tie.Need-returns-4
+returns-4 c = too-many-receipts (c .before .before .before .before .before .before .before .before .args .roster .now) (c .before .before .before .before .before .before .before .before .args .nonce .now) (c .before .before .before .before .before .before .before .before .args .log) (c .before .before .before .before .before .before .before .before .args .position) (c .before .before .before .before .before .before .before .before .args .cert .now) (c .before .before .before .before .if1 .left) (sym (c .before .before .before .is-roster .ensures) ∙ not-false _ (c .before .before .if2 .left)) (c .before .if3 .left) (c .if4 .taken)
+
+majority-requires : tie.Need-majority-requires
+unfolding size
+majority-requires c κs = let m = roster-most (c .before .before .before .before .before .before .before .before .args .roster .now) (sym (c .before .before .before .is-roster .ensures) ∙ not-false _ (c .before .before .if2 .left)) in omega arith
+
+tally-of-requires : tie.Need-tally-of-requires
+tally-of-requires c κs = let m = roster-most (c .before .before .before .before .before .before .before .before .before .args .roster .now) (sym (c .before .before .before .before .is-roster .ensures) ∙ not-false _ (c .before .before .before .if2 .left)) in (omega (arith, c .before .before .if3 .left), (c .before .if4 .left, omega arith))
+
+slice-aggregate-first-place : tie.Need-slice-aggregate-first-place
+slice-aggregate-first-place c = search needs
+
+first-place-requires : tie.Need-first-place-requires
+first-place-requires c κs = let m = roster-most (c .before .before .before .before .before .before .before .before .before .before .before .before .args .roster .now) (sym (c .before .before .before .before .before .before .before .is-roster .ensures) ∙ not-false _ (c .before .before .before .before .before .before .if2 .left)) in ((omega (arith, c .before .before .tally-of .ensures .0, c .before .before .before .before .if4 .left), omega (arith, c .before .before .before .before .before .if3 .left)), codes-bounded (c .before .before .before .before .before .before .before .before .before .before .before .before .args .roster .now) (c .before .before .before .before .before .before .before .before .before .before .before .before .args .nonce .now) (c .before .before .before .before .before .before .before .before .before .before .before .before .args .log) (c .before .before .before .before .before .before .before .before .before .before .before .before .args .position) (c .before .before .before .before .before .before .before .before .before .before .before .before .args .cert .now) (c .before .before .tally-of .result .codes) (length (c .before .before .before .before .before .before .before .before .before .before .before .before .args .cert .now) / 160) (omega arith) (c .before .before .tally-of .ensures .1))
+
+returns-5 : tie.Need-returns-5
+unfolding size receiptCount
+returns-5 c = c .first-place .ensures ∙ ap (λ (k : ℕ). firstIn (c .before .before .before .tally-of .result .codes) (c .before .before .before .before .before .before .before .before .before .before .before .before .before .args .cert .now) k (length (c .before .before .before .before .before .before .before .before .before .before .before .before .before .args .cert .now) / 160) (length (c .before .before .before .before .before .before .before .before .before .before .before .before .before .args .cert .now) / 160) 0) (c .before .before .before .before .majority .ensures) ∙ by-codes (c .before .before .before .before .before .before .before .before .before .before .before .before .before .args .roster .now) (c .before .before .before .before .before .before .before .before .before .before .before .before .before .args .nonce .now) (c .before .before .before .before .before .before .before .before .before .before .before .before .before .args .log) (c .before .before .before .before .before .before .before .before .before .before .before .before .before .args .position) (c .before .before .before .before .before .before .before .before .before .before .before .before .before .args .cert .now) (c .before .before .before .before .before .before .before .before .before .if1 .left) (sym (c .before .before .before .before .before .before .before .before .is-roster .ensures) ∙ not-false _ (c .before .before .before .before .before .before .before .if2 .left)) (c .before .before .before .tally-of .result .codes) (is-certificate (c .before .before .before .before .before .before .before .before .before .before .before .before .before .args .roster .now) (c .before .before .before .before .before .before .before .before .before .before .before .before .before .args .nonce .now) (c .before .before .before .before .before .before .before .before .before .before .before .before .before .args .log) (c .before .before .before .before .before .before .before .before .before .before .before .before .before .args .position) (c .before .before .before .before .before .before .before .before .before .before .before .before .before .args .cert .now) (c .before .before .before .before .before .before .if3 .left) (c .before .before .before .before .before .if4 .left)) (c .before .before .before .tally-of .ensures .1)
+
+pub certify-spec : {M : Type 1} → statement M
+certify-spec =
+    tie.close
+    (tie.spec
+    returns
+    is-roster-requires
+    returns-2
+    returns-3
+    returns-4
+    majority-requires
+    tally-of-requires
+    slice-aggregate-first-place
+    first-place-requires
+    returns-5)

@@ -1,0 +1,50 @@
+-- `quorum::members::are_distinct` meets its contract. Assumes nothing.
+use Rattle.quorum.proofs.RosterLaws.{repeated, new, all}
+use Rattle.quorum.specs.Roster.{distinct}
+use borrow.Author.Tests.{not-true, not-false}
+use Prim.Native.Nat.{_≤_}
+use native.Mathlib.Omega.{arith}
+use mathlib.Core.Path.{_≡_, refl, sym, _∙_}
+use Rattle.quorum.proofs.members.are_distinct.Statement.{statement}
+use Rattle.quorum.proofs.members.are_distinct.Tie as tie
+
+abbrev Inv-loop : tie.InvT-loop
+Inv-loop roster n i₀ i = (i ≤ n) × (distinct roster n ≡ distinct roster i)
+
+abbrev μ-loop : tie.MeasureT-loop
+μ-loop roster n i₀ i = i
+
+loop-holds : tie.Need-loop-holds Inv-loop μ-loop
+loop-holds c = (omega arith, refl)
+
+sub-i : tie.Need-sub-i Inv-loop μ-loop
+sub-i c = omega arith
+
+is-new-requires : tie.Need-is-new-requires Inv-loop μ-loop
+is-new-requires c κs = omega arith
+
+returns : tie.Need-returns Inv-loop μ-loop
+returns c = repeated (c .before .before .before .before .before .args .roster .now) (c .before .before .before .before .before .args .n) (c .before .before .before .loop .i) (c .before .before .loop-test .taken) (c .before .before .before .loop .inv .1) (sym (c .before .is-new .ensures) ∙ not-true _ (c .if1 .taken))
+
+loop-less : tie.Need-loop-less Inv-loop μ-loop
+loop-less c = omega arith
+
+loop-again : tie.Need-loop-again Inv-loop μ-loop
+loop-again c = (omega arith, c .before .before .before .loop .inv .1 ∙ new (c .before .before .before .before .before .args .roster .now) (c .before .before .before .loop .i) (c .before .before .loop-test .taken) (sym (c .before .is-new .ensures) ∙ not-false _ (c .if1 .left)))
+
+returns-2 : tie.Need-returns-2 Inv-loop μ-loop
+returns-2 c = all (c .before .before .before .args .roster .now) (c .before .before .before .args .n) (c .before .loop .i) (c .loop-test .left) (c .before .loop .inv .1)
+
+pub are-distinct-spec : {M : Type 1} → statement M
+are-distinct-spec =
+    tie.close
+    (tie.spec
+    Inv-loop
+    μ-loop
+    loop-holds
+    sub-i
+    is-new-requires
+    returns
+    loop-less
+    loop-again
+    returns-2)

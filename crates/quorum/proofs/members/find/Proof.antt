@@ -1,0 +1,56 @@
+-- `quorum::members::find` meets its contract. Assumes nothing.
+use Rattle.quorum.proofs.RosterLaws.{found, below, none}
+use Rattle.quorum.specs.Tally.{member}
+use Rattle.quorum.specs.Roster.{keeperAt}
+use Prim.Native.Nat.{_≤_}
+use native.Mathlib.Omega.{arith}
+use mathlib.Core.Path.{_≡_, refl, sym, _∙_}
+use Rattle.quorum.proofs.members.find.Statement.{statement}
+use Rattle.quorum.proofs.members.find.Tie as tie
+
+abbrev Inv-loop : tie.InvT-loop
+Inv-loop roster n keeper i₀ i = (i ≤ n) × (member roster keeper n ≡ member roster keeper i)
+
+abbrev μ-loop : tie.MeasureT-loop
+μ-loop roster n keeper i₀ i = i
+
+loop-holds : tie.Need-loop-holds Inv-loop μ-loop
+loop-holds c = (omega arith, refl)
+
+sub-i : tie.Need-sub-i Inv-loop μ-loop
+sub-i c = omega arith
+
+mul-get-u64 : tie.Need-mul-get-u64 Inv-loop μ-loop
+mul-get-u64 c = omega arith
+
+get-u64-requires : tie.Need-get-u64-requires Inv-loop μ-loop
+get-u64-requires c κs = omega arith
+
+returns : tie.Need-returns Inv-loop μ-loop
+unfolding keeperAt
+returns c = found (c .before .before .before .before .before .args .roster .now) (c .before .before .before .before .before .args .keeper) (c .before .before .before .before .before .args .n) (c .before .before .before .loop .i) (c .before .before .loop-test .taken) (c .before .before .before .loop .inv .1) (sym (c .before .get-u64 .ensures) ∙ c .if1 .taken)
+
+loop-less : tie.Need-loop-less Inv-loop μ-loop
+loop-less c = omega arith
+
+loop-again : tie.Need-loop-again Inv-loop μ-loop
+unfolding keeperAt
+loop-again c = (omega arith, c .before .before .before .loop .inv .1 ∙ below (c .before .before .before .before .before .args .roster .now) (c .before .before .before .before .before .args .keeper) (c .before .before .before .loop .i) (c .before .before .loop-test .taken) (λ e. c .if1 .left (c .before .get-u64 .ensures ∙ e)))
+
+returns-2 : tie.Need-returns-2 Inv-loop μ-loop
+returns-2 c = none (c .before .before .before .args .roster .now) (c .before .before .before .args .keeper) (c .before .before .before .args .n) (c .before .loop .i) (c .loop-test .left) (c .before .loop .inv .1)
+
+pub find-spec : {M : Type 1} → statement M
+find-spec =
+    tie.close
+    (tie.spec
+    Inv-loop
+    μ-loop
+    loop-holds
+    sub-i
+    mul-get-u64
+    get-u64-requires
+    returns
+    loop-less
+    loop-again
+    returns-2)

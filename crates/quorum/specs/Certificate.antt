@@ -1,0 +1,129 @@
+-- Document 01, "Certificates": good receipts, the members whose good receipts show a pair, and the verdict.
+use Prim.Native.Nat.{ℕ, zero, suc, _+_, _*_, _/_, _%_, _^_, _<_}
+use mathlib.Core.Path.{_≡_}
+use mathlib.Core.Logic.{_↔_}
+use mathlib.Core.Bool.{Bool, true, false, not, _&&_, _||_, cond}
+use mathlib.Core.List.{List, [], _∷_}
+use mathlib.Core.Option.{Option, none, some}
+use lib.ListN.{length}
+use lib.Dec.{eqb, leb}
+use Rattle.octets.specs.Octets.{part, same}
+use Rattle.refusal.specs.Number.{numberOf}
+use Rattle.refusal.specs.Order.{fault, firstFault}
+use Rattle.receipt.specs.Answer.{Answer, answer, answerWith}
+use Rattle.receipt.specs.Attestation.{readAttestation}
+use Rattle.receipt.specs.Verdict.{verdict}
+use Rattle.receipt.specs.declared.Ask.the-variants.{Lookup}
+use Rattle.receipt.specs.declared.Question.{Question}
+use Rattle.quorum.specs.Bits.{countBelow, anyBelow, maskBelow}
+use Rattle.quorum.specs.Roster.{size, keeperAt, keyAt, isRoster, majority}
+use Rattle.quorum.specs.declared.Station.{Station}
+use Rattle.quorum.specs.declared.Station.the-variants.{Certified, Refused}
+
+-- number and values of each verdict: one that stands carries "the first good receipt" and "the members"
+abbrev pub stationAnswer : Station → Answer
+stationAnswer (Certified place mask) = answer 0 (place ∷ mask ∷ [])
+stationAnswer (Refused why) = answer (numberOf why) []
+
+-- the number of receipts in a certificate
+unfoldable pub receiptCount : List ℕ → ℕ
+receiptCount cert = length cert / 160
+
+-- "A certificate is 0 to 32 receipts on end"
+unfoldable pub isCertificate : List ℕ → Bool
+isCertificate cert = eqb (length cert % 160) 0 && leb (receiptCount cert) 32
+
+-- the receipt at a place: "Places of receipts count from 0 too"
+unfoldable pub receiptAt : List ℕ → ℕ → List ℕ
+receiptAt cert p = part cert (p * 160) 160
+
+-- its value and digest, "64–95 value; 96–127 digest"
+unfoldable pub pairAt : List ℕ → ℕ → List ℕ
+pairAt cert p = part cert (p * 160 + 64) 64
+
+-- no place was found
+abbrev pub isNone : Option ℕ → Bool
+isNone none = true
+isNone (some p) = false
+
+module _ (roster nonce : List ℕ) (log position : ℕ) where
+  -- the question to member i: "The question is log, position and nonce"
+  abbrev pub askedOf : ℕ → Question
+  askedOf i = record { keeper = keeperAt roster i; log = log; ask = Lookup position }
+
+  -- "A receipt is good if the verifier accepts it for a LOOKUP by a roster member and its kind is assigned": by member i
+  unfoldable pub goodBy : List ℕ → ℕ → Bool
+  goodBy r i = eqb (verdict (keyAt roster i) r nonce (askedOf i) .number) 0 && eqb (readAttestation r .kind) 1
+
+  module _ (cert : List ℕ) where
+    -- whether one of the first k receipts is good by member i and shows the pair v
+    unfoldable pub showsIn : ℕ → List ℕ → ℕ → Bool
+    showsIn zero v i = false
+    showsIn (suc k) v i = showsIn k v i || (goodBy (receiptAt cert k) i && same (pairAt cert k) v)
+
+    -- the members whose good receipts show the pair v
+    unfoldable pub shows : List ℕ → ℕ → Bool
+    shows v i = showsIn (receiptCount cert) v i
+
+    -- "A value and digest are certified when (N + 1)/2 distinct members have good receipts showing both": k members are needed
+    unfoldable pub certified : ℕ → List ℕ → Bool
+    certified k v = leb k (countBelow (size roster) (shows v))
+
+    -- a good receipt stands at place p
+    unfoldable pub goodAt : ℕ → Bool
+    goodAt p = anyBelow (size roster) (goodBy (receiptAt cert p))
+
+    -- of j places from p on, "the first good receipt in order whose pair is certified"
+    unfoldable pub firstOf : ℕ → ℕ → ℕ → Option ℕ
+    firstOf k zero p = none
+    firstOf k (suc j) p = cond (goodAt p && certified k (pairAt cert p)) (some p) (firstOf k j (suc p))
+
+    -- the place that a certificate's verdict names
+    unfoldable pub firstPlace : Option ℕ
+    firstPlace = firstOf (majority (size roster)) (receiptCount cert) 0
+
+    -- the values of a verdict: the place, "and the members whose good receipts show that pair"
+    unfoldable pub named : Option ℕ → List ℕ
+    named none = []
+    named (some p) = p ∷ maskBelow (size roster) (shows (pairAt cert p)) ∷ []
+
+    -- "certificate 7, 12, 9, 13"
+    unfoldable pub certificateRefusal : Option ℕ
+    certificateRefusal =
+        firstFault
+        (fault 7 (not (eqb (length nonce) 32)) ∷
+        fault 12 (not (isRoster roster)) ∷
+        fault 9 (not (isCertificate cert)) ∷
+        fault 13 (isNone firstPlace) ∷ [])
+
+    -- the verdict
+    unfoldable pub certificate : Answer
+    certificate = answerWith certificateRefusal (named firstPlace)
+
+-- what is asked before the receipts are looked at
+pub record Admitted (r n c : List ℕ) : Type 0 where
+  pub nonce : length n ≡ 32
+  pub roster : isRoster r ≡ true
+  pub receipts : isCertificate c ≡ true
+
+-- member i has a good receipt that shows the pair v: at place q
+pub record Shows (roster nonce : List ℕ) (log position : ℕ) (cert v : List ℕ) (i q : ℕ) : Type 0 where
+  pub place : q < receiptCount cert
+  pub good : goodBy roster nonce log position (receiptAt cert q) i ≡ true
+  pub pair : pairAt cert q ≡ v
+
+-- "The verdict names the first good receipt in order whose pair is certified, and the members whose good receipts show that
+-- pair": bit i of the mask for roster item i, and no bit beyond the roster
+pub record Named (roster nonce : List ℕ) (log position : ℕ) (cert : List ℕ) (place mask : ℕ) : Type 0 where
+  pub within : place < receiptCount cert
+  pub good : goodAt roster nonce log position cert place ≡ true
+  pub enough : certified roster nonce log position cert (majority (size roster)) (pairAt cert place) ≡ true
+  pub first : (q : ℕ) → q < place → goodAt roster nonce log position cert q && certified roster nonce log position cert (majority (size roster)) (pairAt cert q) ≡ false
+  pub members : (i : ℕ) → i < size roster → mask / 2 ^ i % 2 ≡ 1 ↔ ((q : ℕ) × Shows roster nonce log position cert (pairAt cert place) i q)
+  pub none-else : mask < 2 ^ size roster
+
+-- "no member has good receipts with different pairs"
+abbrev pub Consistent : List ℕ → List ℕ → ℕ → ℕ → List ℕ → Type 0
+Consistent roster nonce log position cert =
+    (i q r : ℕ) → i < size roster → q < receiptCount cert → r < receiptCount cert
+    → goodBy roster nonce log position (receiptAt cert q) i ≡ true → goodBy roster nonce log position (receiptAt cert r) i ≡ true → pairAt cert q ≡ pairAt cert r

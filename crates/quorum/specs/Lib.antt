@@ -1,0 +1,4 @@
+pub mod Bits
+pub mod Roster
+pub mod Certificate
+pub mod Tally

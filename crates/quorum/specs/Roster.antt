@@ -1,0 +1,46 @@
+-- Document 01: "A roster is N items of 40 bytes (keeper number 8, key 32), N odd, 1 to 31, keeper numbers distinct."
+use Prim.Native.Nat.{ℕ, zero, suc, _+_, _*_, _/_, _%_, _≤_, _<_}
+use mathlib.Core.Path.{_≡_}
+use mathlib.Core.Bool.{Bool, true, not, _&&_}
+use mathlib.Core.List.{List}
+use lib.ListN.{length}
+use lib.Dec.{eqb, leb}
+use Rattle.bigendian.specs.BigEndian.{unbe}
+use Rattle.octets.specs.Octets.{part}
+
+-- N
+unfoldable pub size : List ℕ → ℕ
+size roster = length roster / 40
+
+-- item i's keeper number
+unfoldable pub keeperAt : List ℕ → ℕ → ℕ
+keeperAt roster i = unbe (part roster (i * 40) 8)
+
+-- item i's key
+unfoldable pub keyAt : List ℕ → ℕ → List ℕ
+keyAt roster i = part roster (i * 40 + 8) 32
+
+-- none of the first n items has the keeper number x
+unfoldable pub absent : List ℕ → ℕ → ℕ → Bool
+absent roster x zero = true
+absent roster x (suc n) = not (eqb (keeperAt roster n) x) && absent roster x n
+
+-- the first n keeper numbers are distinct
+unfoldable pub distinct : List ℕ → ℕ → Bool
+distinct roster zero = true
+distinct roster (suc n) = absent roster (keeperAt roster n) n && distinct roster n
+
+-- the test
+unfoldable pub isRoster : List ℕ → Bool
+isRoster roster = eqb (length roster % 40) 0 && (eqb (size roster % 2) 1 && (leb (size roster) 31 && distinct roster (size roster)))
+
+-- the same as conditions; proofs/RosterLaws shows that they agree
+pub record IsRoster (roster : List ℕ) : Type 0 where
+  pub items : length roster % 40 ≡ 0
+  pub odd : size roster % 2 ≡ 1
+  pub most : size roster ≤ 31
+  pub distinct : (i j : ℕ) → i < size roster → j < size roster → keeperAt roster i ≡ keeperAt roster j → i ≡ j
+
+-- "(N + 1)/2": the members needed of n
+unfoldable pub majority : ℕ → ℕ
+majority n = (n + 1) / 2

@@ -1,0 +1,78 @@
+// The tally of a certificate: each receipt is verified once.
+ghost use mathlib.Core.Path.{_≡_};
+ghost use Prim.Native.Nat.{_*_, _≤_, _<_};
+ghost use lib.ListN.{length};
+ghost use Rattle.quorum.specs.Roster.{size};
+ghost use Rattle.quorum.specs.Tally.{goodMember, noted, Codes};
+use super::Found;
+use super::Tally;
+use super::members::find;
+use bigendian::get_u64;
+use receipt::Ask;
+use receipt::Question;
+use receipt::Verdict;
+use receipt::verify;
+
+// The tally with the receipt r, of place p, in it. The verifier's answer is taken apart: a good receipt's member is noted at
+// its place, and a receipt that does not check leaves the tally as it is.
+fn count_receipt(
+    tally: Tally,
+    p: usize,
+    roster: &[u8],
+    nonce: &[u8],
+    log: u64,
+    position: u64,
+    r: &[u8],
+) -> Tally
+    requires { ⌜ (p < 32) × ((length (now r) ≡ 160) × (size (now roster) ≤ 32)) ⌝ }
+    ensures { λ t. ⌜ t .codes ≡ noted (tally .codes) p (goodMember (now (roster .entry)) (now (nonce .entry)) log position (now (r .entry))) ⌝ }
+{
+    let keeper = get_u64(r, 8);
+    let n = roster.len() / 40;
+    let Found::At(i) = find(roster, n, keeper) else {
+        return tally;
+    };
+    let at = i * 40 + 8;
+    let end = at + 32;
+    let ask = Ask::Lookup(position);
+    let q = Question { keeper, log, ask };
+    let Verdict::Accepted {
+        keeper: _,
+        log: _,
+        position: _,
+        kind,
+        reference: _,
+    } = verify(&roster[at..end], r, nonce, q)
+    else {
+        return tally;
+    };
+    if kind != 1 {
+        return tally;
+    }
+    let mut codes = tally.codes;
+    codes[p] = (i + 1) as u8;
+    Tally { codes }
+}
+
+// The tally of all receipts.
+pub fn tally_of(
+    roster: &[u8],
+    nonce: &[u8],
+    log: u64,
+    position: u64,
+    cert: &[u8],
+    count: usize,
+) -> Tally
+    requires { ⌜ (count * 160 ≤ length (now cert)) × ((count ≤ 32) × (size (now roster) ≤ 32)) ⌝ }
+    ensures { λ r. ⌜ (length (r .codes) ≡ 32) × Codes (now (roster .entry)) (now (nonce .entry)) log position (now (cert .entry)) count (r .codes) ⌝ }
+{
+    let mut tally = Tally { codes: [0u8; 32] };
+    let mut p = 0;
+    while p < count {
+        let at = p * 160;
+        let end = at + 160;
+        tally = count_receipt(tally, p, roster, nonce, log, position, &cert[at..end]);
+        p += 1;
+    }
+    tally
+}

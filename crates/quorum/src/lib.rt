@@ -1,0 +1,60 @@
+// Station certificates (document 01, "Certificates").
+mod counting;
+mod members;
+mod places;
+
+ghost use mathlib.Core.Path.{_≡_};
+ghost use Rattle.quorum.specs.Certificate.{certificate, stationAnswer};
+use counting::tally_of;
+use members::is_roster;
+use members::majority;
+use places::first_place;
+use refusal::Refusal;
+
+// The verdict on a certificate: the place of the first good receipt whose pair is certified and the members that show the
+// pair, one bit each; or a refusal.
+pub enum Station {
+    Certified { place: usize, mask: u32 },
+    Refused(Refusal),
+}
+
+// A roster's item, or none.
+pub enum Found {
+    At(usize),
+    Nothing,
+}
+
+// A byte for each place: 0 for a receipt that is not good, else its member's number + 1.
+pub struct Tally {
+    pub codes: [u8; 32],
+}
+
+// Whether the pair of a place is certified, with the mask of the members that show it.
+pub enum Tried {
+    Stands(u32),
+    Fails,
+}
+
+// The verdict on a certificate. Refused with 7: a nonce of another length than 32; 12: no roster; 9: not 0 to 32 whole
+// receipts; 13: no pair is certified.
+pub fn certify(roster: &[u8], nonce: &[u8], log: u64, position: u64, cert: &[u8]) -> Station
+    ensures { λ r. ⌜ stationAnswer r ≡ certificate (now (roster .entry)) (now (nonce .entry)) log position (now (cert .entry)) ⌝ }
+{
+    if nonce.len() != 32 {
+        return Station::Refused(Refusal::Length);
+    }
+    if !is_roster(roster) {
+        return Station::Refused(Refusal::Roster);
+    }
+    if cert.len() % 160 != 0 {
+        return Station::Refused(Refusal::NoReceipt);
+    }
+    let count = cert.len() / 160;
+    if 32 < count {
+        return Station::Refused(Refusal::NoReceipt);
+    }
+    let need = majority(roster.len() / 40);
+    let tally = tally_of(roster, nonce, log, position, cert, count);
+    let codes = tally.codes;
+    first_place(&codes, cert, need, count)
+}

@@ -1,0 +1,145 @@
+-- The tests of a receipt, case by case: one law for each `return` of the code.
+use mathlib.Core.Path.{_≡_, refl}
+use Prim.Native.Nat.{ℕ, _≤_, _<_}
+use mathlib.Core.Bool.{true, false}
+use mathlib.Core.List.{List, []}
+use lib.ListN.{length}
+use lib.Dec.{eqb, ltb}
+use borrow.Author.Tests.{eq-eqb, ne-eqb, le-leb, lt-leb}
+use Rattle.octets.specs.Octets.{same, zeros}
+use Rattle.refusal.specs.Order.{firstFault}
+use Rattle.receipt.specs.Answer.{answer, answerWith}
+use Rattle.receipt.specs.Attestation.{Attestation, LOOKUP, END, readAttestation}
+use Rattle.receipt.specs.Possible.{isName, referenceFits, isBlank, blankFits, possible}
+use Rattle.receipt.specs.Verdict.{carried, answers, asks, isTagged, verifyRefusal, verdict}
+use Rattle.receipt.specs.declared.Ask.the-variants.{Lookup, End}
+use Rattle.receipt.specs.declared.Question.{Question}
+
+pub name-lookup : (n : List ℕ) → same n LOOKUP ≡ true → true ≡ isName n
+unfolding isName
+name-lookup n h = simp h
+
+pub name-end : (n : List ℕ) → same n LOOKUP ≡ false → same n END ≡ isName n
+unfolding isName
+name-end n h = simp h
+
+module _ (kind n reference : ℕ) where
+  pub reference-at : kind ≡ 1 → eqb reference n ≡ referenceFits kind n reference
+  unfolding referenceFits
+  reference-at h = simp (eq-eqb kind 1 h)
+
+  pub reference-below : (kind ≡ 1 → ⊥) → kind ≡ 0 → ltb reference n ≡ referenceFits kind n reference
+  unfolding referenceFits
+  reference-below o h = simp (ne-eqb kind 1 o, eq-eqb kind 0 h)
+
+  pub reference-none : (kind ≡ 1 → ⊥) → (kind ≡ 0 → ⊥) → 3 < kind → false ≡ referenceFits kind n reference
+  unfolding referenceFits
+  reference-none o h k = simp (ne-eqb kind 1 o, ne-eqb kind 0 h, lt-leb kind 3 k)
+
+  pub reference-above : (kind ≡ 1 → ⊥) → (kind ≡ 0 → ⊥) → kind ≤ 3 → ltb n reference ≡ referenceFits kind n reference
+  unfolding referenceFits
+  reference-above o h k = simp (ne-eqb kind 1 o, ne-eqb kind 0 h, le-leb kind 3 k)
+
+module _ (a : Attestation) where
+  pub value-left : same (a .value) (zeros 32) ≡ false → false ≡ isBlank a
+  unfolding isBlank
+  value-left h = simp h
+
+  pub by-digest : same (a .value) (zeros 32) ≡ true → same (a .digest) (zeros 32) ≡ isBlank a
+  unfolding isBlank
+  by-digest h = simp h
+
+  pub assigned-fits : a .kind ≡ 1 → true ≡ blankFits a
+  unfolding blankFits
+  assigned-fits h = simp (eq-eqb (a .kind) 1 h)
+
+  pub end-left : (a .kind ≡ 1 → ⊥) → same (a .name) LOOKUP ≡ false → false ≡ blankFits a
+  unfolding blankFits
+  end-left o h = simp (ne-eqb (a .kind) 1 o, h)
+
+  pub by-blank : (a .kind ≡ 1 → ⊥) → same (a .name) LOOKUP ≡ true → isBlank a ≡ blankFits a
+  unfolding blankFits
+  by-blank o h = simp (ne-eqb (a .kind) 1 o, h)
+
+  pub no-name : isName (a .name) ≡ false → false ≡ possible a
+  unfolding possible
+  no-name h = simp h
+
+  pub no-log : isName (a .name) ≡ true → 15 < a .log → false ≡ possible a
+  unfolding possible
+  no-log h l = simp (h, lt-leb (a .log) 15 l)
+
+  pub no-position : isName (a .name) ≡ true → a .log ≤ 15 → a .position < 1 → false ≡ possible a
+  unfolding possible
+  no-position h l p = simp (h, le-leb (a .log) 15 l, lt-leb 1 (a .position) p)
+
+  pub no-reference : isName (a .name) ≡ true → a .log ≤ 15 → 1 ≤ a .position → referenceFits (a .kind) (a .position) (a .reference) ≡ false → false ≡ possible a
+  unfolding possible
+  no-reference h l p r = simp (h, le-leb (a .log) 15 l, le-leb 1 (a .position) p, r)
+
+  pub by-kind : isName (a .name) ≡ true → a .log ≤ 15 → 1 ≤ a .position → referenceFits (a .kind) (a .position) (a .reference) ≡ true → blankFits a ≡ possible a
+  unfolding possible
+  by-kind h l p r = simp (h, le-leb (a .log) 15 l, le-leb 1 (a .position) p, r)
+
+  module _ (q : Question) (nonce : List ℕ) where
+    pub other-keeper : (a .keeper ≡ q .keeper → ⊥) → false ≡ answers a q nonce
+    unfolding answers
+    other-keeper h = simp (ne-eqb (a .keeper) (q .keeper) h)
+
+    pub other-log : a .keeper ≡ q .keeper → (a .log ≡ q .log → ⊥) → false ≡ answers a q nonce
+    unfolding answers
+    other-log h l = simp (eq-eqb (a .keeper) (q .keeper) h, ne-eqb (a .log) (q .log) l)
+
+    pub other-nonce : a .keeper ≡ q .keeper → a .log ≡ q .log → same (a .nonce) nonce ≡ false → false ≡ answers a q nonce
+    unfolding answers
+    other-nonce h l n = simp (eq-eqb (a .keeper) (q .keeper) h, eq-eqb (a .log) (q .log) l, n)
+
+    pub by-ask : a .keeper ≡ q .keeper → a .log ≡ q .log → same (a .nonce) nonce ≡ true → asks (q .ask) a ≡ answers a q nonce
+    unfolding answers
+    by-ask h l n = simp (eq-eqb (a .keeper) (q .keeper) h, eq-eqb (a .log) (q .log) l, n)
+
+  pub other-name : (n : ℕ) → same (a .name) LOOKUP ≡ false → false ≡ asks (Lookup n) a
+  unfolding asks
+  other-name n h = simp h
+
+  pub by-position : (n : ℕ) → same (a .name) LOOKUP ≡ true → eqb (a .position) n ≡ asks (Lookup n) a
+  unfolding asks
+  by-position n h = simp h
+
+  pub by-end : same (a .name) END ≡ asks End a
+  unfolding asks
+  by-end = refl
+
+-- the verifier's ways out
+
+module _ (key r nonce : List ℕ) (q : Question) where
+  pub key-length : (length key ≡ 32 → ⊥) → answer 7 [] ≡ verdict key r nonce q
+  unfolding verdict verifyRefusal firstFault answerWith
+  key-length h = simp (ne-eqb (length key) 32 h)
+
+  pub nonce-length : length key ≡ 32 → (length nonce ≡ 32 → ⊥) → answer 7 [] ≡ verdict key r nonce q
+  unfolding verdict verifyRefusal firstFault answerWith
+  nonce-length k n = simp (eq-eqb (length key) 32 k, ne-eqb (length nonce) 32 n)
+
+  module _ (k : length key ≡ 32) (n : length nonce ≡ 32) where
+    pub receipt-length : (length r ≡ 160 → ⊥) → answer 9 [] ≡ verdict key r nonce q
+    unfolding verdict verifyRefusal firstFault answerWith
+    receipt-length h = simp (eq-eqb (length key) 32 k, eq-eqb (length nonce) 32 n, ne-eqb (length r) 160 h)
+
+    module _ (h : length r ≡ 160) where
+      pub impossible : possible (readAttestation r) ≡ false → answer 9 [] ≡ verdict key r nonce q
+      unfolding verdict verifyRefusal firstFault answerWith
+      impossible p = simp (eq-eqb (length key) 32 k, eq-eqb (length nonce) 32 n, eq-eqb (length r) 160 h, p)
+
+      pub wrong-tag : possible (readAttestation r) ≡ true → isTagged key r ≡ false → answer 10 [] ≡ verdict key r nonce q
+      unfolding verdict verifyRefusal firstFault answerWith
+      wrong-tag p t = simp (eq-eqb (length key) 32 k, eq-eqb (length nonce) 32 n, eq-eqb (length r) 160 h, p, t)
+
+      pub other-question : possible (readAttestation r) ≡ true → isTagged key r ≡ true → answers (readAttestation r) q nonce ≡ false → answer 11 [] ≡ verdict key r nonce q
+      unfolding verdict verifyRefusal firstFault answerWith
+      other-question p t a = simp (eq-eqb (length key) 32 k, eq-eqb (length nonce) 32 n, eq-eqb (length r) 160 h, p, t, a)
+
+      pub accepts : possible (readAttestation r) ≡ true → isTagged key r ≡ true → answers (readAttestation r) q nonce ≡ true
+          → answer 0 (carried (readAttestation r)) ≡ verdict key r nonce q
+      unfolding verdict verifyRefusal firstFault answerWith
+      accepts p t a = simp (eq-eqb (length key) 32 k, eq-eqb (length nonce) 32 n, eq-eqb (length r) 160 h, p, t, a)

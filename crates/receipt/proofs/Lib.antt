@@ -1,0 +1,7 @@
+pub mod AnswerLaws
+pub mod Cases
+pub mod Fields
+pub mod PossibleLaws
+pub mod VerdictLaws
+pub mod Verifier
+pub mod Writing

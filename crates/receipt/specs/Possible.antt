@@ -1,0 +1,44 @@
+-- Document 01: "A possible entry". The conditions, and a test of them; proofs/PossibleLaws shows that they agree.
+use Prim.Native.Nat.{ℕ, _≤_, _<_}
+use mathlib.Core.Path.{_≡_}
+use mathlib.Core.Logic.{_⊎_}
+use mathlib.Core.Bool.{Bool, true, _&&_, _||_, cond}
+use mathlib.Core.List.{List}
+use lib.Dec.{eqb, ltb, leb}
+use Rattle.octets.specs.Octets.{same, zeros}
+use Rattle.receipt.specs.Attestation.{Attestation, LOOKUP, END}
+
+-- "A possible entry has log ≤ 15, n ≥ 1 and: assigned, reference = n; unassigned, reference < n; skipped or forgotten,
+-- reference > n; value and digest zero unless assigned; END only with assigned"
+pub record Possible (a : Attestation) : Type 0 where
+  pub named : (a .name ≡ LOOKUP) ⊎ (a .name ≡ END)
+  pub kind : a .kind ≤ 3
+  pub log : a .log ≤ 15
+  pub position : 1 ≤ a .position
+  pub assigned : a .kind ≡ 1 → a .reference ≡ a .position
+  pub unassigned : a .kind ≡ 0 → a .reference < a .position
+  pub passed : 2 ≤ a .kind → a .position < a .reference
+  pub blank : (a .kind ≡ 1 → ⊥) → (a .value ≡ zeros 32) × (a .digest ≡ zeros 32)
+  pub end : a .name ≡ END → a .kind ≡ 1
+
+-- "bytes 0–5 the ASCII name LOOKUP, or END and three zero bytes"
+unfoldable pub isName : List ℕ → Bool
+isName n = same n LOOKUP || same n END
+
+-- "assigned, reference = n; unassigned, reference < n; skipped or forgotten, reference > n", of a kind, n and the reference
+unfoldable pub referenceFits : ℕ → ℕ → ℕ → Bool
+referenceFits kind n reference =
+    cond (eqb kind 1) (eqb reference n) (cond (eqb kind 0) (ltb reference n) (leb kind 3 && ltb n reference))
+
+-- value and digest are zero
+unfoldable pub isBlank : Attestation → Bool
+isBlank a = same (a .value) (zeros 32) && same (a .digest) (zeros 32)
+
+-- "value and digest zero unless assigned; END only with assigned"
+unfoldable pub blankFits : Attestation → Bool
+blankFits a = cond (eqb (a .kind) 1) true (same (a .name) LOOKUP && isBlank a)
+
+-- the test
+unfoldable pub possible : Attestation → Bool
+possible a =
+    isName (a .name) && (leb (a .log) 15 && (leb 1 (a .position) && (referenceFits (a .kind) (a .position) (a .reference) && blankFits a)))
