@@ -1,0 +1,12 @@
+pub mod Chained
+pub mod Clear
+pub mod DigestLaws
+pub mod FitsAfter
+pub mod Links
+pub mod Lists
+pub mod Moves
+pub mod Releases
+pub mod Unchanged
+pub mod WholeBytes
+pub mod WholeChains
+pub mod Written

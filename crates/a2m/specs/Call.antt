@@ -1,0 +1,55 @@
+-- The five calls and their answers as data, and what a list of calls answers and leaves.
+use Prim.Native.Nat.{ℕ, _^_, _<_}
+use mathlib.Core.List.{List, [], _∷_}
+
+-- document 01: "each call's arguments (of a lent receipt only the length)"
+pub data Call : Type 0 where
+  append : (log : ℕ) (value : List ℕ) → Call
+  advance : (log n : ℕ) (digest value : List ℕ) → Call
+  truncate : (log n : ℕ) → Call
+  lookup : (log n : ℕ) (nonce : List ℕ) (lent : ℕ) → Call
+  end : (log : ℕ) (nonce : List ℕ) (lent : ℕ) → Call
+
+abbrev pub logOf : Call → ℕ
+logOf (append g x) = g
+logOf (advance g n d x) = g
+logOf (truncate g n) = g
+logOf (lookup g n c k) = g
+logOf (end g c k) = g
+
+-- the numbers are as wide as their types: positions have 64 bits. Any log number is given, and any list of bytes
+abbrev pub Wide : Call → Type 0
+Wide (append g x) = Unit {0}
+Wide (advance g n d x) = n < 2 ^ 64
+Wide (truncate g n) = n < 2 ^ 64
+Wide (lookup g n c k) = n < 2 ^ 64
+Wide (end g c k) = Unit {0}
+
+abbrev pub AllWide : List Call → Type 0
+AllWide [] = Unit {0}
+AllWide (c ∷ cs) = Wide c × AllWide cs
+
+-- "An answer is all that a call returns, and the 160 bytes of the receipt that an accepted lookup or end writes": a refusal's
+-- number; "0 with the L and H"; 0 with the receipt and the number of entries examined; 0 with the receipt
+pub data Reply : Type 0 where
+  refused : ℕ → Reply
+  done : (low high : ℕ) → Reply
+  found : (receipt : List ℕ) (examined : ℕ) → Reply
+  ended : (receipt : List ℕ) → Reply
+
+-- an answer, and what stands after the call
+pub record Outcome (S : Type 0) : Type 0 where
+  pub reply : Reply
+  pub state : S
+
+abbrev pub outcome : {S : Type 0} → Reply → S → Outcome S
+outcome r s = record { reply = r; state = s }
+
+-- the answers to a list of calls, and what stands after it: each call gets what the last one left
+unfoldable pub replies : {S : Type 0} → (S → Call → Outcome S) → S → List Call → List Reply
+replies step s [] = []
+replies step s (c ∷ cs) = step s c .reply ∷ replies step (step s c .state) cs
+
+unfoldable pub after : {S : Type 0} → (S → Call → Outcome S) → S → List Call → S
+after step s [] = s
+after step s (c ∷ cs) = after step (step s c .state) cs

@@ -1,0 +1,5 @@
+pub mod Call
+pub mod Digest
+pub mod ImageCalls
+pub mod Search
+pub mod TableCalls

@@ -1,0 +1,100 @@
+-- Demand 3's facts on receipts, on the model alone: never two stories of one position, none of a skipped or forgotten one.
+use Prim.Native.Nat.{ℕ, suc, _≤_, _<_}
+use mathlib.Core.Path.{_≡_, refl, sym, ap, subst, _∙_}
+use mathlib.Core.Logic.{_⊎_, inl, inr}
+use mathlib.Core.List.{List, [], _∷_}
+use mathlib.Core.Bool.{Bool, true, false}
+use native.Mathlib.Omega.{arith}
+use lib.ListN.{take}
+use lib.Dec.{leb}
+use borrow.Author.Tests.{leb-true, leb-false}
+use Rattle.layout.specs.Image.{Entry}
+use Rattle.a2m.specs.Call.{Call, advance, truncate, replies, after, AllWide}
+use Rattle.a2m.proofs.Lists.{In, in-cases}
+use Rattle.model.specs.Log.{Log, entered, cutAt}
+use Rattle.model.specs.Model.{Rules, Model, logAt, modelStep}
+use Rattle.model.specs.Claim.{ShowsAt, SkipsAt, ForgetsAt}
+use Rattle.model.proofs.Represents.{LogOk}
+use Rattle.model.proofs.Later.{Later}
+use Rattle.model.proofs.Entries.{EntryAt, in-bounds, rising-one}
+use Rattle.model.proofs.Along.{Keeps, at-keeps, at-later, at-next, at-reply, at-shown, advanced, truncated}
+
+-- one position of one log, at two times
+meet : (l k : Log) → LogOk l → Later l k → (n : ℕ) (v d v′ d′ : List ℕ) → EntryAt l n v d → EntryAt k n v′ d′ → (v ≡ v′) × (d ≡ d′)
+meet l k ok lt n v d v′ d′ p q =
+    let pp = p .position in
+    let qp = q .position in
+    let b = in-bounds l ok (p .entry) (p .there) .1 in
+    let m : In (q .entry) (l .entries) = lt .old (q .entry) (q .there) (omega arith) in
+    let same : p .entry ≡ q .entry = rising-one (l .low) (l .entries) (ok .rising) (p .entry) (q .entry) (p .there) m (omega arith) in
+    (sym (p .value) ∙ ap (λ (e : Entry). e .value) same ∙ q .value, sym (p .digest) ∙ ap (λ (e : Entry). e .digest) same ∙ q .digest)
+
+module _ (ru : Rules) (b : Model) (keeps : Keeps b) (cs : List Call) (w : AllWide cs) where
+  pub model-agreeing : (i j g n : ℕ) (v d v′ d′ : List ℕ) → ShowsAt (replies (modelStep ru) b cs) i g n v d → ShowsAt (replies (modelStep ru) b cs) j g n v′ d′ → (v ≡ v′) × (d ≡ d′)
+  model-agreeing i j g n v d v′ d′ s t = go (leb i j) refl
+    where
+      at : (h : ℕ) → Log
+      at h = logAt (after (modelStep ru) b (take h cs) .logs) g
+
+      go : (x : Bool) → leb i j ≡ x → (v ≡ v′) × (d ≡ d′)
+      go true e = meet (at i) (at j) (at-keeps ru b keeps cs w i .sound g) (at-later ru b cs i j (leb-true i j e) g) n v d v′ d′ (at-shown ru b keeps cs w i g n v d s) (at-shown ru b keeps cs w j g n v′ d′ t)
+      go false e =
+          let lt = leb-false i j e in
+          let r = meet (at j) (at i) (at-keeps ru b keeps cs w j .sound g) (at-later ru b cs j i (omega arith) g) n v′ d′ v d (at-shown ru b keeps cs w j g n v′ d′ t) (at-shown ru b keeps cs w i g n v d s) in
+          (sym (r .0), sym (r .1))
+
+  pub model-unskipped : (i j g p : ℕ) (v d : List ℕ) → SkipsAt ru b cs (replies (modelStep ru) b cs) j g p → ShowsAt (replies (modelStep ru) b cs) i g p v d → ⊥
+  unfolding entered
+  model-unskipped i j g p v d k s = go (leb i j) refl
+    where
+      at : ℕ → Log
+      at h = logAt (after (modelStep ru) b (take h cs) .logs) g
+
+      e : EntryAt (logAt (after (modelStep ru) b (take i cs) .logs) g) p v d
+      e = at-shown ru b keeps cs w i g p v d s
+
+      step : (x : Entry) × (x .position ≡ k .n) × (at (suc j) ≡ entered (at j) x)
+      step =
+          let c = advance g (k .n) (k .given) (k .value) in
+          let r = advanced ru (after (modelStep ru) b (take j cs)) g (k .n) (k .given) (k .value) (k .low) (k .high) (sym (at-reply ru b cs j c (k .call)) ∙ k .accepted) in
+          (r .0, r .1, ap (λ (x : Model). logAt (x .logs) g) (at-next ru b cs j c (k .call)) ∙ r .2)
+
+      cases : In (e .entry) (at j .entries) ⊎ In (e .entry) (step .0 ∷ []) → ⊥
+      cases (inl m) =
+          let a = k .above in
+          let q = e .position in
+          let c = in-bounds (at j) (at-keeps ru b keeps cs w j .sound g) (e .entry) m .1 in
+          omega arith
+      cases (inr (inl z)) =
+          let a = k .below in
+          let q = e .position in
+          let w : e .entry .position ≡ k .n = ap (λ (y : Entry). y .position) z ∙ step .1 in
+          omega arith
+
+      go : (x : Bool) → leb i j ≡ x → ⊥
+      go true h =
+          let a = k .above in
+          let q = e .position in
+          let c = in-bounds (at i) (at-keeps ru b keeps cs w i .sound g) (e .entry) (e .there) .1 in
+          let l = at-later ru b cs i j (leb-true i j h) g .high in
+          omega arith
+      go false h =
+          let lt = leb-false i j h in
+          let q = e .position in
+          let a = k .below in
+          let n : step .0 .position ≡ k .n = step .1 in
+          let L : Later (entered (at j) (step .0)) (at i) = subst (λ (l : Log). Later l (at i)) (step .2) (at-later ru b cs (suc j) i lt g) in
+          cases (in-cases (e .entry) (at j .entries) (step .0 ∷ []) (L .old (e .entry) (e .there) (omega arith)))
+
+  pub model-remembered : (i j g p n : ℕ) (v d : List ℕ) → j < i → ForgetsAt cs (replies (modelStep ru) b cs) j g n → p < n → ShowsAt (replies (modelStep ru) b cs) i g p v d → ⊥
+  unfolding cutAt
+  model-remembered i j g p n v d ji k pn s =
+      let e = at-shown ru b keeps cs w i g p v d s in
+      let q = e .position in
+      let c = in-bounds (logAt (after (modelStep ru) b (take i cs) .logs) g) (at-keeps ru b keeps cs w i .sound g) (e .entry) (e .there) .0 in
+      let next : logAt (after (modelStep ru) b (take (suc j) cs) .logs) g ≡ cutAt n (logAt (after (modelStep ru) b (take j cs) .logs) g) =
+      ap (λ (x : Model). logAt (x .logs) g) (at-next ru b cs j (truncate g n) (k .call)) ∙ truncated ru (after (modelStep ru) b (take j cs)) g n (k .low) (k .high) (sym (at-reply ru b cs j (truncate g n) (k .call)) ∙ k .accepted) in
+      let L : Later (cutAt n (logAt (after (modelStep ru) b (take j cs) .logs) g)) (logAt (after (modelStep ru) b (take i cs) .logs) g) = rw next at (at-later ru b cs (suc j) i ji g) in
+      let low : n ≤ logAt (after (modelStep ru) b (take i cs) .logs) g .low = L .low in
+      omega arith
+

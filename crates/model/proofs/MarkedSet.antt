@@ -1,0 +1,50 @@
+-- The marked set, answered by the image and by the model.
+use Prim.Native.Nat.{ℕ}
+use mathlib.Core.Path.{_≡_, refl}
+use mathlib.Core.List.{List, map}
+use lib.Dec.{lit<}
+use Rattle.octets.specs.Octets.{same, zeros}
+use Rattle.bigendian.specs.BigEndian.{be, unbe}
+use Rattle.refusal.specs.Order.{firstFault}
+use Rattle.receipt.specs.Attestation.{LOOKUP, END, attestedBytes, receiptBytes, readAttestation}
+use Rattle.layout.specs.Image.{Image, slotAt, setSlot}
+use Rattle.layout.specs.Changes.{advancedRow, truncatedRow}
+use Rattle.layout.specs.Lists.{tabulate}
+use Rattle.table.specs.Chains.{walk, reaches, chain, lastOf}
+use Rattle.table.specs.Free.{queue, queuedNext}
+use Rattle.table.specs.Format.{formatted}
+use Rattle.table.specs.WholeImage.{all, blank, freeOk, fresh, risingFrom, started, rowOk, rowsOk, heldBy, meets, wholeImage}
+use Rattle.a2m.specs.Call.{Call, replies, after}
+use Rattle.a2m.specs.Digest.{entryDigest}
+use Rattle.a2m.specs.Search.{search, lookedUp}
+use Rattle.a2m.specs.ImageCalls.{rowIn, entriesIn, wrongLength, misplaced, spent, nothingHeld, full, faults, imageRefusal, joined, put, release, releases, lowered, lookupAttested, endAttested, imageDone, imageAccept, imageStep}
+use Rattle.model.specs.Log.{lastEntry, keepFrom, keepBelow, entered, cutAt, standingAmong, standing, kindOf, referenceOf, examinedFor}
+use Rattle.model.specs.Model.{rules01, Model, newModel, logAt, total, isNil, modelRefusal, modelReceipt, shownFor, lookupReply, endReply, modelDone, modelAccept, modelStep}
+use Rattle.model.specs.Claim.{ShowsAt, SkipsAt, ForgetsAt}
+use Rattle.model.specs.Marked.{Line, placed, zero32, marked, answered}
+
+pub marked-image : answered imageStep (λ (m : Image) (g : ℕ). rowIn m g .low) (λ (m : Image) (g : ℕ). rowIn m g .high) (formatted 2 3 7 (zeros 32)) marked ≡ marked
+unfolding formatted marked answered placed zero32 same zeros be unbe firstFault LOOKUP END attestedBytes receiptBytes readAttestation slotAt setSlot advancedRow truncatedRow tabulate walk reaches chain lastOf queue queuedNext all blank freeOk fresh risingFrom started rowOk rowsOk heldBy meets wholeImage entryDigest search lookedUp entriesIn wrongLength misplaced spent nothingHeld full faults imageRefusal joined put release releases lowered lookupAttested endAttested imageDone imageAccept imageStep
+marked-image = refl
+
+pub marked-model : answered (modelStep rules01) (λ (b : Model) (g : ℕ). logAt (b .logs) g .low) (λ (b : Model) (g : ℕ). logAt (b .logs) g .high) (newModel 2 3 7 (zeros 32)) marked ≡ marked
+unfolding marked answered placed zero32 zeros be unbe LOOKUP END attestedBytes receiptBytes readAttestation entryDigest lastEntry keepFrom keepBelow entered cutAt standingAmong standing kindOf referenceOf examinedFor rules01 total isNil modelRefusal modelReceipt shownFor lookupReply endReply modelDone modelAccept modelStep
+marked-model = refl
+
+-- ---- the claims of demand 3 are about something, in this list: its tenth call shows position 1 of log 1 assigned, its third skips 3 of log 0, its sixth
+-- forgets what lies below 5
+
+calls : List Call
+calls = map (λ (l : Line). l .call) marked
+
+shows-one : (d : List ℕ) × ShowsAt (replies (modelStep rules01) (newModel 2 3 7 (zeros 32)) calls) 9 1 1 (placed 9) d
+unfolding calls marked placed zero32 zeros be unbe LOOKUP END attestedBytes receiptBytes readAttestation entryDigest lastEntry keepFrom keepBelow entered cutAt standingAmong standing kindOf referenceOf examinedFor rules01 total isNil modelRefusal modelReceipt shownFor lookupReply endReply modelDone modelAccept modelStep replies
+shows-one = (_, record { receipt = _; there = refl; shows = record { assigned = refl; log = refl; position = refl; value = refl; digest = refl } })
+
+skips-three : SkipsAt rules01 (newModel 2 3 7 (zeros 32)) calls (replies (modelStep rules01) (newModel 2 3 7 (zeros 32)) calls) 2 0 3
+unfolding calls marked placed zero32 zeros be unbe LOOKUP END attestedBytes receiptBytes readAttestation entryDigest lastEntry keepFrom keepBelow entered cutAt standingAmong standing kindOf referenceOf examinedFor rules01 total isNil modelRefusal modelReceipt shownFor lookupReply endReply modelDone modelAccept modelStep replies after
+skips-three = record { n = 5; given = placed 0; value = placed 43; call = refl; low = 1; high = 5; accepted = refl; above = lit< tt; below = lit< tt }
+
+forgets-below-five : ForgetsAt calls (replies (modelStep rules01) (newModel 2 3 7 (zeros 32)) calls) 5 0 5
+unfolding calls marked placed zero32 zeros be unbe LOOKUP END attestedBytes receiptBytes readAttestation entryDigest lastEntry keepFrom keepBelow entered cutAt standingAmong standing kindOf referenceOf examinedFor rules01 total isNil modelRefusal modelReceipt shownFor lookupReply endReply modelDone modelAccept modelStep replies
+forgets-below-five = record { call = refl; low = 5; high = 5; accepted = refl }

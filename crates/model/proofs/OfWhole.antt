@@ -1,0 +1,130 @@
+-- A whole image says one sound model, `modelOf`: a call on it answers as that model, and leaves a whole image.
+use Prim.Native.Nat.{ℕ, zero, suc, _+_, _≤_, _<_}
+use mathlib.Core.Path.{_≡_, refl, sym, ap, ap₂, _∙_}
+use mathlib.Core.List.{List, [], _∷_, _++_}
+use mathlib.Core.Bool.{Bool, true, false, _&&_, cond, not}
+use native.Mathlib.Omega.{arith}
+use native.Mathlib.Nat.{zero-add}
+use lib.ListN.{length, getD, length-append, length-map, replicate, List·getD-eq-default}
+use lib.Seq.{ext-getD}
+use lib.Dec.{ltb}
+use borrow.Author.Tests.{ltb-true, ltb-false}
+use Rattle.octets.specs.Octets.{Bytes}
+use Rattle.layout.specs.declared.Row.{Row}
+use Rattle.layout.specs.Lists.{tabulate}
+use Rattle.layout.specs.Image.{Entry, Slot, Image, entryOf, slotAt, freshRow, rowAt}
+use Rattle.layout.specs.Layout.{readTable, writeTable}
+use Rattle.layout.proofs.ListLaws.{length-tabulate, getD-tabulate}
+use Rattle.layout.proofs.TableLaws.{length-rows, length-slots, write-read, fits-read, read-write}
+use Rattle.table.specs.Chains.{chain, lastOf, positionsOf, entriesOf}
+use Rattle.table.specs.Free.{freeChain}
+use Rattle.table.specs.Whole.{inRange, whole}
+use Rattle.table.specs.WholeImage.{risingFrom, heldBy, meets, wholeImage}
+use Rattle.a2m.specs.Call.{Call, Wide, Outcome, outcome}
+use Rattle.a2m.specs.ImageCalls.{rowIn, entriesIn, imageStep}
+use Rattle.a2m.specs.TableCalls.{written, tableStep}
+use Rattle.a2m.proofs.Links.{chain-links}
+use Rattle.a2m.proofs.FitsAfter.{step-fits}
+use Rattle.a2m.proofs.WholeBytes.{whole-image, whole-range, whole-formed}
+use Rattle.a2m.proofs.WholeChains.{RowChain, log-chain, free-links, free-blank, sum-meets}
+use Rattle.a2m.proofs.Written.{whole-written, step-written}
+use Rattle.model.specs.Log.{Log, freshLog}
+use Rattle.model.specs.Model.{rules01, Model, logAt, total, modelStep}
+use Rattle.model.specs.ModelOf.{logIn, modelOf}
+use Rattle.model.proofs.Represents.{Rep, RowRep, LogOk, Sound}
+use Rattle.model.proofs.Reading.{entries-are}
+use Rattle.model.proofs.Positions.{positions-of, of-rising, last-position}
+use Rattle.model.proofs.WholeOf.{of-blanks, held-length, whole-of}
+use Rattle.model.proofs.Step.{step-agrees}
+use Rattle.model.proofs.Sound.{step-sound}
+
+length-entries : (m : Image) (g : ℕ) → length (logIn m g .entries) ≡ length (chain (m .slots) (suc g) (rowIn m g .first))
+unfolding logIn entriesIn
+length-entries m g = length-map (chain (m .slots) (suc g) (rowIn m g .first)) (λ (s : ℕ). entryOf (slotAt (m .slots) s))
+
+-- ---- the model of a whole image
+
+-- a log beyond the table's is fresh
+log-in : (m : Image) (g : ℕ) → logAt (modelOf m .logs) g ≡ logIn m g
+unfolding modelOf logIn entriesIn
+log-in m g = go (ltb g (length (m .rows))) refl
+  where
+    go : (t : Bool) → ltb g (length (m .rows)) ≡ t → logAt (modelOf m .logs) g ≡ logIn m g
+    go true e = getD-tabulate (length (m .rows)) (logIn m) g freshLog (ltb-true g (length (m .rows)) e)
+    go false e =
+        let le : length (m .rows) ≤ g = ltb-false g (length (m .rows)) e in
+        let row : rowIn m g ≡ freshRow = List·getD-eq-default (m .rows) freshRow le in
+        let none : entriesOf (m .slots) (chain (m .slots) (suc g) (rowIn m g .first)) ≡ [] = ap (λ (r : Row). entriesOf (m .slots) (chain (m .slots) (suc g) (r .first))) row ∙ ap (entriesOf (m .slots)) (chain-links (m .slots) (suc g) 0 [] refl) in
+        let fresh : logIn m g ≡ freshLog = λ i. record { low = row i .low; high = row i .high; entries = none i } in
+        List·getD-eq-default (tabulate (length (m .rows)) (logIn m)) freshLog (rw (length-tabulate (length (m .rows)) (logIn m)) le)
+        ∙ sym fresh
+
+row-said : (m : Image) (g : ℕ) → RowChain (m .slots) g (rowIn m g) → RowRep (m .slots) g (rowIn m g) (logIn m g) × LogOk (logIn m g)
+unfolding logIn entriesIn
+row-said m g r =
+    let c = chain (m .slots) (suc g) (rowIn m g .first) in
+    let q = positions-of (m .slots) c in (
+      record { chain = c; holds = record { links = r .links; held = refl }; last = r .last; low = refl; high = refl },
+      record { low1 = r .low1; rising = of-rising (rowIn m g .low) (entriesOf (m .slots) c) (rw q at (r .rising)); top = sym (last-position (entriesOf (m .slots) c)) ∙ ap lastOf (sym q) ∙ r .top; fresh = r .fresh },
+    )
+
+module _ (m : Image) (w : wholeImage m ≡ true) where
+  pub model-sound : Sound (modelOf m)
+  model-sound g = rw (log-in m g) (row-said m g (log-chain m w g) .1)
+
+  pub model-says : Rep m (modelOf m)
+  unfolding modelOf meets
+  model-says = record {
+    keeper = refl;
+    key = refl;
+    count = sym (length-tabulate (length (m .rows)) (logIn m));
+    size = refl;
+    rows = λ (g : ℕ). rw (log-in m g) (row-said m g (log-chain m w g) .0);
+    queue = freeChain m;
+    free = record { links = free-links m w; held = of-blanks (m .slots) (freeChain m) (free-blank m w) };
+    sum =
+        let logs = tabulate (length (m .rows)) (logIn m) in
+        let t : length (heldBy (m .slots) 0 (m .rows)) ≡ total logs = held-length (m .slots) 0 (m .rows) logs (sym (length-tabulate (length (m .rows)) (logIn m))) (λ (i : ℕ). rw zero-add (sym (entries-count i))) in
+        let a = length-append (freeChain m) (heldBy (m .slots) 0 (m .rows)) in
+        let e = sum-meets m w in
+        omega arith;
+  }
+    where
+      entries-count : (i : ℕ) → length (logAt (modelOf m .logs) i .entries) ≡ length (chain (m .slots) (suc i) (rowIn m i .first))
+      entries-count i = ap (λ (l : Log). length (l .entries)) (log-in m i) ∙ length-entries m i
+
+-- it is the one model that the image says
+pub rep-model : (m : Image) (b : Model) → Rep m b → modelOf m ≡ b
+unfolding modelOf logIn
+rep-model m b R =
+    let logs : tabulate (length (m .rows)) (logIn m) ≡ b .logs =
+    ext-getD freshLog (tabulate (length (m .rows)) (logIn m)) (b .logs) (length-tabulate (length (m .rows)) (logIn m) ∙ R .count)
+    (λ (g : ℕ) (h : g < length (tabulate (length (m .rows)) (logIn m))). log-in m g ∙ (λ i. record { low = R .rows g .low i; high = R .rows g .high i; entries = entries-are m b R g i })) in
+    λ i. record { size = R .size i; keeper = R .keeper i; key = R .key i; logs = logs i }
+
+-- ---- calls on a whole table
+
+-- a call answers as the model, leaves a table that says the model after, and that is whole
+pub record Follows (m : Image) (call : Call) (o : Outcome Image) : Type 0 where
+  pub reply : o .reply ≡ modelStep rules01 (modelOf m) call .reply
+  pub model : modelOf (o .state) ≡ modelStep rules01 (modelOf m) call .state
+  pub whole : wholeImage (o .state) ≡ true
+
+pub whole-step : (m : Image) → wholeImage m ≡ true → (call : Call) → Follows m call (imageStep m call)
+whole-step m w call =
+    let a = step-agrees m (modelOf m) (model-says m w) (model-sound m w) call in
+    record {
+      reply = a .reply;
+      model = rep-model (imageStep m call .state) (modelStep rules01 (modelOf m) call .state) (a .state);
+      whole = whole-of (imageStep m call .state) (modelStep rules01 (modelOf m) call .state) (a .state) (step-sound rules01 (modelOf m) (model-sound m w) call);
+    }
+
+-- the same of bytes
+pub table-step : (b : List ℕ) → Bytes b → whole b ≡ true → (call : Call) → Wide call
+    → Follows (readTable b) call (outcome (tableStep b call .reply) (readTable (tableStep b call .state)))
+table-step b h w call wide =
+    let m = readTable b in
+    let f = fits-read b h (whole-formed b w) in
+    let counts : inRange (length (m .rows)) (length (m .slots)) ≡ true = rw (length-rows b, length-slots b) (whole-range b w) in
+    let e : tableStep b call ≡ written (imageStep m call) = ap (λ (x : List ℕ). tableStep x call) (sym (write-read b h (whole-formed b w))) ∙ step-written m f counts call in
+    rw (e, read-write (imageStep m call .state) (step-fits m f call wide)) (whole-step m (whole-image b w) call)

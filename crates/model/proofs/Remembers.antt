@@ -1,0 +1,200 @@
+-- The model is no empty one: what a call put at n, a later lookup of n shows assigned, until a truncate goes past n.
+use Prim.Native.Nat.{ℕ, zero, suc, _+_, _-_, _^_, _≤_, _<_}
+use native.Mathlib.Nat.{le-refl}
+use mathlib.Core.Path.{_≡_, refl, sym, ap, ap₂, subst, _∙_}
+use mathlib.Core.Logic.{_⊎_, inl, inr, _≢_}
+use mathlib.Core.List.{List, [], _∷_, _++_}
+use mathlib.Core.Bool.{Bool, true, false, cond, not, _||_}
+use mathlib.Core.Option.{Option, none, some, Option·none-ne-some, Option·some-injective}
+use native.Mathlib.Omega.{arith}
+use native.Mathlib.Decide.{ℕ-discrete}
+use lib.ListN.{length, take, getElem?, set}
+use lib.Seq.{getD-set-same, getD-set-other}
+use lib.Dec.{eqb, leb, ltb}
+use borrow.Author.Tests.{leb-true, leb-false, eq-eqb, ne-eqb, le-leb, lt-leb, le-ltb}
+use Rattle.receipt.specs.Attestation.{Attestation, LOOKUP, receiptBytes, readAttestation, Sized}
+use Rattle.receipt.proofs.Fields.{read-receipt}
+use Rattle.layout.specs.Image.{Entry}
+use Rattle.a2m.specs.Call.{Call, append, advance, truncate, lookup, end, refused, done, found, Outcome, Reply, replies, after, AllWide}
+use Rattle.a2m.specs.Digest.{entryDigest, newEntry}
+use Rattle.a2m.proofs.Lists.{In, in-left, in-right}
+use Rattle.model.specs.Log.{Log, freshLog, lastEntry, keepFrom, entered, cutAt, Standing, assigned, standingAmong, standing, kindOf, referenceOf}
+use Rattle.model.specs.Model.{Rules, Model, logAt, not32, modelRefusal, modelReceipt, shownFor, lookupReply, modelDone, modelAccept, modelStep}
+use Rattle.model.specs.Claim.{Shows, receiptIn, replyAt, ShowsAt, ForgetsAt, Stores, Asked}
+use Rattle.model.proofs.Represents.{LogOk, Sound, Rising}
+use Rattle.model.proofs.Passed.{Passed, Stepped, turned, taken, stepped}
+use Rattle.model.proofs.Entries.{EntryAt, Fit, in-bounds, rising-in}
+use Rattle.model.proofs.Later.{Later}
+use Rattle.model.proofs.Shown.{length-LOOKUP}
+use Rattle.model.proofs.Along.{Keeps, after-fixed, at-keeps, at-later, at-next, at-reply}
+
+-- ---- a log keeps its entries down to its low
+
+in-kept : (n : ℕ) (e : Entry) (es : List Entry) → In e es → n ≤ e .position → In e (keepFrom n es)
+unfolding keepFrom
+in-kept n e (x ∷ es) (inl p) h = rw (keepFrom, le-leb n (x .position) (subst (λ (y : Entry). n ≤ y .position) p h)) (inl p)
+in-kept n e (x ∷ es) (inr m) h = go (leb n (x .position)) (in-kept n e es m h)
+  where
+    go : (t : Bool) → In e (keepFrom n es) → In e (cond t (x ∷ keepFrom n es) (keepFrom n es))
+    go true q = inr q
+    go false q = q
+
+kept-at : (l : Log) (m n : ℕ) (v d : List ℕ) → m ≤ n → EntryAt l n v d → EntryAt (cutAt m l) n v d
+unfolding cutAt
+kept-at l m n v d h e = let p = e .position in record { entry = e .entry; there = in-kept m (e .entry) (l .entries) (e .there) (omega arith); position = e .position; value = e .value; digest = e .digest }
+
+more-at : (l : Log) (x : Entry) (n : ℕ) (v d : List ℕ) → EntryAt l n v d → EntryAt (entered l x) n v d
+unfolding entered
+more-at l x n v d e = record { entry = e .entry; there = in-left (e .entry) (l .entries) (x ∷ []) (e .there); position = e .position; value = e .value; digest = e .digest }
+
+-- ---- one call
+
+-- the entry stays in log g, or the call is an accepted truncate of log g past it
+data Next (ru : Rules) (b : Model) (g n : ℕ) (v d : List ℕ) (c : Call) : Type 0 where
+  stays : EntryAt (logAt (modelStep ru b c .state .logs) g) n v d → Next ru b g n v d c
+  forgets : (m low high : ℕ) → c ≡ truncate g m → modelStep ru b c .reply ≡ done low high → n < m → Next ru b g n v d c
+
+module _ (ru : Rules) (b : Model) (g n : ℕ) (v d : List ℕ) (h : EntryAt (logAt (b .logs) g) n v d) where
+  set-at : (k : ℕ) (l : Log) → k < length (b .logs) → (k ≡ g → EntryAt l n v d) → EntryAt (logAt (set (b .logs) k l) g) n v d
+  set-at k l kG f = go (ℕ-discrete k g)
+    where
+      go : Dec (k ≡ g) → EntryAt (logAt (set (b .logs) k l) g) n v d
+      go (yes e) = subst (λ (j : ℕ). EntryAt (logAt (set (b .logs) k l) j) n v d) e (rw (getD-set-same (b .logs) k l freshLog kG) (f e))
+      go (no z) = rw (getD-set-other (b .logs) k g l freshLog (λ (e : g ≡ k). z (sym e))) h
+
+  accept-next : (c : Call) → Passed ru b c → modelStep ru b c ≡ modelAccept ru b c → Next ru b g n v d c
+  unfolding modelAccept modelDone
+  accept-next (append k x) a e = stays (rw e (set-at k _ (a .log) (λ (q : k ≡ g). more-at (logAt (b .logs) k) _ n v d (rw q h))))
+  accept-next (advance k m y x) a e = stays (rw e (set-at k _ (a .log) (λ (q : k ≡ g). more-at (logAt (b .logs) k) _ n v d (rw q h))))
+  accept-next (truncate k m) a e = go (ℕ-discrete k g) (leb m n) refl
+    where
+      go : Dec (k ≡ g) → (t : Bool) → leb m n ≡ t → Next ru b g n v d (truncate k m)
+      go (yes q) true f = stays (rw e (set-at k _ (a .log) (λ (z : k ≡ g). kept-at (logAt (b .logs) k) m n v d (leb-true m n f) (rw z h))))
+      go (yes q) false f = forgets m _ _ (ap (λ (j : ℕ). truncate j m) q) (ap (λ (o : Outcome Model). o .reply) e) (leb-false m n f)
+      go (no z) t f = stays (rw e (set-at k _ (a .log) (λ (q : k ≡ g). absurd (z q))))
+  accept-next (lookup k m c r) a e = stays (rw e h)
+  accept-next (end k c r) a e = stays (rw e h)
+
+  next : (c : Call) → Next ru b g n v d c
+  next c = go (stepped ru b c)
+    where
+      go : Stepped ru b c → Next ru b g n v d c
+      go (turned k e) = stays (rw e h)
+      go (taken a e) = accept-next c a e
+
+-- a call that put x at n of log g
+record Stored (b after : Model) (g n : ℕ) (x : List ℕ) : Type 0 where
+  log : g < length (b .logs)
+  digest : List ℕ
+  entry : EntryAt (logAt (after .logs) g) n x digest
+
+put-stored : (ru : Rules) (b : Model) (g n low : ℕ) (x : List ℕ) (c : Call) (k : ℕ) (e : Entry) → k < length (b .logs) → k ≡ g → e .value ≡ x → modelStep ru b c ≡ modelDone b k (entered (logAt (b .logs) k) e) → modelStep ru b c .reply ≡ done low n → Stored b (modelStep ru b c .state) g n x
+unfolding modelDone entered
+put-stored ru b g n low x c k e kG q v s r =
+    let l = logAt (b .logs) k in
+    let d : done (l .low) (e .position) ≡ done low n = rw s at r in
+    let p : e .position ≡ n = cc in
+    record {
+      log = rw (sym q) kG;
+      digest = e .digest;
+      entry = rw (s, sym q, getD-set-same (b .logs) k (entered l e) freshLog kG) (record { entry = e; there = in-right e (l .entries) (e ∷ []) (inl refl); position = p; value = v; digest = refl });
+    }
+
+stored : (ru : Rules) (b : Model) (g n low : ℕ) (x : List ℕ) (c : Call) → Stores g x c → modelStep ru b c .reply ≡ done low n → Stored b (modelStep ru b c .state) g n x
+unfolding modelAccept
+stored ru b g n low x c s r = go c s r (stepped ru b c)
+  where
+    go : (c : Call) → Stores g x c → modelStep ru b c .reply ≡ done low n → Stepped ru b c → Stored b (modelStep ru b c .state) g n x
+    go c s r (turned k e) = absurd (let q : refused k ≡ done low n = rw e at r in let z : _≡_ {A = ℕ} 0 1 = cc in omega arith)
+    go (append k y) s r (taken a e) = put-stored ru b g n low x (append k y) k _ (a .log) (s .0) (s .1) e r
+    go (advance k m d y) s r (taken a e) = put-stored ru b g n low x (advance k m d y) k _ (a .log) (s .0) (s .1) e r
+
+-- ---- a lookup of n
+
+among-is : (n w : ℕ) (es : List Entry) → Rising w es → (e : Entry) → In e es → e .position ≡ n → standingAmong n (keepFrom n es) ≡ assigned e
+unfolding keepFrom standingAmong
+among-is n w (x ∷ es) r e (inl p) h =
+    let q : x .position ≡ n = ap (λ (y : Entry). y .position) (sym p) ∙ h in
+    rw (keepFrom, le-leb n (x .position) (omega arith), standingAmong, eq-eqb (x .position) n q) (ap assigned (sym p))
+among-is n w (x ∷ es) r e (inr m) h =
+    let k = rising-in (suc (x .position)) es (r .1) e m .0 in
+    rw (keepFrom, lt-leb n (x .position) (omega arith)) (among-is n (suc (x .position)) es (r .1) e m h)
+
+standing-is : (l : Log) → LogOk l → (n : ℕ) (v d : List ℕ) (e : EntryAt l n v d) → standing l n ≡ assigned (e .entry)
+unfolding standing
+standing-is l ok n v d e =
+    let p = e .position in
+    let q = in-bounds l ok (e .entry) (e .there) in
+    let lo = q .0 in
+    let hi = q .1 in
+    rw (standing, le-ltb (l .high) n (omega arith), le-ltb n (l .low) (omega arith)) (among-is n (l .low) (l .entries) (ok .rising) (e .entry) (e .there) (e .position))
+
+module _ (ru : Rules) (b : Model) (keeps : Keeps b) (g n : ℕ) (v d : List ℕ) (h : EntryAt (logAt (b .logs) g) n v d) (c : List ℕ) (hc : length c ≡ 32) (gG : g < length (b .logs)) where
+  accepted : modelRefusal ru b (lookup g n c 160) ≡ none
+  unfolding modelRefusal
+  accepted =
+      let l = logAt (b .logs) g in
+      let p = h .position in
+      let q = in-bounds l (keeps .sound g) (h .entry) (h .there) .0 in
+      let w = keeps .sound g .low1 in
+      rw (modelRefusal, eq-eqb (length c) 32 hc, lt-leb (length (b .logs)) g gG, ne-eqb n 0 (λ (z : n ≡ 0). omega arith))
+
+  reply-is : modelStep ru b (lookup g n c 160) .reply ≡ lookupReply ru b g n c (logAt (b .logs) g) (assigned (h .entry))
+  unfolding modelStep modelAccept
+  reply-is = rw (modelStep, accepted, modelAccept, standing-is (logAt (b .logs) g) (keeps .sound g) n v d h)
+
+  shows : Shows (modelReceipt b LOOKUP 1 g n (h .entry .position) c (h .entry)) g n v d
+  unfolding modelReceipt
+  shows =
+      let l = logAt (b .logs) g in
+      let e = h .entry in
+      let z = keeps .fits g .sized e (h .there) in
+      let p64 : e .position < 2 ^ 64 = let t = in-bounds l (keeps .sound g) e (h .there) .1 in let u = keeps .fits g .high in omega arith in
+      let n64 : n < 2 ^ 64 = let p = h .position in omega arith in
+      let a : Attestation = record { name = LOOKUP; kind = 1; log = g; keeper = b .keeper; position = n; reference = e .position; nonce = c; value = e .value; digest = e .digest } in
+      let q : readAttestation (receiptBytes (b .key) a) ≡ a = read-receipt (b .key) a (record { name = length-LOOKUP; keeper = keeps .keeper; position = n64; reference = p64; nonce = hc; value = z .0; digest = z .1 }) in
+      record { assigned = ap (λ (x : Attestation). x .kind) q; log = ap (λ (x : Attestation). x .log) q; position = ap (λ (x : Attestation). x .position) q; value = ap (λ (x : Attestation). x .value) q ∙ h .value; digest = ap (λ (x : Attestation). x .digest) q ∙ h .digest }
+
+  shows-at : (rs : List Reply) (j : ℕ) → replyAt rs j ≡ modelStep ru b (lookup g n c 160) .reply → ShowsAt rs j g n v d
+  unfolding lookupReply kindOf referenceOf shownFor
+  shows-at rs j e = record { receipt = _; there = ap receiptIn (e ∙ reply-is); shows = shows }
+
+-- ---- along the list
+
+take-none : (cs : List Call) (k : ℕ) → getElem? cs k ≡ none → take (suc k) cs ≡ take k cs
+take-none [] zero h = refl
+take-none [] (suc k) h = refl
+take-none (c ∷ cs) zero h = absurd (Option·none-ne-some c (sym h))
+take-none (c ∷ cs) (suc k) h = ap {B = List Call} (λ (l : List Call). c ∷ l) (take-none cs k h)
+
+module _ (ru : Rules) (b : Model) (keeps : Keeps b) (cs : List Call) (w : AllWide cs) (i j g n : ℕ) (x : List ℕ) (a : Asked cs (replies (modelStep ru) b cs) i j g n x) where
+  met : ℕ → Model
+  met k = after (modelStep ru) b (take k cs)
+
+  put-at : Stored (met i) (met (suc i)) g n x
+  unfolding met
+  put-at = rw (at-next ru b cs i (a .put) (a .first)) (stored ru (met i) g n (a .low) x (a .put) (a .stores) (sym (at-reply ru b cs i (a .put) (a .first)) ∙ a .accepted))
+
+  held-at : (d : List ℕ) → EntryAt (logAt (met (suc i) .logs) g) n x d → (k : ℕ) → i < k → k ≤ j → EntryAt (logAt (met k .logs) g) n x d
+  unfolding met
+  held-at d h zero lo hi = absurd (omega arith)
+  held-at d h (suc k) lo hi = go (ℕ-discrete k i) (λ (q : i < k). held-at d h k q (omega arith)) (getElem? cs k) refl
+    where
+      on : i < k → EntryAt (logAt (met k .logs) g) n x d → (c : Call) → getElem? cs k ≡ some c → Next ru (met k) g n x d c → EntryAt (logAt (met (suc k) .logs) g) n x d
+      on q e c f (stays e′) = rw (at-next ru b cs k c f) e′
+      on q e c f (forgets m low high z r past) =
+          let le : m ≤ n = a .kept k m q hi (record { call = f ∙ ap some z; low = low; high = high; accepted = at-reply ru b cs k c f ∙ r }) in
+          absurd (omega arith)
+
+      go : Dec (k ≡ i) → (i < k → EntryAt (logAt (met k .logs) g) n x d) → (o : Option Call) → getElem? cs k ≡ o → EntryAt (logAt (met (suc k) .logs) g) n x d
+      go (yes e) below o f = rw e h
+      go (no z) below none f = rw (take-none cs k f) (below (omega arith))
+      go (no z) below (some c) f = on (omega arith) (below (omega arith)) c f (next ru (met k) g n x d (below (omega arith)) c)
+
+  pub model-remembers : (d : List ℕ) × ShowsAt (replies (modelStep ru) b cs) j g n x d
+  unfolding met
+  model-remembers =
+      let s = put-at in
+      let e = held-at (s .digest) (s .entry) j (a .later) (le-refl j) in
+      let gG : g < length (met j .logs) = rw (after-fixed ru b (take j cs) .count) (rw (after-fixed ru b (take i cs) .count) at (s .log)) in
+      (s .digest, shows-at ru (met j) (at-keeps ru b keeps cs w j) g n x (s .digest) e (a .nonce) (a .sized) gG (replies (modelStep ru) b cs) j (at-reply ru b cs j (lookup g n (a .nonce) 160) (a .second)))

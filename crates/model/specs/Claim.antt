@@ -1,0 +1,120 @@
+-- Demand 3: what it says of a list of calls on a freshly formatted table.
+use Prim.Native.Nat.{ℕ, suc, _<_, _≤_}
+use mathlib.Core.Path.{_≡_}
+use mathlib.Core.Logic.{_≢_}
+use mathlib.Core.List.{List, [], _∷_}
+use mathlib.Core.Option.{Option, none, some}
+use mathlib.Core.Bool.{cond}
+use lib.ListN.{length, getD, take, getElem?}
+use lib.Dec.{eqb}
+use Rattle.receipt.specs.Attestation.{readAttestation}
+use Rattle.layout.specs.Image.{Image}
+use Rattle.table.specs.WholeImage.{meets}
+use Rattle.a2m.specs.Call.{Call, append, advance, truncate, lookup, end, Reply, refused, done, found, ended, replies, after}
+use Rattle.a2m.specs.ImageCalls.{rowIn, entriesIn}
+use Rattle.model.specs.Log.{Log}
+use Rattle.model.specs.Model.{Rules, rules01, Model, newModel, logAt, modelStep}
+
+-- ---- what a list's answers show
+
+-- receipt r shows position n of log g assigned, with this value and digest
+pub record Shows (r : List ℕ) (g n : ℕ) (v d : List ℕ) : Type 0 where
+  pub assigned : readAttestation r .kind ≡ 1
+  pub log : readAttestation r .log ≡ g
+  pub position : readAttestation r .position ≡ n
+  pub value : readAttestation r .value ≡ v
+  pub digest : readAttestation r .digest ≡ d
+
+-- document 01: "a refused call has no receipt"
+abbrev pub receiptIn : Reply → Option (List ℕ)
+receiptIn (refused k) = none
+receiptIn (done l h) = none
+receiptIn (found r k) = some r
+receiptIn (ended r) = some r
+
+abbrev pub replyAt : List Reply → ℕ → Reply
+replyAt rs i = getD rs i (refused 0)
+
+-- the answer to call i has a receipt that shows this
+pub record ShowsAt (rs : List Reply) (i g n : ℕ) (v d : List ℕ) : Type 0 where
+  pub receipt : List ℕ
+  pub there : receiptIn (replyAt rs i) ≡ some receipt
+  pub shows : Shows receipt g n v d
+
+-- "A position is skipped when an accepted advance of the list on that log jumps over it": call j is an advance of log g to n that was accepted, and
+-- p lies between H as the calls before it left it and n
+pub record SkipsAt (ru : Rules) (b : Model) (cs : List Call) (rs : List Reply) (j g p : ℕ) : Type 0 where
+  pub n : ℕ
+  pub given : List ℕ
+  pub value : List ℕ
+  pub call : getElem? cs j ≡ some (advance g n given value)
+  pub low : ℕ
+  pub high : ℕ
+  pub accepted : replyAt rs j ≡ done low high
+  pub above : logAt (after (modelStep ru) b (take j cs) .logs) g .high < p
+  pub below : p < n
+
+-- "forgotten when it lies below the n of an earlier accepted truncate on that log": call j is a truncate of log g at n that was accepted
+pub record ForgetsAt (cs : List Call) (rs : List Reply) (j g n : ℕ) : Type 0 where
+  pub call : getElem? cs j ≡ some (truncate g n)
+  pub low : ℕ
+  pub high : ℕ
+  pub accepted : replyAt rs j ≡ done low high
+
+-- the call puts x into log g
+abbrev pub Stores : ℕ → List ℕ → Call → Type 0
+Stores g x (append k y) = (k ≡ g) × (y ≡ x)
+Stores g x (advance k n d y) = (k ≡ g) × (y ≡ x)
+Stores g x (truncate k n) = ⊥
+Stores g x (lookup k n c r) = ⊥
+Stores g x (end k c r) = ⊥
+
+-- call i put x at n of log g and was accepted; call j, later, looks n up; no truncate between them that was accepted goes past n
+pub record Asked (cs : List Call) (rs : List Reply) (i j g n : ℕ) (x : List ℕ) : Type 0 where
+  pub put : Call
+  pub stores : Stores g x put
+  pub first : getElem? cs i ≡ some put
+  pub low : ℕ
+  pub accepted : replyAt rs i ≡ done low n
+  pub nonce : List ℕ
+  pub sized : length nonce ≡ 32
+  pub second : getElem? cs j ≡ some (lookup g n nonce 160)
+  pub later : i < j
+  pub kept : (k m : ℕ) → i < k → k < j → ForgetsAt cs rs k g m → m ≤ n
+
+-- ---- what the table after the list says
+
+-- how often s stands in a list
+unfoldable pub times : ℕ → List ℕ → ℕ
+times s [] = 0
+times s (x ∷ xs) = cond (eqb s x) (suc (times s xs)) (times s xs)
+
+-- row g's L and H and the entries along its chain are the log's
+pub record RowSays (m : Image) (g : ℕ) (l : Log) : Type 0 where
+  pub low : rowIn m g .low ≡ l .low
+  pub high : rowIn m g .high ≡ l .high
+  pub entries : entriesIn m g ≡ l .entries
+
+-- ---- the claim
+
+-- of a format's arguments, the calls cs, their answers rs, and the table m after them
+pub record ListClaim (G S keeper : ℕ) (key : List ℕ) (cs : List Call) (rs : List Reply) (m : Image) : Type 0 where
+  -- "every answer is the one that document 01's plain book gives for the calls so far": receipts and examined numbers included
+  pub answers : rs ≡ replies (modelStep rules01) (newModel G S keeper key) cs
+  -- "no two receipts from the list show one log and position assigned with different values or digests"
+  pub agreeing : (i j g n : ℕ) (v d v′ d′ : List ℕ) → ShowsAt rs i g n v d → ShowsAt rs j g n v′ d′ → (v ≡ v′) × (d ≡ d′)
+  -- "none shows as assigned a position that the list skips", be it before or after the receipt
+  pub unskipped : (i j g p : ℕ) (v d : List ℕ) → SkipsAt rules01 (newModel G S keeper key) cs rs j g p → ShowsAt rs i g p v d → ⊥
+  -- "or one forgotten by then"
+  pub remembered : (i j g p n : ℕ) (v d : List ℕ) → j < i → ForgetsAt cs rs j g n → p < n → ShowsAt rs i g p v d → ⊥
+  -- "after the list every slot is free or held by one log, exactly once": "all these chains together meet every slot from 1 to S exactly once"
+  pub slots : (s : ℕ) → 1 ≤ s → s ≤ S → times s (meets m) ≡ 1
+  -- "After the list, each row's L and H and the entries along its chain are the book's."
+  pub rows : (g : ℕ) → g < G → RowSays m g (logAt (after (modelStep rules01) (newModel G S keeper key) cs .logs) g)
+  -- the table has its G rows and S slots
+  pub logs : length (m .rows) ≡ G
+  pub size : length (m .slots) ≡ S
+  -- "1 never occurs."
+  pub untorn : (i : ℕ) → replyAt rs i ≢ refused 1
+  -- and what a call put is found again: a later lookup shows it assigned with the value put, unless an accepted truncate went past it
+  pub found : (i j g n : ℕ) (x : List ℕ) → Asked cs rs i j g n x → (d : List ℕ) × ShowsAt rs j g n x d

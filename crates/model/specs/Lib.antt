@@ -1,0 +1,5 @@
+pub mod Claim
+pub mod Log
+pub mod Marked
+pub mod Model
+pub mod ModelOf

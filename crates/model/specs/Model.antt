@@ -1,0 +1,125 @@
+-- The reference model of the table calls: document 01's plain book, "fed the arguments of an accepted format (G, S, keeper number, key), then each
+-- call's arguments .., never a table or an answer". With the calls on images it shares the types of calls, answers and entries, the digest rule and
+-- the receipt bytes; its refusals, lookups and truncation are its own.
+use Prim.Native.Nat.{ℕ, suc, _+_, _-_, _^_}
+use mathlib.Core.List.{List, [], _∷_}
+use mathlib.Core.Bool.{Bool, true, false, cond, not, _||_}
+use mathlib.Core.Option.{Option, none, some}
+use lib.ListN.{length, getD, set, replicate}
+use lib.Dec.{eqb, leb, ltb}
+use Rattle.layout.specs.Image.{Entry, blankEntry}
+use Rattle.receipt.specs.Attestation.{Attestation, LOOKUP, END, receiptBytes}
+use Rattle.a2m.specs.Call.{Call, append, advance, truncate, lookup, end, Reply, refused, done, found, ended, Outcome, outcome}
+use Rattle.a2m.specs.Digest.{newEntry}
+use Rattle.model.specs.Log.{Log, freshLog, lastEntry, entered, cutAt, Standing, unassigned, forgotten, assigned, skipped, standing, kindOf, referenceOf, examinedFor}
+
+-- slots S, keeper number, key; the logs
+pub record Model : Type 0 where
+  pub size : ℕ
+  pub keeper : ℕ
+  pub key : List ℕ
+  pub logs : List Log
+
+-- the model of an accepted format: G fresh logs over S slots
+abbrev pub newModel : ℕ → ℕ → ℕ → List ℕ → Model
+newModel G S keeper key = record { size = S; keeper = keeper; key = key; logs = replicate G freshLog }
+
+abbrev pub logAt : List Log → ℕ → Log
+logAt logs g = getD logs g freshLog
+
+abbrev pub withLog : Model → ℕ → Log → Model
+withLog b g l = record { size = b .size; keeper = b .keeper; key = b .key; logs = set (b .logs) g l }
+
+-- the entries of all lists together
+unfoldable pub total : List Log → ℕ
+total [] = 0
+total (l ∷ ls) = length (l .entries) + total ls
+
+unfoldable pub isNil {ℓ} : {A : Type ℓ} → List A → Bool
+isNil [] = true
+isNil (x ∷ xs) = false
+
+-- ---- rules that later requests change
+
+pub record Rules : Type 0 where
+  -- what a skipped receipt shows, given the entry at its reference
+  pub gap : Entry → Entry
+  -- the number that an append or advance on a log gets where there is no slot for it
+  pub noSlot : Model → ℕ → Option ℕ
+  -- the number that an end of an empty list gets
+  pub emptyEnd : Option ℕ
+
+-- "Value and digest are the entry's when assigned, otherwise zero bytes"; "6 by an empty list, 5 when all lists together have S entries"
+unfoldable pub rules01 : Rules
+rules01 = record { gap = λ e. blankEntry; noSlot = λ b g. cond (eqb (total (b .logs)) (b .size)) (some 5) none; emptyEnd = some 6 }
+
+-- ---- refusals
+
+abbrev pub not32 : List ℕ → Bool
+not32 x = not (eqb (length x) 32)
+
+-- "A call is refused with the first number that fits .. 7 by the lengths, 2 by G, 3 and 4 by the log's L and H, 6 by an empty list, 5 when all lists
+-- together have S entries. 1 never occurs."
+unfoldable pub modelRefusal : Rules → Model → Call → Option ℕ
+modelRefusal ru b (append g x) =
+    cond (not32 x) (some 7) (cond (leb (length (b .logs)) g) (some 2) (cond (eqb (logAt (b .logs) g .high) (2 ^ 64 - 1)) (some 4) (ru .noSlot b g)))
+modelRefusal ru b (advance g n d x) =
+    cond (not32 d || not32 x) (some 7) (cond (leb (length (b .logs)) g) (some 2) (cond (leb n (logAt (b .logs) g .high)) (some 3) (ru .noSlot b g)))
+modelRefusal ru b (truncate g n) =
+    cond (leb (length (b .logs)) g) (some 2) (cond (leb n (logAt (b .logs) g .low) || ltb (logAt (b .logs) g .high) n) (some 3) none)
+modelRefusal ru b (lookup g n c k) =
+    cond (not32 c || not (eqb k 160)) (some 7) (cond (leb (length (b .logs)) g) (some 2) (cond (eqb n 0) (some 3) none))
+modelRefusal ru b (end g c k) =
+    cond (not32 c || not (eqb k 160)) (some 7)
+    (cond (leb (length (b .logs)) g) (some 2) (cond (isNil (logAt (b .logs) g .entries)) (ru .emptyEnd) none))
+
+-- ---- receipts
+
+-- "from the book's L, H and list, the call's nonce, and the format's keeper number and key"
+unfoldable pub modelReceipt : Model → List ℕ → ℕ → ℕ → ℕ → ℕ → List ℕ → Entry → List ℕ
+modelReceipt b name kind g n reference nonce e = receiptBytes (b .key) (record {
+  name = name;
+  kind = kind;
+  log = g;
+  keeper = b .keeper;
+  position = n;
+  reference = reference;
+  nonce = nonce;
+  value = e .value;
+  digest = e .digest;
+})
+
+-- the entry whose value and digest a lookup's receipt shows
+unfoldable pub shownFor : Rules → Standing → Entry
+shownFor ru unassigned = blankEntry
+shownFor ru forgotten = blankEntry
+shownFor ru (assigned e) = e
+shownFor ru (skipped e) = ru .gap e
+
+unfoldable pub lookupReply : Rules → Model → ℕ → ℕ → List ℕ → Log → Standing → Reply
+lookupReply ru b g n nonce l s =
+    found (modelReceipt b LOOKUP (kindOf s) g n (referenceOf l s) nonce (shownFor ru s)) (examinedFor l n s)
+
+-- "End gives the entry at H", the list's last; an empty list has none
+unfoldable pub endReply : Model → ℕ → List ℕ → List Entry → Reply
+endReply b g nonce es =
+    ended (modelReceipt b END (cond (isNil es) 0 1) g (lastEntry es .position) (lastEntry es .position) nonce (lastEntry es))
+
+-- ---- the calls
+
+-- "An accepted append, advance or truncate answers 0 with the log's L and H after it."
+unfoldable pub modelDone : Model → ℕ → Log → Outcome Model
+modelDone b g l = outcome (done (l .low) (l .high)) (withLog b g l)
+
+-- "Lookup and end change nothing"
+unfoldable pub modelAccept : Rules → Model → Call → Outcome Model
+modelAccept ru b (append g x) =
+    let l = logAt (b .logs) g in modelDone b g (entered l (newEntry (suc (l .high)) x (lastEntry (l .entries) .digest)))
+modelAccept ru b (advance g n d x) = modelDone b g (entered (logAt (b .logs) g) (newEntry n x d))
+modelAccept ru b (truncate g n) = modelDone b g (cutAt n (logAt (b .logs) g))
+modelAccept ru b (lookup g n c k) = let l = logAt (b .logs) g in outcome (lookupReply ru b g n c l (standing l n)) b
+modelAccept ru b (end g c k) = outcome (endReply b g c (logAt (b .logs) g .entries)) b
+
+-- a refused call: "The book stays as it was."
+unfoldable pub modelStep : Rules → Model → Call → Outcome Model
+modelStep ru b call = elim (modelRefusal ru b call) [ none ↦ modelAccept ru b call | some k ↦ outcome (refused k) b ]
