@@ -1,11 +1,16 @@
+pub mod CallLaws
+pub mod Cases
 pub mod Chained
 pub mod Clear
 pub mod DigestLaws
+pub mod EnterLaws
 pub mod FitsAfter
 pub mod Links
 pub mod Lists
 pub mod Moves
+pub mod OpenedLaws
 pub mod Releases
+pub mod SearchLaws
 pub mod Unchanged
 pub mod WholeBytes
 pub mod WholeChains
