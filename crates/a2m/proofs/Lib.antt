@@ -9,6 +9,8 @@ pub mod Links
 pub mod Lists
 pub mod Moves
 pub mod OpenedLaws
+pub mod ReadLaws
+pub mod ReleaseLaws
 pub mod Releases
 pub mod SearchLaws
 pub mod Unchanged

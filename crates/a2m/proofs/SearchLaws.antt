@@ -59,30 +59,31 @@ module _ (slots : List Slot) (o n first : ℕ) where
   pub going-first : reaches slots o first ≡ true → Going slots o n first first 0
   going-first h = let l = links-reaches slots o first h in let f = links-fit slots o first (chain slots o first) l in record { links = l; count = omega arith; rest = refl }
 
-  module _ (s k : ℕ) (G : Going slots o n first s k) (ne : s ≢ 0) (l : Link) (el : l ≡ linkOf (slotAt slots s)) where
+  module _ (s k : ℕ) (G : Going slots o n first s k) (ne : s ≢ 0) where
     cons : (d : List ℕ) × (chain slots o s ≡ s ∷ d)
     cons = chain-cons slots o s (chain slots o s) (omega arith) (G .links)
 
     linked : Links slots o s (s ∷ cons .0) 0
     linked = subst (λ (c : List ℕ). Links slots o s c 0) (cons .1) (G .links)
 
-    next-is : chain slots o (l .next) ≡ cons .0
-    next-is = chain-links slots o (l .next) (cons .0) (subst (λ (x : ℕ). Links slots o x (cons .0) 0) (sym (ap (λ (x : Link). x .next) el)) (linked .4))
+    pub within : (1 ≤ s) × (s ≤ length slots)
+    within = (linked .1, linked .2)
+
+    pub counted-on : k + 1 ≤ length slots
+    counted-on = let c = G .count in omega (arith, ap length (cons .1))
+
+  module _ (s k : ℕ) (G : Going slots o n first s k) (ne : s ≢ 0) (l : Link) (el : l ≡ linkOf (slotAt slots s)) where
+    next-is : chain slots o (l .next) ≡ cons s k G ne .0
+    next-is = chain-links slots o (l .next) (cons s k G ne .0) (subst (λ (x : ℕ). Links slots o x (cons s k G ne .0) 0) (sym (ap (λ (x : Link). x .next) el)) (linked s k G ne .4))
 
     chain-is : chain slots o s ≡ s ∷ chain slots o (l .next)
-    chain-is = cons .1 ∙ ap {B = List ℕ} (λ (d : List ℕ). s ∷ d) (sym next-is)
+    chain-is = cons s k G ne .1 ∙ ap {B = List ℕ} (λ (d : List ℕ). s ∷ d) (sym next-is)
 
     rest-is : search n 0 (entriesOf slots (chain slots o first)) ≡ search n k (entriesOf slots (s ∷ chain slots o (l .next)))
     rest-is = G .rest ∙ ap (λ (c : List ℕ). search n k (entriesOf slots c)) chain-is
 
     place : l .position ≡ slotAt slots s .position
     place = ap (λ (x : Link). x .position) el
-
-    pub within : (1 ≤ s) × (s ≤ length slots)
-    within = (linked .1, linked .2)
-
-    pub counted-on : k + 1 ≤ length slots
-    counted-on = let c = G .count in omega (arith, ap length chain-is)
 
     pub at-entry : l .position ≡ n → foundOf slots (hit 1 n s (k + 1)) ≡ search n 0 (entriesOf slots (chain slots o first))
     at-entry h = rw add-one (sym (rest-is ∙ search-at n k (entryOf (slotAt slots s)) (entriesOf slots (chain slots o (l .next))) (sym place ∙ h)))
@@ -97,7 +98,7 @@ module _ (slots : List Slot) (o n first : ℕ) where
         let p : slotAt slots s .position < n = let q : l .position ≢ n = h in omega (arith, place) in
         let c = G .count in
         record {
-          links = subst (λ (d : List ℕ). Links slots o (l .next) d 0) (sym next-is) (subst (λ (x : ℕ). Links slots o x (cons .0) 0) (sym (ap (λ (x : Link). x .next) el)) (linked .4));
+          links = subst (λ (d : List ℕ). Links slots o (l .next) d 0) (sym next-is) (subst (λ (x : ℕ). Links slots o x (cons s k G ne .0) 0) (sym (ap (λ (x : Link). x .next) el)) (linked s k G ne .4));
           count = omega (arith, ap length chain-is);
           rest = rw add-one (rest-is ∙ search-on n k (entryOf (slotAt slots s)) (entriesOf slots (chain slots o (l .next))) p);
         }

@@ -10,13 +10,11 @@ use layout::head::put_free;
 use layout::rows::put_row;
 use refusal::Refusal;
 ghost use mathlib.Core.Path.{_≡_};
-ghost use Prim.Native.Nat.{_≤_, _<_};
-ghost use lib.ListN.{length};
+ghost use Prim.Native.Nat.{_≤_};
 ghost use Rattle.layout.specs.Layout.{readTable, writeTable};
 ghost use Rattle.layout.specs.Fits.{Counted};
-ghost use Rattle.layout.specs.Changes.{withRow};
-ghost use Rattle.a2m.specs.Call.{truncate as truncates};
-ghost use Rattle.a2m.specs.ImageCalls.{rowIn, releases};
+ghost use Rattle.a2m.specs.Call.{truncate as truncates, done};
+ghost use Rattle.a2m.specs.ImageCalls.{releases, lowered};
 ghost use Rattle.a2m.specs.TableCalls.{tableStep};
 ghost use Rattle.a2m.specs.Opened.{Opened, changeReply, joinedAt};
 
@@ -33,13 +31,13 @@ fn join(table: &mut [u8], logs: usize, slots: usize, last: usize, t: usize)
     }
 }
 
-// Frees the log's slots below position n, and hands back the first that stays. A log's chain joins the free chain whole,
-// its slots become free one by one, each keeping its next, and the free chain is cut behind the last of them.
-fn release(table: &mut [u8], view: View, n: u64) -> usize
+// Frees the log's slots below position n. The log's chain joins the free chain whole, its slots become free one by one,
+// each keeping its next, and the free chain is cut behind the last of them.
+fn strike(table: &mut [u8], view: View, n: u64) -> Change
     requires { ⌜ Opened (now table) view ⌝ }
     requires { ⌜ (1 ≤ n) × (n ≤ view .row .high) ⌝ }
-    ensures first { λ r. ⌜ r ≡ rowIn (releases (view .slots) n (readTable (now (table .entry))) (view .log)) (view .log) .first ⌝ }
-    ensures bytes { λ _. ⌜ now (table .exit) ≡ writeTable (withRow (releases (view .slots) n (readTable (now (table .entry))) (view .log)) (view .log) (view .row)) ⌝ }
+    ensures answer { λ r. ⌜ changeReply r ≡ done n (view .row .high) ⌝ }
+    ensures bytes { λ _. ⌜ now (table .exit) ≡ writeTable (lowered (releases (view .slots) n (readTable (now (table .entry))) (view .log)) (view .log) n) ⌝ }
 {
     let logs = view.logs;
     let slots = view.slots;
@@ -58,10 +56,15 @@ fn release(table: &mut [u8], view: View, n: u64) -> usize
         s = l.next;
     }
     join(table, logs, slots, last, 0);
-    s
+    let after = row.truncate(n, s);
+    put_row(table, logs, slots, view.log, after);
+    Change::Done {
+        low: after.low,
+        high: after.high,
+    }
 }
 
-// Refusal 3, and the entries below n struck.
+// Refusal 3, and the entries below the position struck.
 fn truncate_open(table: &mut [u8], view: View, position: u64) -> Change
     requires { ⌜ Opened (now table) view ⌝ }
     ensures answer { λ r. ⌜ changeReply r ≡ tableStep (now (table .entry)) (truncates (view .log) position) .reply ⌝ }
@@ -74,13 +77,7 @@ fn truncate_open(table: &mut [u8], view: View, position: u64) -> Change
     if row.high < position {
         return Change::Refused(Refusal::Position);
     }
-    let first = release(table, view, position);
-    let after = row.truncate(position, first);
-    put_row(table, view.logs, view.slots, view.log, after);
-    Change::Done {
-        low: after.low,
-        high: after.high,
-    }
+    strike(table, view, position)
 }
 
 // Strikes the log's entries below a position.

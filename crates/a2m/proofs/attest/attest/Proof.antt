@@ -1,3 +1,9 @@
+use Rattle.octets.specs.Octets.{zeros}
+use lib.ListN.{length}
+use Rattle.a2m.proofs.ReadLaws.{key-size, attest-slot, attest-none}
+use Rattle.a2m.proofs.DigestLaws.{value-size, digest-size}
+use native.Mathlib.Omega.{arith}
+use mathlib.Core.Path.{_≡_, refl, sym, ap, _∙_}
 use borrow.Author.Needs.{needs}
 use Rattle.a2m.proofs.attest.attest.Statement.{statement}
 use Rattle.a2m.proofs.attest.attest.Tie as tie
@@ -22,7 +28,7 @@ slice-aggregate-put-receipt-2 c = search needs
 
 -- src/attest.rt:34:9
 put-receipt-requires : tie.Need-put-receipt-requires
-put-receipt-requires c κs = ?
+put-receipt-requires c κs = let a = c .before .before .before .before .before .before .before .before .args in let p = c .before .before .before .before .before .before .before .before .pre in ((p .1 .1 .1, key-size (a .table .now) (a .logs) (a .slots) _ (p .0) (c .before .before .before .before .key-of .ensures)), (p .1 .1 .0, (refl, refl)))
 
 -- src/attest.rt:35:9
 same-length : tie.Need-same-length
@@ -30,7 +36,8 @@ same-length c = search needs
 
 -- src/attest.rt:35:9
 returns : tie.Need-returns
-returns c = ?
+unfolding zeros
+returns c = let a = c .before .before .before .before .before .before .before .before .before .before .before .args in attest-none (a .table .now) (a .s) (a .f) (a .nonce .now) (c .before .before .before .before .before .before .before .key-of .result .now) _ _ (c .before .before .put-receipt .last .0) (c .before .before .before .before .before .before .before .key-of .ensures) (c .before .before .put-receipt .ensures) (c .before .before .before .before .before .before .if1 .taken) refl refl
 
 -- src/attest.rt:37:9
 value-at-requires : tie.Need-value-at-requires
@@ -42,7 +49,7 @@ digest-at-requires c κs = search needs
 
 -- src/attest.rt:39:5
 put-receipt-requires-2 : tie.Need-put-receipt-requires-2
-put-receipt-requires-2 c κs = ?
+put-receipt-requires-2 c κs = let a = c .before .before .before .before .before .before .before .before .args in let p = c .before .before .before .before .before .before .before .before .pre in ((p .1 .1 .1, key-size (a .table .now) (a .logs) (a .slots) _ (p .0) (c .before .before .before .before .key-of .ensures)), (p .1 .1 .0, (ap length (c .before .before .value-at .ensures) ∙ value-size (a .table .now) (a .logs) (a .slots) (a .s) (p .0) (c .before .before .before .if1 .left) (p .1 .0), ap length (c .before .digest-at .ensures) ∙ digest-size (a .table .now) (a .logs) (a .slots) (a .s) (p .0) (c .before .before .before .if1 .left) (p .1 .0))))
 
 -- src/attest.rt:17:1
 same-length-2 : tie.Need-same-length-2
@@ -50,7 +57,7 @@ same-length-2 c = search needs
 
 -- src/attest.rt:17:1
 returns-2 : tie.Need-returns-2
-returns-2 c = ?
+returns-2 c = let a = c .before .before .before .before .before .before .before .before .before .before .before .args in attest-slot (a .table .now) (a .s) (a .f) (a .nonce .now) (c .before .before .before .before .before .before .before .key-of .result .now) (c .before .before .before .before .before .value-at .result .now) (c .before .before .before .before .digest-at .result .now) (c .before .before .put-receipt2 .last .0) (c .before .before .before .before .before .before .before .key-of .ensures) (c .before .before .put-receipt2 .ensures) (c .before .before .before .before .before .value-at .ensures) (c .before .before .before .before .digest-at .ensures)
 
 pub attest-spec : {M : Type 1} → statement M
 attest-spec =

@@ -1,3 +1,5 @@
+use Rattle.a2m.proofs.ReleaseLaws.{joins-first, joins-behind}
+use mathlib.Core.Path.{_≡_, refl, sym, ap, _∙_}
 use borrow.Author.Needs.{needs}
 use Rattle.a2m.proofs.truncate.join.Statement.{statement}
 use Rattle.a2m.proofs.truncate.join.Tie as tie
@@ -20,7 +22,7 @@ same-length c = search needs
 
 -- src/truncate.rt:24:1
 returns : tie.Need-returns
-returns c = ?
+returns c = let a = c .before .before .before .before .before .before .args in joins-first (a .table .now) (c .before .before .put-free .last .0) (a .last) (a .t) (c .before .before .before .before .if1 .taken) (c .before .before .put-free .ensures)
 
 -- src/truncate.rt:24:1
 same-length-2 : tie.Need-same-length-2
@@ -28,7 +30,7 @@ same-length-2 c = search needs
 
 -- src/truncate.rt:24:1
 returns-2 : tie.Need-returns-2
-returns-2 c = ?
+returns-2 c = let a = c .before .before .before .before .before .before .args in joins-behind (a .table .now) (c .before .before .put-next .last .0) (a .last) (a .t) (c .before .before .before .before .if1 .left) (c .before .before .put-next .ensures)
 
 pub join-spec : {M : Type 1} → statement M
 join-spec =
