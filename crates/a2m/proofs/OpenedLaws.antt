@@ -218,7 +218,7 @@ module _ (b : List ℕ) (v : View) (o : Opened b v) where
 
   -- the chain that a lookup walks, and the entries along it
   pub opened-reaches : reaches (readTable b .slots) (suc (v .log)) (v .row .first) ≡ true
-  opened-reaches = ap (λ (r : Row). reaches (readTable b .slots) (suc (v .log)) (r .first)) view-row ∙ reaches-links (readTable b .slots) (suc (v .log)) (rowIn (readTable b) (v .log) .first) _ logged
+  opened-reaches = ap (λ (r : Row). reaches (readTable b .slots) (suc (v .log)) (r .first)) view-row ∙ reaches-links (readTable b .slots) (suc (v .log)) (rowIn (readTable b) (v .log) .first) (chain (readTable b .slots) (suc (v .log)) (rowIn (readTable b) (v .log) .first)) logged
 
   pub entries-are : entriesOf (readTable b .slots) (chain (readTable b .slots) (suc (v .log)) (v .row .first)) ≡ entriesIn (readTable b) (v .log)
   unfolding entriesIn

@@ -1,3 +1,9 @@
+use Prim.Native.Nat.{ℕ}
+use Rattle.a2m.specs.Opened.{changeReply}
+use Rattle.a2m.specs.Call.{truncate}
+use Rattle.a2m.proofs.CallLaws.{truncate-sized, unopened, at-log}
+use Rattle.a2m.proofs.OpenedLaws.{opened}
+use mathlib.Core.Path.{_≡_, refl, sym, ap, _∙_}
 use borrow.Author.Needs.{needs}
 use Rattle.a2m.proofs.truncate.truncate.Statement.{statement}
 use Rattle.a2m.proofs.truncate.truncate.Tie as tie
@@ -16,7 +22,7 @@ enum-known-view c = search needs
 
 -- src/truncate.rt:89:32
 truncate-open-requires : tie.Need-truncate-open-requires
-truncate-open-requires c κs = ?
+truncate-open-requires c κs = opened (c .before .before .before .before .before .before .before .args .table .now) (c .before .before .before .before .before .before .before .args .log) (c .before .before .view .given .0 .0) (sym (c .before .before .view .given .1) ∙ c .before .before .before .before .«open» .ensures) .0
 
 -- src/truncate.rt:90:26
 enum-known-why : tie.Need-enum-known-why
@@ -28,7 +34,7 @@ same-length c = search needs
 
 -- src/truncate.rt:84:1
 returns : tie.Need-returns
-returns c = ?
+returns c = let a = c .before .before .before .before .before .before .before .before .before .before .args in at-log (a .table .now) (λ (g : ℕ). truncate g (a .position)) (changeReply (c .before .before .truncate-open .result)) (c .before .before .truncate-open .last .0) (opened (a .table .now) (a .log) (c .before .before .before .before .before .view .given .0 .0) (sym (c .before .before .before .before .before .view .given .1) ∙ c .before .before .before .before .before .before .before .«open» .ensures) .1) (c .before .before .truncate-open .ensures)
 
 -- src/truncate.rt:84:1
 same-length-2 : tie.Need-same-length-2
@@ -36,7 +42,7 @@ same-length-2 c = search needs
 
 -- src/truncate.rt:84:1
 returns-2 : tie.Need-returns-2
-returns-2 c = ?
+returns-2 c = let a = c .before .before .before .before .before .before .args in unopened (a .table .now) (a .log) (c .before .why .given .0 .0) (truncate (a .log) (a .position)) (sym (c .before .why .given .1) ∙ c .before .before .before .«open» .ensures) refl (truncate-sized (a .table .now) (a .position) (a .log))
 
 pub truncate-spec : {M : Type 1} → statement M
 truncate-spec =
