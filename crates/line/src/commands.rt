@@ -38,6 +38,8 @@ fn command(w: Word, n: usize, v: [u64; 4]) -> Command
     requires { ⌜ n ≤ 4 ⌝ }
     ensures { λ r. ⌜ r ≡ made w (take n v) ⌝ }
 {
+    let log = v[0];
+    let position = v[1];
     match w {
         Word::Format => if n == 3 {
             return Command::Format {
@@ -47,33 +49,24 @@ fn command(w: Word, n: usize, v: [u64; 4]) -> Command
             };
         },
         Word::Append => if n == 2 {
-            return Command::Append {
-                log: v[0],
-                value: v[1],
-            };
+            return Command::Append { log, value: v[1] };
         },
         Word::Advance => if n == 4 {
             return Command::Advance {
-                log: v[0],
-                position: v[1],
+                log,
+                position,
                 digest: v[2],
                 value: v[3],
             };
         },
         Word::Truncate => if n == 2 {
-            return Command::Truncate {
-                log: v[0],
-                position: v[1],
-            };
+            return Command::Truncate { log, position };
         },
         Word::Lookup => if n == 2 {
-            return Command::Lookup {
-                log: v[0],
-                position: v[1],
-            };
+            return Command::Lookup { log, position };
         },
         Word::End => if n == 1 {
-            return Command::End { log: v[0] };
+            return Command::End { log };
         },
         Word::Unknown => {}
     }
