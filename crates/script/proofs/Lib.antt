@@ -1,0 +1,3 @@
+pub mod AnswerLaws
+pub mod CallLaws
+pub mod TurnLaws
