@@ -24,10 +24,10 @@ use Rattle.a2m.proofs.Clear.{Clear, clear}
 use Rattle.a2m.proofs.DigestLaws.{length-digest}
 use Rattle.a2m.proofs.Moves.{length-joined}
 
-abbrev SlotsFit : List Slot → Type 0
+abbrev pub SlotsFit : List Slot → Type 0
 SlotsFit slots = (i : ℕ) → SlotFits (getD slots i (freeSlot 0))
 
-slot-fits : (slots : List Slot) → SlotsFit slots → (s : ℕ) → SlotFits (slotAt slots s)
+pub slot-fits : (slots : List Slot) → SlotsFit slots → (s : ℕ) → SlotFits (slotAt slots s)
 unfolding slotAt
 slot-fits slots h zero = free-fits 0 (omega arith)
 slot-fits slots h (suc i) = h i
@@ -48,7 +48,7 @@ joined-fits slots h t last x k hx = go (eqb last 0)
     go true = set-fits slots h t x hx
     go false = set-fits (setSlot slots t x) (set-fits slots h t x hx) last (withNext (slotAt slots last) t) (next-fits (slotAt slots last) t (slot-fits slots h last) k)
 
-first-fits : (last first t : ℕ) → first < 256 ^ 2 → t < 256 ^ 2 → firstOf last first t < 256 ^ 2
+pub first-fits : (last first t : ℕ) → first < 256 ^ 2 → t < 256 ^ 2 → firstOf last first t < 256 ^ 2
 first-fits last first t h k = go (eqb last 0)
   where
     go : (b : Bool) → cond b t first < 256 ^ 2

@@ -81,7 +81,7 @@ module _ (slots : List Slot) (a b t : ℕ) (A : List ℕ) (s : ℕ) (B : List �
       go (inl z) = omega arith
       go (inr h) = n (sym own ∙ ap (λ (y : ℕ). slotAt slots y .owner) e ∙ h .1)
 
-  hook-apart : last ≢ t
+  pub hook-apart : last ≢ t
   hook-apart e = not-behind t a (M .from .1) (M .from .3) (M .apart) (sym e)
 
   unmoved : (u : ℕ) → u ≢ t → u ≢ last → slotAt (joined slots t last x) u ≡ slotAt slots u

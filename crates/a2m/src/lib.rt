@@ -1,1 +1,51 @@
 // The five calls of an attested append-only memory on a lent table: append, advance, truncate, lookup, end.
+// Each tests the lengths, opens the table at its log, and then reads or changes it: one call, one check of the table.
+pub mod advance;
+pub mod append;
+mod attest;
+mod digest;
+pub mod end;
+mod entering;
+pub mod lookup;
+mod open;
+mod search;
+pub mod truncate;
+
+use layout::Row;
+use refusal::Refusal;
+
+// What append, advance and truncate answer: the row's low and high position after the call, or why it was refused.
+pub enum Change {
+    Done { low: u64, high: u64 },
+    Refused(Refusal),
+}
+
+// What a lookup answers beside its receipt: the number of entries examined, or why it was refused.
+pub enum Finding {
+    Found { examined: u64 },
+    Refused(Refusal),
+}
+
+// A whole table at one of its logs: its counts, the log's row, the first free slot and the last (0 if none is free).
+pub struct View {
+    pub logs: usize,
+    pub slots: usize,
+    pub log: usize,
+    pub row: Row,
+    pub free: usize,
+    pub last: usize,
+}
+
+// A table that is opened at a log, or why not: it is torn, or has no such log.
+pub enum Opening {
+    Open(View),
+    Refused(Refusal),
+}
+
+// What a lookup finds: the receipt's kind and reference, the slot of the entry shown (0: none), and the entries examined.
+pub struct Hit {
+    pub kind: u8,
+    pub reference: u64,
+    pub slot: usize,
+    pub examined: u64,
+}

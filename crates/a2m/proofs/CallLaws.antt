@@ -1,0 +1,159 @@
+-- The answers of append, advance and truncate, and the table after, for each way out. Over plain values: b is the table before, a the one after.
+use Prim.Native.Nat.{ℕ, suc, _+_, _-_, _^_, _≤_, _<_}
+use mathlib.Core.Path.{_≡_, refl, sym, ap, ap₂, subst, _∙_}
+use mathlib.Core.Logic.{_≢_}
+use mathlib.Core.List.{List}
+use mathlib.Core.Bool.{Bool, true, false, not, _||_}
+use mathlib.Core.Option.{none, some}
+use native.Mathlib.Omega.{arith}
+use lib.ListN.{length, getD, set}
+use lib.Seq.{getD-set-same}
+use lib.Dec.{eqb, leb, ltb}
+use borrow.Author.Tests.{eq-eqb, ne-eqb, le-leb, lt-leb}
+use Rattle.refusal.specs.Number.{numberOf}
+use Rattle.refusal.specs.declared.Refusal.{Refusal}
+use Rattle.layout.specs.declared.Row.{Row}
+use Rattle.layout.specs.Image.{Entry, Image, freshRow, slotAt, rowAt}
+use Rattle.layout.specs.Layout.{readTable, writeTable}
+use Rattle.layout.specs.Changes.{advancedRow, appendedRow}
+use Rattle.layout.proofs.TableLaws.{length-rows}
+use Rattle.a2m.specs.declared.View.{View}
+use Rattle.a2m.specs.declared.Opening.the-variants as opening
+use Rattle.a2m.specs.Call.{Call, append, advance, logOf, Reply, refused, done}
+use Rattle.a2m.specs.Digest.{entryDigest, newEntry}
+use Rattle.a2m.specs.ImageCalls.{rowIn, wrongLength, misplaced, spent, nothingHeld, full, put, previousIn, imageDone, imageAccept}
+use Rattle.a2m.specs.TableCalls.{tableRefusal, tableStep}
+use Rattle.a2m.specs.Opened.{openingOf, Opened, entryAt}
+use Rattle.a2m.proofs.Cases.{refused-step, accepted-step, wrong-length, wrong-position, is-spent, is-full, no-refusal}
+use Rattle.a2m.proofs.OpenedLaws.{not-opened, view-row, view-free, opened-known}
+
+-- the answer r and the table a after the call
+abbrev pub Steps : List ℕ → Call → Reply → List ℕ → Type 0
+Steps b call r a = (r ≡ tableStep b call .reply) × (a ≡ tableStep b call .state)
+
+-- the log's number by the caller, and by the view
+pub at-log : (b : List ℕ) (call : ℕ → Call) (r : Reply) (a : List ℕ) {g h : ℕ} → g ≡ h → Steps b (call g) r a → Steps b (call h) r a
+at-log b call r a e s = subst (λ (k : ℕ). Steps b (call k) r a) e s
+
+-- a table that is not opened
+pub unopened : (b : List ℕ) (g : ℕ) (w : Refusal) (call : Call) → opening.Refused w ≡ openingOf b g → logOf call ≡ g → wrongLength call ≡ false → Steps b call (refused (numberOf w)) b
+unopened b g w call e l s = refused-step b call (numberOf w) (not-opened b g w e call l s)
+
+not-32 : (x : List ℕ) → length x ≢ 32 → not (eqb (length x) 32) ≡ true
+not-32 x h = ap not (ne-eqb (length x) 32 h)
+
+is-32 : (x : List ℕ) → length x ≡ 32 → not (eqb (length x) 32) ≡ false
+is-32 x h = ap not (eq-eqb (length x) 32 h)
+
+-- the row of a log whose row was set
+row-set : (m : Image) (g : ℕ) (r : Row) → g < length (m .rows) → getD (set (m .rows) g r) g freshRow ≡ r
+row-set m g r h = getD-set-same (m .rows) g r freshRow h
+
+-- "answers 0 with the L and H of that row": an entry's position is the new H
+put-answer : (m : Image) (g : ℕ) (e : Entry) → g < length (m .rows) → done (rowIn (put m g e) g .low) (rowIn (put m g e) g .high) ≡ done (rowIn m g .low) (e .position)
+unfolding put advancedRow
+put-answer m g e h = ap (λ (r : Row). done (r .low) (r .high)) (row-set m g (advancedRow (rowIn m g) (e .position) (m .free)) h)
+
+-- ---- append
+
+module _ (b x : List ℕ) where
+  pub append-sized : (g : ℕ) → length x ≡ 32 → wrongLength (append g x) ≡ false
+  unfolding wrongLength
+  append-sized g h = is-32 x h
+
+  pub append-length : (g : ℕ) → length x ≢ 32 → Steps b (append g x) (refused 7) b
+  unfolding wrongLength
+  append-length g h = refused-step b (append g x) 7 (wrong-length b (append g x) (not-32 x h))
+
+  module _ (v : View) (o : Opened b v) (h : length x ≡ 32) where
+    high-is : v .row .high ≡ rowIn (readTable b) (v .log) .high
+    high-is = ap (λ (r : Row). r .high) (view-row b v o)
+
+    pub append-spent : v .row .high ≡ 2 ^ 64 - 1 → Steps b (append (v .log) x) (refused 4) b
+    unfolding misplaced spent
+    append-spent e =
+        let call = append (v .log) x in
+        refused-step b call 4 (is-spent b call (append-sized (v .log) h) (o .whole) (opened-known b v o) refl (eq-eqb _ _ (sym high-is ∙ e)))
+
+    not-spent : v .row .high ≢ 2 ^ 64 - 1 → eqb (rowIn (readTable b) (v .log) .high) (2 ^ 64 - 1) ≡ false
+    not-spent n = ne-eqb _ _ (λ (q : rowIn (readTable b) (v .log) .high ≡ 2 ^ 64 - 1). n (high-is ∙ q))
+
+    pub append-full : v .row .high ≢ 2 ^ 64 - 1 → v .free ≡ 0 → Steps b (append (v .log) x) (refused 5) b
+    unfolding misplaced spent nothingHeld full
+    append-full n e =
+        let call = append (v .log) x in
+        refused-step b call 5 (is-full b call (append-sized (v .log) h) (o .whole) (opened-known b v o) refl (not-spent n) refl (eq-eqb _ _ (sym (view-free b v o) ∙ e)))
+
+    pub append-done : v .row .high ≢ 2 ^ 64 - 1 → v .free ≢ 0 → (after : Row) (d : List ℕ) → after ≡ appendedRow (v .row) (v .free) → d ≡ entryDigest (after .high) x (slotAt (readTable b .slots) (v .row .last) .digest)
+        → (r : Reply) (a : List ℕ) → r ≡ done (v .row .low) (after .high) → a ≡ writeTable (put (readTable b) (v .log) (entryAt (after .high) x d)) → Steps b (append (v .log) x) r a
+    unfolding misplaced spent nothingHeld full imageAccept imageDone appendedRow advancedRow
+    append-done n f after d ea ed r a er es =
+        let call = append (v .log) x in
+        let m = readTable b in
+        let g = v .log in
+        let top : after .high ≡ rowIn m g .high + 1 = ap (λ (w : Row). w .high) ea ∙ ap (λ (k : ℕ). k + 1) high-is in
+        let entry : entryAt (after .high) x d ≡ newEntry (rowIn m g .high + 1) x (previousIn m g) =
+        ap (entryAt (after .high) x) (ed ∙ ap (λ (w : Row). entryDigest (after .high) x (slotAt (m .slots) (w .last) .digest)) (view-row b v o))
+        ∙ ap (λ (k : ℕ). newEntry k x (previousIn m g)) top in
+        accepted-step b call r a
+        (no-refusal b call (append-sized g h) (o .whole) (opened-known b v o) refl (not-spent n) refl (ne-eqb _ _ (λ (q : m .free ≡ 0). f (view-free b v o ∙ q))))
+        (er ∙ ap₂ done (ap (λ (w : Row). w .low) (view-row b v o)) top ∙ sym (put-answer m g (newEntry (rowIn m g .high + 1) x (previousIn m g)) (omega (arith, o .log, length-rows b))))
+        (es ∙ ap (λ (e : Entry). writeTable (put m g e)) entry)
+
+-- ---- advance
+
+module _ (b : List ℕ) (n : ℕ) (d x : List ℕ) where
+  pub advance-sized : (g : ℕ) → length d ≡ 32 → length x ≡ 32 → wrongLength (advance g n d x) ≡ false
+  unfolding wrongLength
+  advance-sized g h k = ap₂ _||_ (is-32 d h) (is-32 x k)
+
+  pub advance-digest : (g : ℕ) → length d ≢ 32 → Steps b (advance g n d x) (refused 7) b
+  unfolding wrongLength
+  advance-digest g h = refused-step b (advance g n d x) 7 (wrong-length b (advance g n d x) (ap (λ (t : Bool). t || not (eqb (length x) 32)) (not-32 d h)))
+
+  pub advance-value : (g : ℕ) → length d ≡ 32 → length x ≢ 32 → Steps b (advance g n d x) (refused 7) b
+  unfolding wrongLength
+  advance-value g h k = refused-step b (advance g n d x) 7 (wrong-length b (advance g n d x) (ap₂ _||_ (is-32 d h) (not-32 x k)))
+
+  module _ (v : View) (o : Opened b v) (h : length d ≡ 32) (k : length x ≡ 32) where
+    top-is : v .row .high ≡ rowIn (readTable b) (v .log) .high
+    top-is = ap (λ (r : Row). r .high) (view-row b v o)
+
+    pub advance-position : n ≤ v .row .high → Steps b (advance (v .log) n d x) (refused 3) b
+    unfolding misplaced
+    advance-position e =
+        let call = advance (v .log) n d x in
+        refused-step b call 3 (wrong-position b call (advance-sized (v .log) h k) (o .whole) (opened-known b v o) (le-leb n _ (omega (arith, top-is))))
+
+    pub advance-full : v .row .high < n → v .free ≡ 0 → Steps b (advance (v .log) n d x) (refused 5) b
+    unfolding misplaced spent nothingHeld full
+    advance-full p e =
+        let call = advance (v .log) n d x in
+        refused-step b call 5 (is-full b call (advance-sized (v .log) h k) (o .whole) (opened-known b v o) (lt-leb n _ (omega (arith, top-is))) refl refl (eq-eqb _ _ (sym (view-free b v o) ∙ e)))
+
+    pub advance-done : v .row .high < n → v .free ≢ 0 → (after : Row) (y : List ℕ) → after ≡ advancedRow (v .row) n (v .free) → y ≡ entryDigest n x d
+        → (r : Reply) (a : List ℕ) → r ≡ done (v .row .low) (after .high) → a ≡ writeTable (put (readTable b) (v .log) (entryAt (after .high) x y)) → Steps b (advance (v .log) n d x) r a
+    unfolding misplaced spent nothingHeld full imageAccept imageDone advancedRow
+    advance-done p f after y ea ey r a er es =
+        let call = advance (v .log) n d x in
+        let m = readTable b in
+        let g = v .log in
+        let top : after .high ≡ n = ap (λ (w : Row). w .high) ea in
+        accepted-step b call r a
+        (no-refusal b call (advance-sized g h k) (o .whole) (opened-known b v o) (lt-leb n _ (omega (arith, top-is))) refl refl (ne-eqb _ _ (λ (q : m .free ≡ 0). f (view-free b v o ∙ q))))
+        (er ∙ ap₂ done (ap (λ (w : Row). w .low) (view-row b v o)) top ∙ sym (put-answer m g (newEntry n x d) (omega (arith, o .log, length-rows b))))
+        (es ∙ ap₂ (λ (k : ℕ) (l : List ℕ). writeTable (put m g (entryAt k x l))) top ey)
+
+-- ---- rows
+
+pub append-high : (r after : Row) (s : ℕ) → after ≡ appendedRow r s → after ≡ advancedRow r (after .high) s
+unfolding appendedRow advancedRow
+append-high r after s e = e ∙ ap (λ (k : ℕ). advancedRow r k s) (sym (ap (λ (w : Row). w .high) e))
+
+pub advance-high : (r after : Row) (n s : ℕ) → after ≡ advancedRow r n s → (after ≡ advancedRow r (after .high) s) × (after .high ≡ n)
+unfolding advancedRow
+advance-high r after n s e = let h : after .high ≡ n = ap (λ (w : Row). w .high) e in (e ∙ ap (λ (k : ℕ). advancedRow r k s) (sym h), h)
+
+pub append-fits : (r after : Row) (s : ℕ) → after ≡ appendedRow r s → r .high < 2 ^ 64 → r .high ≢ 2 ^ 64 - 1 → after .high < 2 ^ 64
+unfolding appendedRow advancedRow
+append-fits r after s e h n = omega (arith, ap (λ (w : Row). w .high) e)
