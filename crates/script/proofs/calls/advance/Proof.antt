@@ -37,7 +37,7 @@ slice-aggregate-advance-2 c = search needs
 
 -- src/calls.rt:135:9
 advance-requires : tie.Need-advance-requires
-advance-requires c κs = ?
+advance-requires c κs = search needs
 
 -- src/calls.rt:136:5
 changed-requires : tie.Need-changed-requires

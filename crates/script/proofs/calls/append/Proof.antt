@@ -29,7 +29,7 @@ slice-aggregate-append c = search needs
 
 -- src/calls.rt:125:9
 append-requires : tie.Need-append-requires
-append-requires c κs = ?
+append-requires c κs = search needs
 
 -- src/calls.rt:126:5
 changed-requires : tie.Need-changed-requires

@@ -33,7 +33,7 @@ slice-aggregate-end-2 c = search needs
 
 -- src/calls.rt:164:9
 end-requires : tie.Need-end-requires
-end-requires c κs = ?
+end-requires c κs = search needs
 
 -- src/calls.rt:166:47
 enum-told : tie.Need-enum-told

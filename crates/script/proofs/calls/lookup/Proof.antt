@@ -33,7 +33,7 @@ slice-aggregate-lookup-2 c = search needs
 
 -- src/calls.rt:152:9
 lookup-requires : tie.Need-lookup-requires
-lookup-requires c κs = ?
+lookup-requires c κs = search needs
 
 -- src/calls.rt:154:64
 enum-told : tie.Need-enum-told

@@ -14,7 +14,7 @@ use Rattle.script.proofs.calls.changed.Reads as changed-reads
 
 -- src/calls.rt:143:9
 truncate-requires : tie.Need-truncate-requires
-truncate-requires c κs = ?
+truncate-requires c κs = search needs
 
 -- src/calls.rt:144:5
 changed-requires : tie.Need-changed-requires
