@@ -21,7 +21,16 @@ fn cells(number: u64, answer: Answer) -> [Cell; 8]
             number: k,
             low,
             high,
-        } => [n, Cell::Number(k), no, no, no, no, Cell::Number(low), Cell::Number(high)],
+        } => [
+            n,
+            Cell::Number(k),
+            no,
+            no,
+            no,
+            no,
+            Cell::Number(low),
+            Cell::Number(high),
+        ],
         Answer::Attested {
             kind,
             position,

@@ -29,7 +29,13 @@ fn keep(held: &mut [u8], kept: usize, part: &[u8]) -> usize
 }
 
 // Answers the lines of text from p.at on, while there is room; the table stands in the first p.size bytes of the buffer.
-pub fn feed(text: &[u8], buffer: &mut [u8], held: &mut [u8], out: &mut [u8], p: Progress) -> Progress
+pub fn feed(
+    text: &[u8],
+    buffer: &mut [u8],
+    held: &mut [u8],
+    out: &mut [u8],
+    p: Progress,
+) -> Progress
     requires { ⌜ (length (now held) ≡ 201) × (p .kept ≤ 201) × (length (now buffer) ≡ 61172) × (p .size ≤ 61172) ⌝ }
     requires { ⌜ (p .at ≤ length (now text)) × (p .number + length (now text) < 2 ^ 64 + p .at) × (p .to ≤ length (now out)) ⌝ }
     ensures { λ r. ⌜ Feeds (now (text .entry)) (now (buffer .entry)) (now (held .entry)) (now (out .entry)) p (now (buffer .exit)) (now (held .exit)) (now (out .exit)) r ⌝ }

@@ -49,11 +49,16 @@ returns c = let a = c .before .before .before .before .before .before .before .b
     let T : List _ = take (a .size) (a .buffer .now) in
     let t = c .before .before .before .before .before .before .before .carry-out in
     let p = c .before .before .before .before .before .before .before .before .before .parse .ensures in
-    let e = c .before .before .before .before .cells .ensures ∙ ap (cellsOf (a .number)) (t .ensures .answer ∙ ap (commandAnswer T) p) in
-    ((t .ensures .size ∙ ap (λ (x : Command). length (commandTable T x)) p, t .ensures .most),
-      (c .before .before .render .ensures .0 ∙ ap (λ (x : List Cell). a .to + length (lineText x)) e,
-        (t .ensures .bytes ∙ ap (λ (x : Command). splice (a .buffer .now) 0 (commandTable T x)) p,
-          c .before .before .render .ensures .1 ∙ ap (λ (x : List Cell). splice (a .out .now) (a .to) (lineText x)) e)))
+    let e = c .before .before .before .before .cells .ensures ∙ ap (cellsOf (a .number)) (t .ensures .answer ∙ ap (commandAnswer T) p) in (
+      (t .ensures .size ∙ ap (λ (x : Command). length (commandTable T x)) p, t .ensures .most),
+      (
+        c .before .before .render .ensures .0 ∙ ap (λ (x : List Cell). a .to + length (lineText x)) e,
+        (
+          t .ensures .bytes ∙ ap (λ (x : Command). splice (a .buffer .now) 0 (commandTable T x)) p,
+          c .before .before .render .ensures .1 ∙ ap (λ (x : List Cell). splice (a .out .now) (a .to) (lineText x)) e,
+        ),
+      ),
+    )
 
 pub answer-line-spec : {M : Type 1} → statement M
 answer-line-spec =
