@@ -1,0 +1,167 @@
+// Document 01's other cases and each refusal that a script can meet: scripts and their answers, and rosters and their numbers.
+ghost use Prim.Native.Nat.{_<_};
+ghost use lib.ListN.{length};
+use libc::STDOUT_FILENO;
+use quorum::Station;
+use script::Progress;
+
+// Writes the answers to a script, whose table is torn before its first format.
+fn answers(text: &[u8])
+    requires { ⌜ length (now text) < 65536 ⌝ }
+{
+    let mut table = [0u8; 61172];
+    let mut held = [0u8; 201];
+    let mut out = io::large_buffer();
+    let p = Progress {
+        at: 0,
+        kept: 0,
+        number: 1,
+        size: 0,
+        to: 0,
+    };
+    let q = script::feed(text, &mut table, &mut held, &mut out, p);
+    let to = q.to;
+    io::write_all(STDOUT_FILENO, &out[..to]);
+}
+
+// Writes a script, and its answers.
+fn show(text: &[u8])
+    requires { ⌜ length (now text) < 65536 ⌝ }
+{
+    io::write_all(STDOUT_FILENO, text);
+    answers(text);
+}
+
+// The number of a verdict.
+fn number(s: Station) -> u64 {
+    match s {
+        Station::Certified { place: _, mask: _ } => 0,
+        Station::Refused(why) => octets::wide(why.number()),
+    }
+}
+
+// Writes the number that an empty certificate gets under a roster.
+fn roster(items: &[u8]) {
+    let nonce = [0u8; 32];
+    let none = [0u8; 0];
+    let n = number(quorum::certify(items, &nonce, 0, 1, &none));
+    let mut out = [0u8; 21];
+    let e = decimal::put(&mut out, 0, n);
+    out[e] = 10;
+    io::write_all(STDOUT_FILENO, &out[..e + 1]);
+}
+
+// "truncate at L gives 3, at an H above L succeeds"; at a skipped position it succeeds too, and the gap below it is forgotten.
+fn truncates() {
+    io::write_all(STDOUT_FILENO, b"-- truncate\n");
+    show(
+        b"format,1,5,1\ntruncate,0,1\nappend,0,1\nappend,0,2\ntruncate,0,1\ntruncate,0,3\ntruncate,0,0\ntruncate,0,2\ntruncate,0,2\nlookup,0,2\nlookup,0,1\n",
+    );
+    show(
+        b"format,1,3,1\nadvance,0,3,0,10\nadvance,0,9,0,20\ntruncate,0,5\nlookup,0,4\nlookup,0,5\nlookup,0,8\nlookup,0,9\nlookup,0,10\nend,0\n",
+    );
+}
+
+// "advance to 2^64 − 1 succeeds and append then gives 4", also where no slot is free; an advance then gives 3.
+fn last_position() {
+    io::write_all(STDOUT_FILENO, b"-- the last position\n");
+    show(
+        b"format,1,2,1\nadvance,0,18446744073709551615,7,8\nappend,0,9\nadvance,0,18446744073709551615,0,1\nlookup,0,18446744073709551614\nlookup,0,18446744073709551615\nend,0\ntruncate,0,18446744073709551615\nappend,0,9\n",
+    );
+    show(b"format,1,1,1\nadvance,0,18446744073709551615,7,8\nappend,0,9\nadvance,0,5,0,1\n");
+}
+
+// Each number that a call of a script can be refused with, 1 before 2 and 3, and 3 before 5.
+fn refusals() {
+    io::write_all(STDOUT_FILENO, b"-- refusals\n");
+    show(
+        b"append,0,1\nadvance,99,0,0,1\ntruncate,0,0\nlookup,0,0\nend,0\nformat,2,2,7\nappend,2,1\nadvance,2,0,0,1\ntruncate,256,0\nlookup,18446744073709551615,0\nend,2\n",
+    );
+    show(
+        b"format,2,2,7\nlookup,0,0\nlookup,0,1\nadvance,0,0,0,1\nend,0\nappend,0,1\nappend,1,1\nadvance,0,1,0,1\nadvance,0,2,0,1\nappend,0,1\nappend,1,1\nend,0\nend,1\n",
+    );
+}
+
+// Counts out of range give 8, wide ones too; a refused format leaves the old table, an accepted one writes a new one.
+fn formats() {
+    io::write_all(STDOUT_FILENO, b"-- format\n");
+    show(
+        b"format,0,3,7\nformat,17,3,7\nformat,2,0,7\nformat,2,801,7\nformat,258,3,7\nformat,2,65539,7\nformat,18446744073709551615,18446744073709551615,18446744073709551615\nend,0\n",
+    );
+    show(
+        b"format,1,1,0\nappend,0,5\nformat,0,3,7\nend,0\nformat,16,800,18446744073709551615\nend,15\nend,16\nformat,1,1,7\nend,15\n",
+    );
+}
+
+// Slots of entries below n are taken again, and that at n is not.
+fn slots() {
+    io::write_all(STDOUT_FILENO, b"-- slots\n");
+    show(
+        b"format,2,3,7\nappend,0,1\nappend,0,2\nappend,0,3\nappend,1,9\ntruncate,0,3\nappend,1,9\nappend,1,8\nappend,1,7\nlookup,0,3\nlookup,1,1\nlookup,1,2\n",
+    );
+}
+
+// Lines that are none are answered 15, and change nothing.
+fn malformed_fields() {
+    io::write_all(STDOUT_FILENO, b"-- malformed: fields\n");
+    show(
+        b"format,1,9,7\nappend,0,1\n\nappend\nappend,\nappend,0\nappend,0,\nappend,,1\nappend,0,1,\nappend,0,1,2\n,append,0,1\nadvance,0,2,3\nadvance,0,2,3,4,5\nlookup,0\nend\nend,0,1\ntruncate,0\nformat,1,1\nformat,1,1,1,1\nend,0\n",
+    );
+}
+
+fn malformed_words() {
+    io::write_all(STDOUT_FILENO, b"-- malformed: words\n");
+    show(
+        b"format,1,9,7\nAppend,0,1\nAPPEND,0,1\nappend ,0,1\n append,0,1\nappends,0,1\nappen,0,1\n\"append\",0,1\nhash,0,1\n0,append,1\nend,0\n",
+    );
+}
+
+fn malformed_numbers() {
+    io::write_all(STDOUT_FILENO, b"-- malformed: numbers\n");
+    show(
+        b"format,1,9,7\nappend,0,00\nappend,0,01\nappend,00,1\nappend,0,+1\nappend,0,-1\nappend,0, 1\nappend,0,1 \nappend,0,1.0\nappend,0,0x1\nappend,0,1e1\nappend,0,one\nappend,0,\"1\"\nappend,0,18446744073709551616\nappend,0,99999999999999999999\nappend,0,100000000000000000000\nappend,0,340282366920938463463374607431768211457\nend,0\nappend,0,18446744073709551615\nend,0\n",
+    );
+}
+
+// A carriage return, a tab, a zero byte, and bytes above 127.
+fn malformed_bytes() {
+    io::write_all(STDOUT_FILENO, b"-- malformed: bytes\n");
+    answers(
+        b"format,1,9,7\nappend,0,1\r\nappend,0,\t1\nappend,0,1\0\nappend,0,\xb1\n\xef\xbb\xbfappend,0,1\nend,0\n",
+    );
+}
+
+// A line of 200 bytes and one of 201, and one of 201 that begins like a call: one answer each.
+fn long_lines() {
+    io::write_all(STDOUT_FILENO, b"-- long lines\n");
+    answers(
+        b"format,1,9,7\nappend,0,00000000000000000000000000000000000000000000000000000000000000000000000000000000000000000000000000000000000000000000000000000000000000000000000000000000000000000000000000000000000000000000000\nappend,0,000000000000000000000000000000000000000000000000000000000000000000000000000000000000000000000000000000000000000000000000000000000000000000000000000000000000000000000000000000000000000000000000\nend,0\n",
+    );
+}
+
+// "N = 2 gives 12"; so do no items, a part of one, and one item twice. One item is a roster, whose empty certificate gets 13.
+fn rosters() {
+    io::write_all(STDOUT_FILENO, b"-- rosters\n");
+    let mut two = [0u8; 80];
+    two[7] = 1;
+    roster(&two);
+    roster(&two[..0]);
+    roster(&two[..39]);
+    roster(&two[..40]);
+    let three = [0u8; 120];
+    roster(&three);
+}
+
+fn main() {
+    truncates();
+    last_position();
+    refusals();
+    formats();
+    slots();
+    malformed_fields();
+    malformed_words();
+    malformed_numbers();
+    malformed_bytes();
+    long_lines();
+    rosters();
+}

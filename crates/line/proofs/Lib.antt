@@ -1,0 +1,4 @@
+pub mod FieldLaws
+pub mod AnswerLaws
+pub mod CommandLaws
+pub mod Samples

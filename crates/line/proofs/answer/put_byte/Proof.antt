@@ -1,0 +1,21 @@
+-- `line::answer::put_byte` meets its contract. Assumes nothing.
+use Rattle.octets.proofs.Parts.{splice-byte}
+use mathlib.Core.Path.{refl}
+use borrow.Author.Needs.{needs}
+use Rattle.line.proofs.answer.put_byte.Statement.{statement}
+use Rattle.line.proofs.answer.put_byte.Tie as tie
+
+slice-write-out : tie.Need-slice-write-out
+slice-write-out c = search needs
+
+add-result : tie.Need-add-result
+add-result c = search needs
+
+same-length : tie.Need-same-length
+same-length c = search needs
+
+returns : tie.Need-returns
+returns c = (refl, splice-byte (c .args .out .now) (c .args .at) (c .args .b) (search needs))
+
+pub put-byte-spec : {M : Type 1} → statement M
+put-byte-spec = tie.close (tie.spec slice-write-out add-result same-length returns)

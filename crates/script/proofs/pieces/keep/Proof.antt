@@ -1,0 +1,108 @@
+use Rattle.script.proofs.StreamLaws.{kept-bytes}
+use native.Mathlib.Numerals.{add-one}
+use lib.Seq.{paste, paste-zero, paste-suc, take-paste, length-take-le}
+use lib.ListN.{length, take, set, length-set, getD}
+use mathlib.Core.List.{List, _++_}
+use Prim.Native.Nat.{ℕ, suc, _+_, _-_, _≤_}
+use native.Mathlib.Omega.{arith}
+use mathlib.Core.Path.{_≡_, refl, sym, ap, ap₂, _∙_, subst}
+use borrow.Author.Needs.{needs}
+use Rattle.script.proofs.pieces.keep.Statement.{statement}
+use Rattle.script.proofs.pieces.keep.Tie as tie
+use Rattle.script.proofs.pieces.keep.Reads as reads
+use Rattle.script.proofs.pieces.keep.Lts as lts
+use Rattle.script.proofs.pieces.least.Reads as least-reads
+
+abbrev Inv-loop : tie.InvT-loop
+Inv-loop held₀ kept part n i₀ held i = (i ≤ n) × (held ≡ paste held₀ kept part i) × (length held ≡ length held₀)
+
+abbrev μ-loop : tie.MeasureT-loop
+μ-loop held₀ kept part n i₀ held i = n - i
+
+-- src/pieces.rt:24:31
+sub-least : tie.Need-sub-least Inv-loop μ-loop
+sub-least c = search needs
+
+-- src/pieces.rt:24:9
+least-requires : tie.Need-least-requires Inv-loop μ-loop
+least-requires c κs = search needs
+
+-- src/pieces.rt:26:5
+loop-holds : tie.Need-loop-holds Inv-loop μ-loop
+loop-holds c = (omega arith, paste-zero (c .before .before .before .args .held .now) (c .before .before .before .args .kept) (c .before .before .before .args .part .now), refl)
+
+-- src/pieces.rt:27:26
+shared-slice-read-held : tie.Need-shared-slice-read-held Inv-loop μ-loop
+shared-slice-read-held c = search needs
+
+-- src/pieces.rt:27:14
+add-held : tie.Need-add-held Inv-loop μ-loop
+add-held c = search needs
+
+-- src/pieces.rt:27:9
+slice-write-held : tie.Need-slice-write-held Inv-loop μ-loop
+slice-write-held c = search needs
+
+-- src/pieces.rt:28:9
+add-i : tie.Need-add-i Inv-loop μ-loop
+add-i c = search needs
+
+-- src/pieces.rt:26:5
+loop-less : tie.Need-loop-less Inv-loop μ-loop
+loop-less c = search needs
+
+-- src/pieces.rt:26:5
+loop-again : tie.Need-loop-again Inv-loop μ-loop
+loop-again c =
+    let a = c .before .before .before .before .before .before .args in
+    let l = c .before .before .loop in (
+      omega arith,
+      ap (λ (x : List ℕ). set x (a .kept + l .i) (getD (a .part .now) (l .i) 0)) (l .inv .1)
+          ∙ paste-suc (a .held .now) (a .kept) (a .part .now) (l .i) 0 (omega arith) (omega arith)
+          ∙ ap (λ (k : ℕ). paste (a .held .now) (a .kept) (a .part .now) k) (sym (add-one (l .i))),
+      simp length-set (l .inv .2),
+    )
+
+-- src/pieces.rt:30:5
+add-result : tie.Need-add-result Inv-loop μ-loop
+add-result c = search needs
+
+-- src/pieces.rt:20:1
+same-length : tie.Need-same-length Inv-loop μ-loop
+same-length c = search needs
+
+-- src/pieces.rt:20:1
+returns : tie.Need-returns Inv-loop μ-loop
+returns c =
+    let a = c .before .before .before .before .before .args in
+    let l = c .before .loop in
+    let n = c .before .before .least .result in
+    let i : l .i ≡ n = omega arith in
+    let z : length (take (a .kept) (a .held .now)) ≡ a .kept = length-take-le (a .kept) (a .held .now) (omega arith) in
+    record {
+      size = omega arith;
+      most = omega arith;
+      bytes =
+          ap (take (a .kept + n)) (l .inv .1 ∙ ap (λ (k : ℕ). paste (a .held .now) (a .kept) (a .part .now) k) i)
+          ∙ take-paste (a .held .now) (a .kept) (a .part .now) n (omega arith) (omega arith)
+          ∙ kept-bytes (take (a .kept) (a .held .now)) (a .part .now) n (omega arith) (omega arith);
+    }
+
+pub keep-spec : {M : Type 1} → statement M
+keep-spec =
+    tie.close
+    (tie.spec
+    Inv-loop
+    μ-loop
+    sub-least
+    least-requires
+    loop-holds
+    shared-slice-read-held
+    add-held
+    slice-write-held
+    add-i
+    loop-less
+    loop-again
+    add-result
+    same-length
+    returns)

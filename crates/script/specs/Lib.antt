@@ -1,0 +1,4 @@
+pub mod Answer
+pub mod Named
+pub mod Script
+pub mod Stream

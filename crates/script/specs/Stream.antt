@@ -1,0 +1,97 @@
+-- Document 01, "The script program": a script of any length, read in pieces.
+use Prim.Native.Nat.{ℕ, suc, _+_, _-_, _≤_, _<_}
+use mathlib.Core.Path.{_≡_}
+use mathlib.Core.Bool.{cond}
+use mathlib.Core.List.{List, [], _∷_, _++_}
+use mathlib.Core.Logic.{_⊎_}
+use lib.Dec.{eqb}
+use lib.ListN.{length, take, drop}
+use Rattle.octets.specs.Octets.{splice}
+use Rattle.line.specs.Fields.{partsOf}
+use Rattle.script.specs.Script.{answerText, tableAfter}
+use Rattle.script.specs.declared.Progress.{Progress}
+
+-- ---- a whole script
+
+-- a part after the last newline is a line unless it is empty
+abbrev pub lastLine : List ℕ → List (List ℕ)
+lastLine [] = []
+lastLine (b ∷ l) = (b ∷ l) ∷ []
+
+abbrev pub endedLines : List (List ℕ) → List (List ℕ)
+endedLines [] = []
+endedLines (p ∷ []) = lastLine p
+endedLines (p ∷ q ∷ ps) = p ∷ endedLines (q ∷ ps)
+
+-- "the last may lack its newline"
+abbrev pub linesOf : List ℕ → List (List ℕ)
+linesOf text = endedLines (partsOf 10 text)
+
+-- the answers to lines that are numbered from n on
+unfoldable pub answersOf : List ℕ → ℕ → List (List ℕ) → List ℕ
+answersOf table n [] = []
+answersOf table n (l ∷ ls) = answerText table n l ++ answersOf (tableAfter table l) (suc n) ls
+
+-- ---- in pieces: of an unfinished line the first 201 bytes are held, since a line of more than 200 is no command
+
+abbrev pub cut : List ℕ → List ℕ
+cut l = take 201 l
+
+-- what is held after more bytes
+unfoldable pub heldAfter : List ℕ → List ℕ → List ℕ
+heldAfter h [] = h
+heldAfter h (b ∷ l) = cond (eqb b 10) (heldAfter [] l) (heldAfter (cut (h ++ (b ∷ []))) l)
+
+-- the lines that end in them
+unfoldable pub newlines : List ℕ → ℕ
+newlines [] = 0
+newlines (b ∷ l) = cond (eqb b 10) (suc (newlines l)) (newlines l)
+
+-- and their answers
+unfoldable pub answered : List ℕ → List ℕ → ℕ → List ℕ → List ℕ
+answered table h n [] = []
+answered table h n (b ∷ l) = cond (eqb b 10) (answerText table n h ++ answered (tableAfter table h) [] (suc n) l) (answered table (cut (h ++ (b ∷ []))) n l)
+
+-- and the table after them
+unfoldable pub tableRead : List ℕ → List ℕ → List ℕ → List ℕ
+tableRead table h [] = table
+tableRead table h (b ∷ l) = cond (eqb b 10) (tableRead (tableAfter table h) [] l) (tableRead table (cut (h ++ (b ∷ []))) l)
+
+-- at the end of the script
+abbrev pub lastAnswer : List ℕ → List ℕ → ℕ → List ℕ
+lastAnswer table [] n = []
+lastAnswer table (b ∷ l) n = answerText table n (b ∷ l)
+
+-- ---- what the functions promise
+
+-- kept bytes of held and a part after them become r bytes of held′
+pub record Keeps (held : List ℕ) (kept : ℕ) (part held′ : List ℕ) (r : ℕ) : Type 0 where
+  pub size : length held′ ≡ 201
+  pub most : r ≤ 201
+  pub bytes : take r held′ ≡ cut (take kept held ++ part)
+
+-- the table of a script that was read so far stands at the start of a buffer
+abbrev pub tableIn : List ℕ → Progress → List ℕ
+tableIn buffer p = take (p .size) buffer
+
+-- the bytes of buf from place p .at to place r .at are read: their answers are put, and the state is that after them
+pub record Reading (buf buffer held out : List ℕ) (p : Progress) (buffer′ held′ out′ : List ℕ) (r : Progress) : Type 0 where
+  pub ahead : p .at ≤ r .at
+  pub within : r .at ≤ length buf
+  pub line : length held′ ≡ 201
+  pub most : r .kept ≤ 201
+  pub whole : length buffer′ ≡ 61172
+  pub sized : r .size ≤ 61172
+  pub same : length out′ ≡ length out
+  pub room : r .to ≤ length out
+  pub few : r .number + p .at ≤ p .number + r .at
+  pub bytes : take (r .kept) held′ ≡ heldAfter (take (p .kept) held) (take (r .at - p .at) (drop (p .at) buf))
+  pub count : r .number ≡ p .number + newlines (take (r .at - p .at) (drop (p .at) buf))
+  pub calls : tableIn buffer′ r ≡ tableRead (tableIn buffer p) (take (p .kept) held) (take (r .at - p .at) (drop (p .at) buf))
+  pub place : r .to ≡ p .to + length (answered (tableIn buffer p) (take (p .kept) held) (p .number) (take (r .at - p .at) (drop (p .at) buf)))
+  pub text : out′ ≡ splice out (p .to) (answered (tableIn buffer p) (take (p .kept) held) (p .number) (take (r .at - p .at) (drop (p .at) buf)))
+
+-- all bytes are read, or there is no room for another answer
+pub record Feeds (buf buffer held out : List ℕ) (p : Progress) (buffer′ held′ out′ : List ℕ) (r : Progress) : Type 0 where
+  pub read : Reading buf buffer held out p buffer′ held′ out′ r
+  pub done : (r .at ≡ length buf) ⊎ (length out < r .to + 168)

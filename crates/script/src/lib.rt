@@ -1,0 +1,56 @@
+// Scripts (document 01, "The script program"): a line is answered, and what it says is done to a table; a script may come in pieces.
+mod calls;
+mod lines;
+mod pieces;
+mod tables;
+
+pub use lines::answer_line;
+pub use pieces::feed;
+
+// The bytes of the largest table: each script has a buffer of so many, the first of which are its table, at first none.
+pub const LARGEST: usize = 61172;
+
+// The room that an answer line takes at most, and the bytes of a line that are kept: one more than a line may have.
+pub const ROOM: usize = 168;
+
+pub const KEPT: usize = 201;
+
+// What a line is answered: a number alone; with its log's low and high position; or 0 with these and what a receipt says.
+pub enum Answer {
+    Plain(u64),
+    Bounded {
+        number: u64,
+        low: u64,
+        high: u64,
+    },
+    Attested {
+        kind: u8,
+        position: u64,
+        reference: u64,
+        value: u64,
+        low: u64,
+        high: u64,
+    },
+}
+
+// An answer, and the size of the table after it.
+pub struct Turn {
+    pub answer: Answer,
+    pub size: usize,
+}
+
+// The size of the table, and the end of the answers.
+pub struct Next {
+    pub size: usize,
+    pub to: usize,
+}
+
+// How far a script was read: up to place at of the bytes at hand, with so many bytes of an unfinished line kept, the next line's number,
+// the size of the table, and the end of the answers.
+pub struct Progress {
+    pub at: usize,
+    pub kept: usize,
+    pub number: u64,
+    pub size: usize,
+    pub to: usize,
+}
