@@ -2,7 +2,6 @@ pub mod CallLaws
 pub mod Cases
 pub mod Chained
 pub mod Clear
-pub mod DigestLaws
 pub mod EnterLaws
 pub mod FitsAfter
 pub mod Links
@@ -13,6 +12,7 @@ pub mod ReadLaws
 pub mod ReleaseLaws
 pub mod Releases
 pub mod SearchLaws
+pub mod SlotLaws
 pub mod Unchanged
 pub mod WholeChains
 pub mod Written

@@ -14,7 +14,7 @@ use Rattle.table.specs.Chains.{chain, entriesOf}
 use Rattle.table.specs.Free.{taken, afterTaken, joint}
 use Rattle.table.specs.WholeImage.{wholeImage}
 use Rattle.a2m.specs.Call.{Call, append, advance, truncate, lookup, end, logOf, refused, done, found, ended, Outcome, outcome}
-use Rattle.a2m.specs.Digest.{newEntry}
+use Rattle.a2m.specs.NewEntry.{newEntry}
 use Rattle.a2m.specs.Search.{Found, lookedUp}
 
 -- the row of log g, and the entries along its chain

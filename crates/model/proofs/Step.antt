@@ -13,7 +13,7 @@ use lib.Dec.{eqb}
 use Rattle.receipt.specs.Attestation.{receiptBytes}
 use Rattle.layout.specs.Image.{Entry, Image, entryOf, slotAt}
 use Rattle.a2m.specs.Call.{Call, append, advance, truncate, lookup, end, Reply, done, found, ended, Outcome}
-use Rattle.a2m.specs.Digest.{newEntry}
+use Rattle.a2m.specs.NewEntry.{newEntry}
 use Rattle.a2m.specs.Search.{lookedUp}
 use Rattle.a2m.specs.ImageCalls.{rowIn, entriesIn, put, previousIn, lookupAttested, endAttested, imageDone, imageAccept, imageStep}
 use Rattle.model.specs.Log.{Log, freshLog, lastEntry, entered, standing, examinedFor}
