@@ -5,7 +5,7 @@ use octets::equal;
 use octets::put;
 use refusal::Refusal;
 ghost use mathlib.Core.Path.{_≡_};
-ghost use Prim.Native.Nat.{_+_, _*_, _/_, _^_, _≤_, _<_, min};
+ghost use Prim.Native.Nat.{_+_, _/_, _≤_, min};
 ghost use lib.ListN.{length};
 ghost use Rattle.octets.specs.Octets.{same, splice};
 ghost use Rattle.runs.specs.Run.{run};
