@@ -86,15 +86,16 @@ module _ (b : Model) (keeper : b .keeper < 2 ^ 64) (l : Log) (fit : Fit l) (e : 
       let z = fit .sized e m in
       let a : Attestation = record { name = name; kind = 1; log = g; keeper = b .keeper; position = n; reference = n; nonce = nonce; value = e .value; digest = e .digest } in
       let sz : Sized a = record { name = six; keeper = keeper; position = n64; reference = n64; nonce = hn; value = z .0; digest = z .1 } in
-      let w : a ≡ readAttestation r = sym (read-receipt (b .key) a sz) ∙ ap readAttestation q in
-      (ap (λ (x : Attestation). x .log) w ∙ s .log,
+      let w : a ≡ readAttestation r = sym (read-receipt (b .key) a sz) ∙ ap readAttestation q in (
+        ap (λ (x : Attestation). x .log) w ∙ s .log,
         record {
           entry = e;
           there = m;
           position = en ∙ ap (λ (x : Attestation). x .position) w ∙ s .position;
           value = ap (λ (x : Attestation). x .value) w ∙ s .value;
           digest = ap (λ (x : Attestation). x .digest) w ∙ s .digest;
-        })
+        },
+      )
 
 module _ (ru : Rules) (b : Model) (ok : Sound b) (keeper : b .keeper < 2 ^ 64) (fits : AllFit b) where
   lookup-shown : (g n : ℕ) (c : List ℕ) → length c ≡ 32 → n < 2 ^ 64 → (s : Standing) → standing (logAt (b .logs) g) n ≡ s → (r : List ℕ)

@@ -148,7 +148,7 @@ lowered-keeps : (m : Image) (b : Model) (R : Rep m b) (g n : ℕ) → g < length
 unfolding lowered truncatedRow
 lowered-keeps m b R g n gG = record {
   keeper = R .keeper;
-    key = R .key;
+  key = R .key;
   count = length-set (m .rows) g _ ∙ R .count ∙ sym (length-set (b .logs) g _);
   size = R .size;
   rows = rows-set (m .slots) (m .rows) (b .logs) g _ _ (rw (R .count) gG) gG (λ (k : ℕ) (q : k ≢ g). R .rows k) (let w = R .rows g in record { chain = w .chain; holds = w .holds; last = w .last; low = refl; high = w .high });
