@@ -3,29 +3,30 @@ use Prim.Native.Nat.{ℕ, suc, _+_, _-_, _^_, _≤_, _<_}
 use mathlib.Core.Path.{_≡_, refl, sym, ap, ap₂, subst, _∙_}
 use mathlib.Core.Logic.{_≢_}
 use mathlib.Core.List.{List}
-use mathlib.Core.Bool.{Bool, true, false, not, _||_}
+use mathlib.Core.Bool.{Bool, true, false, not, _&&_, _||_}
 use mathlib.Core.Option.{none, some}
 use native.Mathlib.Omega.{arith}
 use lib.ListN.{length, getD, set}
 use lib.Seq.{getD-set-same}
 use lib.Dec.{eqb, leb, ltb}
-use borrow.Author.Tests.{eq-eqb, ne-eqb, le-leb, lt-leb}
+use borrow.Author.Tests.{eq-eqb, ne-eqb, le-leb, lt-leb, le-ltb, lt-ltb}
 use Rattle.refusal.specs.Number.{numberOf}
 use Rattle.refusal.specs.declared.Refusal.{Refusal}
 use Rattle.layout.specs.declared.Row.{Row}
 use Rattle.layout.specs.Image.{Entry, Image, freshRow, slotAt, rowAt}
 use Rattle.layout.specs.Layout.{readTable, writeTable}
-use Rattle.layout.specs.Changes.{advancedRow, appendedRow}
+use Rattle.layout.specs.Changes.{advancedRow, appendedRow, truncatedRow}
 use Rattle.layout.proofs.TableLaws.{length-rows}
 use Rattle.a2m.specs.declared.View.{View}
 use Rattle.a2m.specs.declared.Opening.the-variants as opening
-use Rattle.a2m.specs.Call.{Call, append, advance, logOf, Reply, refused, done}
+use Rattle.a2m.specs.Call.{Call, append, advance, truncate, logOf, Reply, refused, done}
 use Rattle.a2m.specs.Digest.{entryDigest, newEntry}
-use Rattle.a2m.specs.ImageCalls.{rowIn, wrongLength, misplaced, spent, nothingHeld, full, put, previousIn, imageDone, imageAccept}
+use Rattle.a2m.specs.ImageCalls.{rowIn, wrongLength, misplaced, spent, nothingHeld, full, put, previousIn, releases, lowered, imageDone, imageAccept}
 use Rattle.a2m.specs.TableCalls.{tableRefusal, tableStep}
 use Rattle.a2m.specs.Opened.{openingOf, Opened, entryAt}
 use Rattle.a2m.proofs.Cases.{refused-step, accepted-step, wrong-length, wrong-position, is-spent, is-full, no-refusal}
-use Rattle.a2m.proofs.OpenedLaws.{not-opened, view-row, view-free, opened-known}
+use Rattle.a2m.proofs.ReleaseLaws.{releases-keep}
+use Rattle.a2m.proofs.OpenedLaws.{not-opened, view-row, view-free, slots-length, opened-known}
 
 -- the answer r and the table a after the call
 abbrev pub Steps : List ℕ → Call → Reply → List ℕ → Type 0
@@ -157,3 +158,44 @@ advance-high r after n s e = let h : after .high ≡ n = ap (λ (w : Row). w .hi
 pub append-fits : (r after : Row) (s : ℕ) → after ≡ appendedRow r s → r .high < 2 ^ 64 → r .high ≢ 2 ^ 64 - 1 → after .high < 2 ^ 64
 unfolding appendedRow advancedRow
 append-fits r after s e h n = omega (arith, ap (λ (w : Row). w .high) e)
+
+-- ---- truncate
+
+module _ (b : List ℕ) (n : ℕ) where
+  pub truncate-sized : (g : ℕ) → wrongLength (truncate g n) ≡ false
+  unfolding wrongLength
+  truncate-sized g = refl
+
+  module _ (v : View) (o : Opened b v) where
+    low-at : v .row .low ≡ rowIn (readTable b) (v .log) .low
+    low-at = ap (λ (r : Row). r .low) (view-row b v o)
+
+    high-at : v .row .high ≡ rowIn (readTable b) (v .log) .high
+    high-at = ap (λ (r : Row). r .high) (view-row b v o)
+
+    outside : not (ltb (rowIn (readTable b) (v .log) .low) n && leb n (rowIn (readTable b) (v .log) .high)) ≡ true → Steps b (truncate (v .log) n) (refused 3) b
+    unfolding misplaced
+    outside e = let call = truncate (v .log) n in refused-step b call 3 (wrong-position b call (truncate-sized (v .log)) (o .whole) (opened-known b v o) e)
+
+    pub truncate-low : n ≤ v .row .low → Steps b (truncate (v .log) n) (refused 3) b
+    truncate-low h = outside (ap (λ (t : Bool). not (t && leb n (rowIn (readTable b) (v .log) .high))) (le-ltb (rowIn (readTable b) (v .log) .low) n (omega (arith, low-at))))
+
+    pub truncate-high : v .row .low < n → v .row .high < n → Steps b (truncate (v .log) n) (refused 3) b
+    truncate-high k h =
+        outside (ap₂ (λ (t u : Bool). not (t && u)) (lt-ltb (rowIn (readTable b) (v .log) .low) n (omega (arith, low-at))) (lt-leb n (rowIn (readTable b) (v .log) .high) (omega (arith, high-at))))
+
+    pub truncate-done : v .row .low < n → n ≤ v .row .high → (r : Reply) (a : List ℕ) → r ≡ done n (v .row .high) → a ≡ writeTable (lowered (releases (v .slots) n (readTable b) (v .log)) (v .log) n) → Steps b (truncate (v .log) n) r a
+    unfolding misplaced spent nothingHeld full imageAccept imageDone lowered truncatedRow
+    truncate-done k h r a er es =
+        let call = truncate (v .log) n in
+        let m = readTable b in
+        let g = v .log in
+        let q = releases-keep (v .slots) n m g (omega (arith, o .log, length-rows b)) in
+        let R : Image = releases (v .slots) n m g in
+        let row : rowIn (lowered R g n) g ≡ truncatedRow (rowIn R g) n (rowIn R g .first) = row-set R g (truncatedRow (rowIn R g) n (rowIn R g .first)) (q .0) in
+        let count : v .slots ≡ length (m .slots) = sym (slots-length b v o) in
+        accepted-step b call r a
+        (no-refusal b call (truncate-sized g) (o .whole) (opened-known b v o)
+        (ap₂ (λ (t u : Bool). not (t && u)) (lt-ltb (rowIn m g .low) n (omega (arith, low-at))) (le-leb n (rowIn m g .high) (omega (arith, high-at)))) refl refl refl)
+        (er ∙ ap (done n) (high-at ∙ sym (q .1)) ∙ sym (ap (λ (w : Row). done (w .low) (w .high)) row) ∙ ap (λ (f : ℕ). done (rowIn (lowered (releases f n m g) g n) g .low) (rowIn (lowered (releases f n m g) g n) g .high)) count)
+        (es ∙ ap (λ (f : ℕ). writeTable (lowered (releases f n m g) g n)) count)

@@ -20,7 +20,7 @@ use Rattle.layout.specs.Fits.{Formed, Counted}
 use Rattle.layout.proofs.TableLaws.{length-rows, length-slots}
 use Rattle.layout.proofs.HoldsLaws.{Holds, holds-read}
 use Rattle.table.specs.declared.Check.the-variants as check
-use Rattle.table.specs.Chains.{chain, lastOf}
+use Rattle.table.specs.Chains.{chain, reaches, lastOf, entriesOf}
 use Rattle.table.specs.Free.{freeChain, joint}
 use Rattle.table.specs.Whole.{whole, checked, checkOf}
 use Rattle.table.proofs.HeaderLaws.{in-range}
@@ -33,7 +33,7 @@ use Rattle.a2m.specs.TableCalls.{tableRefusal}
 use Rattle.a2m.specs.Opened.{viewOf, openingOf, Opened}
 use Rattle.a2m.proofs.Cases.{torn, no-log}
 use Rattle.a2m.proofs.Lists.{In, in-last}
-use Rattle.a2m.proofs.Links.{Links, links-in}
+use Rattle.a2m.proofs.Links.{Links, links-in, reaches-links}
 use Rattle.a2m.proofs.Chained.{Chained, whole-chained}
 use Rattle.a2m.proofs.WholeBytes.{whole-range, whole-formed, whole-image}
 
@@ -215,3 +215,11 @@ module _ (b : List ℕ) (v : View) (o : Opened b v) where
       let m = readTable b in
       let h = last-within (m .slots) (suc (v .log)) (rowIn m (v .log) .first) (chain (m .slots) (suc (v .log)) (rowIn m (v .log) .first)) logged in
       omega (arith, ap (λ (r : Row). r .last) view-row, opened-chained .last, slots-length)
+
+  -- the chain that a lookup walks, and the entries along it
+  pub opened-reaches : reaches (readTable b .slots) (suc (v .log)) (v .row .first) ≡ true
+  opened-reaches = ap (λ (r : Row). reaches (readTable b .slots) (suc (v .log)) (r .first)) view-row ∙ reaches-links (readTable b .slots) (suc (v .log)) (rowIn (readTable b) (v .log) .first) (chain (readTable b .slots) (suc (v .log)) (rowIn (readTable b) (v .log) .first)) logged
+
+  pub entries-are : entriesOf (readTable b .slots) (chain (readTable b .slots) (suc (v .log)) (v .row .first)) ≡ entriesIn (readTable b) (v .log)
+  unfolding entriesIn
+  entries-are = ap (λ (r : Row). entriesOf (readTable b .slots) (chain (readTable b .slots) (suc (v .log)) (r .first))) view-row
