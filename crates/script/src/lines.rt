@@ -10,20 +10,16 @@ ghost use Rattle.octets.specs.Octets.{splice};
 ghost use Rattle.script.specs.Script.{cellsOf, answerText, tableAfter};
 
 // The columns of an answer.
-fn cells(number: u64, answer: Answer) -> [Cell; 8]
-    ensures { λ r. ⌜ r ≡ cellsOf number answer ⌝ }
+fn cells(line: u64, answer: Answer) -> [Cell; 8]
+    ensures { λ r. ⌜ r ≡ cellsOf line answer ⌝ }
 {
-    let n = Cell::Number(number);
+    let n = Cell::Number(line);
     let no = Cell::Dash;
     match answer {
         Answer::Plain(k) => [n, Cell::Number(k), no, no, no, no, no, no],
-        Answer::Bounded {
-            number: k,
-            low,
-            high,
-        } => [
+        Answer::Bounded { number, low, high } => [
             n,
-            Cell::Number(k),
+            Cell::Number(number),
             no,
             no,
             no,

@@ -21,15 +21,15 @@ enum-known-answer-3 c = search needs
 
 -- src/lines.rt:13:1
 returns : tie.Need-returns
-returns c = ap (λ (x : Answer). cellsOf (c .before .before .before .args .number) x) (sym (c .before .answer .given .1))
+returns c = ap (λ (x : Answer). cellsOf (c .before .before .before .args .line) x) (sym (c .before .answer .given .1))
 
 -- src/lines.rt:13:1
 returns-2 : tie.Need-returns-2
-returns-2 c = ap (λ (x : Answer). cellsOf (c .before .before .before .args .number) x) (sym (c .before .answer2 .given .1))
+returns-2 c = ap (λ (x : Answer). cellsOf (c .before .before .before .args .line) x) (sym (c .before .answer2 .given .1))
 
 -- src/lines.rt:13:1
 returns-3 : tie.Need-returns-3
-returns-3 c = ap (λ (x : Answer). cellsOf (c .before .before .before .args .number) x) (sym (c .before .answer3 .given .1))
+returns-3 c = ap (λ (x : Answer). cellsOf (c .before .before .before .args .line) x) (sym (c .before .answer3 .given .1))
 
 pub cells-spec : {M : Type 1} → statement M
 cells-spec =

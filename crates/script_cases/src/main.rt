@@ -1,8 +1,7 @@
-// Document 01's other cases and each refusal that a script can meet: scripts and their answers, and rosters and their numbers.
+// Document 01's other cases, each refusal that a script can meet, and each kind of line that is none: scripts and their answers.
 ghost use Prim.Native.Nat.{_<_};
 ghost use lib.ListN.{length};
 use libc::STDOUT_FILENO;
-use quorum::Station;
 use script::Progress;
 
 // Writes the answers to a script, whose table is torn before its first format.
@@ -30,25 +29,6 @@ fn show(text: &[u8])
 {
     io::write_all(STDOUT_FILENO, text);
     answers(text);
-}
-
-// The number of a verdict.
-fn number(s: Station) -> u64 {
-    match s {
-        Station::Certified { place: _, mask: _ } => 0,
-        Station::Refused(why) => octets::wide(why.number()),
-    }
-}
-
-// Writes the number that an empty certificate gets under a roster.
-fn roster(items: &[u8]) {
-    let nonce = [0u8; 32];
-    let none = [0u8; 0];
-    let n = number(quorum::certify(items, &nonce, 0, 1, &none));
-    let mut out = [0u8; 21];
-    let e = decimal::put(&mut out, 0, n);
-    out[e] = 10;
-    io::write_all(STDOUT_FILENO, &out[..e + 1]);
 }
 
 // "truncate at L gives 3, at an H above L succeeds"; at a skipped position it succeeds too, and the gap below it is forgotten.
@@ -139,19 +119,6 @@ fn long_lines() {
     );
 }
 
-// "N = 2 gives 12"; so do no items, a part of one, and one item twice. One item is a roster, whose empty certificate gets 13.
-fn rosters() {
-    io::write_all(STDOUT_FILENO, b"-- rosters\n");
-    let mut two = [0u8; 80];
-    two[7] = 1;
-    roster(&two);
-    roster(&two[..0]);
-    roster(&two[..39]);
-    roster(&two[..40]);
-    let three = [0u8; 120];
-    roster(&three);
-}
-
 fn main() {
     truncates();
     last_position();
@@ -163,5 +130,4 @@ fn main() {
     malformed_numbers();
     malformed_bytes();
     long_lines();
-    rosters();
 }
