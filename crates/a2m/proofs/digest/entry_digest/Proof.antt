@@ -1,51 +1,37 @@
+-- `a2m::digest::entry_digest` meets its contract. Assumes nothing.
 use lib.ListN.{length}
 use Rattle.bigendian.proofs.Laws.{length-be}
 use Rattle.a2m.proofs.DigestLaws.{number-is, count-0, count-1, count-2, count-3, fed}
 use native.Mathlib.Omega.{arith}
-use mathlib.Core.Path.{_≡_, refl, sym, ap, _∙_}
+use mathlib.Core.Path.{refl, ap, _∙_}
 use borrow.Author.Needs.{needs}
 use Rattle.a2m.proofs.digest.entry_digest.Statement.{statement}
 use Rattle.a2m.proofs.digest.entry_digest.Tie as tie
-use Rattle.a2m.proofs.digest.entry_digest.Reads as reads
-use Rattle.a2m.proofs.digest.entry_digest.Lts as lts
-use Rattle.bigendian.proofs.put_u64.Reads as put-u64-reads
-use Rattle.sha256.proofs.Running.absorb.Reads as absorb-reads
-use Rattle.sha256.proofs.Running.finish.Reads as finish-reads
-use Rattle.sha256.proofs.Running.new.Reads as new-reads
 
--- src/digest.rt:19:13
 slice-aggregate-put-u64 : tie.Need-slice-aggregate-put-u64
 slice-aggregate-put-u64 c = search needs
 
--- src/digest.rt:19:5
 put-u64-requires : tie.Need-put-u64-requires
 put-u64-requires c κs = search needs
 
--- src/digest.rt:20:9
 new-requires : tie.Need-new-requires
 new-requires c κs = search needs
 
--- src/digest.rt:21:31
 slice-aggregate-absorb : tie.Need-slice-aggregate-absorb
 slice-aggregate-absorb c = search needs
 
--- src/digest.rt:21:9
 absorb-requires : tie.Need-absorb-requires
 absorb-requires c κs = let n = ap length (number-is (c .before .before .before .before .before .before .before .args .position) _ _ refl (c .before .before .before .put-u64 .ensures)) ∙ length-be 8 (c .before .before .before .before .before .before .before .args .position) in omega (arith, count-0 (c .before .new .result) (c .before .new .ensures))
 
--- src/digest.rt:22:9
 absorb-requires-2 : tie.Need-absorb-requires-2
 absorb-requires-2 c κs = let n = ap length (number-is (c .before .before .before .before .before .before .before .before .args .position) _ _ refl (c .before .before .before .before .put-u64 .ensures)) ∙ length-be 8 (c .before .before .before .before .before .before .before .before .args .position) in let x = c .before .before .before .before .before .before .before .before .pre .0 in omega (arith, count-1 (c .before .before .new .result) (c .absorb .result) (c .before .before .before .before .put-u64 .last .0) (c .before .before .new .ensures) (c .absorb .ensures))
 
--- src/digest.rt:23:9
 absorb-requires-3 : tie.Need-absorb-requires-3
 absorb-requires-3 c κs = let n = ap length (number-is (c .before .before .before .before .before .before .before .before .before .args .position) _ _ refl (c .before .before .before .before .before .put-u64 .ensures)) ∙ length-be 8 (c .before .before .before .before .before .before .before .before .before .args .position) in let x = c .before .before .before .before .before .before .before .before .before .pre .0 in let d = c .before .before .before .before .before .before .before .before .before .pre .1 in omega (arith, count-2 (c .before .before .before .new .result) (c .before .absorb .result) (c .absorb2 .result) (c .before .before .before .before .before .put-u64 .last .0) (c .before .before .before .before .before .before .before .before .before .args .value .now) (c .before .before .before .new .ensures) (c .before .absorb .ensures) (c .absorb2 .ensures))
 
--- src/digest.rt:24:5
 finish-requires : tie.Need-finish-requires
 finish-requires c κs = let n = ap length (number-is (c .before .before .before .before .before .before .before .before .before .before .args .position) _ _ refl (c .before .before .before .before .before .before .put-u64 .ensures)) ∙ length-be 8 (c .before .before .before .before .before .before .before .before .before .before .args .position) in let x = c .before .before .before .before .before .before .before .before .before .before .pre .0 in let d = c .before .before .before .before .before .before .before .before .before .before .pre .1 in omega (arith, count-3 (c .before .before .before .before .new .result) (c .before .before .absorb .result) (c .before .absorb2 .result) (c .absorb3 .result) (c .before .before .before .before .before .before .put-u64 .last .0) (c .before .before .before .before .before .before .before .before .before .before .args .value .now) (c .before .before .before .before .before .before .before .before .before .before .args .previous .now) (c .before .before .before .before .new .ensures) (c .before .before .absorb .ensures) (c .before .absorb2 .ensures) (c .absorb3 .ensures))
 
--- src/digest.rt:14:1
 returns : tie.Need-returns
 returns c = fed (c .before .before .before .before .before .before .before .before .before .before .before .args .position) (c .before .before .before .before .before .new .result) (c .before .before .before .absorb .result) (c .before .before .absorb2 .result) (c .before .absorb3 .result) (c .before .before .before .before .before .before .before .put-u64 .last .0) (c .before .before .before .before .before .before .before .before .before .before .before .args .value .now) (c .before .before .before .before .before .before .before .before .before .before .before .args .previous .now) (c .finish .result) (number-is (c .before .before .before .before .before .before .before .before .before .before .before .args .position) _ _ refl (c .before .before .before .before .before .before .before .put-u64 .ensures)) (c .before .before .before .before .before .new .ensures) (c .before .before .before .absorb .ensures) (c .before .before .absorb2 .ensures) (c .before .absorb3 .ensures) (c .finish .ensures)
 
