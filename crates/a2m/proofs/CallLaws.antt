@@ -1,10 +1,9 @@
 -- The answers of append, advance and truncate, and the table after, for each way out. Over plain values: b is the table before, a the one after.
-use Prim.Native.Nat.{ℕ, suc, _+_, _-_, _^_, _≤_, _<_}
+use Prim.Native.Nat.{ℕ, _+_, _-_, _^_, _≤_, _<_}
 use mathlib.Core.Path.{_≡_, refl, sym, ap, ap₂, subst, _∙_}
 use mathlib.Core.Logic.{_≢_}
 use mathlib.Core.List.{List}
 use mathlib.Core.Bool.{Bool, true, false, not, _&&_, _||_}
-use mathlib.Core.Option.{none, some}
 use native.Mathlib.Omega.{arith}
 use lib.ListN.{length, getD, set}
 use lib.Seq.{getD-set-same}
@@ -13,7 +12,7 @@ use borrow.Author.Tests.{eq-eqb, ne-eqb, le-leb, lt-leb, le-ltb, lt-ltb}
 use Rattle.refusal.specs.Number.{numberOf}
 use Rattle.refusal.specs.declared.Refusal.{Refusal}
 use Rattle.layout.specs.declared.Row.{Row}
-use Rattle.layout.specs.Image.{Entry, Image, freshRow, slotAt, rowAt}
+use Rattle.layout.specs.Image.{Entry, Image, freshRow, slotAt}
 use Rattle.layout.specs.Layout.{readTable, writeTable}
 use Rattle.layout.specs.Changes.{advancedRow, appendedRow, truncatedRow}
 use Rattle.layout.proofs.TableLaws.{length-rows}
@@ -23,7 +22,7 @@ use Rattle.a2m.specs.Call.{Call, append, advance, truncate, logOf, Reply
 use Rattle.entry.specs.Digest.{entryDigest}
 use Rattle.a2m.specs.NewEntry.{newEntry}
 use Rattle.a2m.specs.ImageCalls.{rowIn, wrongLength, misplaced, spent, nothingHeld, full, put, previousIn, releases, lowered, imageDone, imageAccept}
-use Rattle.a2m.specs.TableCalls.{tableRefusal, tableStep}
+use Rattle.a2m.specs.TableCalls.{tableStep}
 use Rattle.a2m.specs.Opened.{openingOf, Opened, entryAt}
 use Rattle.a2m.proofs.Cases.{refused-step, accepted-step, wrong-length, wrong-position, is-spent, is-full, no-refusal}
 use Rattle.a2m.proofs.ReleaseLaws.{releases-keep}

@@ -1,5 +1,5 @@
 -- What an entering entry writes, write by write: in the end the bytes are those of `put`.
-use Prim.Native.Nat.{ℕ, zero, suc, _+_, _^_, _≤_, _<_}
+use Prim.Native.Nat.{ℕ, suc, _+_, _^_, _≤_, _<_}
 use mathlib.Core.Path.{_≡_, refl, sym, ap, ap₂, subst, _∙_}
 use mathlib.Core.Logic.{_≢_}
 use mathlib.Core.List.{List, [], _∷_}
@@ -12,7 +12,7 @@ use borrow.Author.Tests.{eqb-false, eq-eqb, ne-eqb}
 use Rattle.octets.specs.Octets.{Bytes}
 use Rattle.layout.specs.declared.Row.{Row}
 use Rattle.layout.specs.declared.Link.{Link}
-use Rattle.layout.specs.Image.{Entry, Slot, Image, slotAt, setSlot}
+use Rattle.layout.specs.Image.{Slot, Image, slotAt, setSlot}
 use Rattle.layout.specs.Layout.{headerSize, readTable, writeTable, putSlot, putNext, putRow, putFree}
 use Rattle.layout.specs.Changes.{withRow, withSlot, withFree, withNext, slotOf, linkOf, advancedRow}
 use Rattle.layout.specs.Fits.{RowFits, SlotFits}
@@ -21,7 +21,7 @@ use Rattle.table.specs.Chains.{chain}
 use Rattle.table.specs.Free.{freeChain}
 use Rattle.a2m.specs.declared.View.{View}
 use Rattle.a2m.specs.Call.{done}
-use Rattle.a2m.specs.ImageCalls.{rowIn, entriesIn, joined, heldSlot, put, changed}
+use Rattle.a2m.specs.ImageCalls.{rowIn, entriesIn, joined, put}
 use Rattle.a2m.specs.Opened.{Opened, hooked, entryAt}
 use Rattle.a2m.proofs.Links.{slotAt-other}
 use Rattle.table.specs.Conditions.{Links}

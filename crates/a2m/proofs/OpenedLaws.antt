@@ -1,6 +1,6 @@
 -- A table opened at a log: its counts, its chains, and where the slots that its row and header name stand.
 use Prim.Native.Nat.{ℕ, suc, _≤_, _<_}
-use mathlib.Core.Path.{_≡_, refl, sym, ap, ap₂, subst, _∙_}
+use mathlib.Core.Path.{_≡_, refl, sym, ap, ap₂, _∙_}
 use mathlib.Core.Logic.{_⊎_, inl, inr}
 use mathlib.Core.List.{List, [], _∷_}
 use mathlib.Core.Bool.{Bool, true, false}
@@ -24,7 +24,6 @@ use Rattle.table.specs.Chains.{chain, reaches, lastOf, entriesOf}
 use Rattle.table.specs.Free.{freeChain, joint}
 use Rattle.table.specs.Whole.{whole, checked, checkOf}
 use Rattle.a2m.specs.declared.View.{View}
-use Rattle.a2m.specs.declared.Opening.{Opening}
 use Rattle.a2m.specs.declared.Opening.the-variants as opening
 use Rattle.a2m.specs.Call.{Call, logOf}
 use Rattle.a2m.specs.ImageCalls.{rowIn, entriesIn, wrongLength}

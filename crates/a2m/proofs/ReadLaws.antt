@@ -1,5 +1,5 @@
 -- The answers of lookup and end, and the lent receipt after, for each way out. Over plain values: b is the table, old the receipt before, out the one after.
-use Prim.Native.Nat.{ℕ, suc, _≤_, _<_}
+use Prim.Native.Nat.{ℕ}
 use mathlib.Core.Path.{_≡_, refl, sym, ap, ap₂, subst, _∙_}
 use mathlib.Core.Logic.{_≢_}
 use mathlib.Core.List.{List}
@@ -16,11 +16,11 @@ use Rattle.refusal.specs.declared.Refusal.{Refusal}
 use Rattle.receipt.specs.declared.Facts.{Facts}
 use Rattle.receipt.specs.declared.Name.{Name}
 use Rattle.receipt.specs.declared.Name.the-variants as name
-use Rattle.receipt.specs.Attestation.{Attestation, receiptBytes}
+use Rattle.receipt.specs.Attestation.{receiptBytes}
 use Rattle.receipt.specs.Writer.{nameBytes, attestationOf}
 use Rattle.layout.specs.declared.Row.{Row}
 use Rattle.layout.specs.Image.{slotAt}
-use Rattle.layout.specs.Layout.{keeperOf, keyOf, readTable, writeTable}
+use Rattle.layout.specs.Layout.{keeperOf, keyOf, readTable}
 use Rattle.layout.specs.Fits.{Counted}
 use Rattle.a2m.specs.declared.View.{View}
 use Rattle.a2m.specs.declared.Hit.{Hit}

@@ -15,26 +15,26 @@ use Rattle.layout.specs.declared.Row.{Row}
 use Rattle.layout.specs.declared.Link.{Link}
 use Rattle.layout.specs.Image.{Entry, Slot, Image, entryOf, freeSlot, freshRow, slotAt, setSlot}
 use Rattle.layout.specs.Layout.{readTable, writeTable, putSlot, putNext, putRow, putFree}
-use Rattle.layout.specs.Changes.{withRow, withSlot, withFree, withNext, slotOf, linkOf, truncatedRow}
-use Rattle.layout.specs.Fits.{RowFits, SlotFits, Counted}
+use Rattle.layout.specs.Changes.{withRow, withSlot, withNext, slotOf, linkOf, truncatedRow}
+use Rattle.layout.specs.Fits.{RowFits, SlotFits}
 use Rattle.layout.proofs.TableLaws.{length-rows, free-fits}
-use Rattle.layout.proofs.HoldsLaws.{Holds, holds-image, holds-counted, holds-row, holds-slot, holds-next, holds-free}
+use Rattle.layout.proofs.HoldsLaws.{Holds, holds-image, holds-row, holds-slot, holds-next, holds-free}
 use Rattle.table.specs.Chains.{chain, lastOf, positionsOf, entriesOf}
 use Rattle.table.specs.Free.{freeChain, joint}
 use Rattle.a2m.specs.declared.View.{View}
 use Rattle.a2m.specs.Call.{done}
-use Rattle.a2m.specs.ImageCalls.{rowIn, entriesIn, firstOf, joined, release, releases, lowered, imageDone}
+use Rattle.a2m.specs.ImageCalls.{rowIn, entriesIn, firstOf, joined, release, releases, lowered}
 use Rattle.a2m.specs.Opened.{Opened, joinedAt}
 use Rattle.a2m.proofs.Lists.{In, in-last, lastOf-snoc}
 use Rattle.a2m.proofs.Links.{links-in, links-fit, links-frame, chain-links, slotAt-same, slotAt-other, length-setSlot}
 use Rattle.table.specs.Conditions.{Links}
 use Rattle.a2m.proofs.Moves.{joined-at}
-use Rattle.a2m.proofs.Chained.{Chained, joint-is, release-chained, release-joint}
+use Rattle.a2m.proofs.Chained.{Chained, joint-is, release-chained}
 use Rattle.a2m.proofs.Releases.{releases-stop, releases-go}
 use Rattle.table.proofs.WholeLaws.{whole-image}
 use Rattle.a2m.proofs.WholeChains.{log-chain}
 use Rattle.a2m.proofs.EnterLaws.{hookedSlots}
-use Rattle.a2m.proofs.OpenedLaws.{view-logs, view-slots, view-row, view-free, view-last, slots-length, opened-holds, opened-chained, opened-log, first-most, last-free-most, first-within, last-within}
+use Rattle.a2m.proofs.OpenedLaws.{view-row, view-last, slots-length, opened-holds, opened-chained, opened-log, first-most, last-free-most, first-within, last-within}
 
 -- ---- slots set again
 

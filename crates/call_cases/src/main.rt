@@ -1,5 +1,7 @@
 // The edges of the five calls (document 01, "The log's rules" and "Numbers returned"): a line for each call with its answer,
 // the fields of the receipt that it wrote, and the SHA-256 of the table after. Numbers are hexadecimal.
+ghost use mathlib.Core.Path.{_≡_};
+ghost use lib.ListN.{length};
 use a2m::Change;
 use a2m::Finding;
 use a2m::advance::advance;
@@ -74,7 +76,9 @@ fn changed(name: &[u8], answer: Change, table: &[u8]) {
 }
 
 // Name, kind and log; keeper; position; reference; value; digest; tag.
-fn receipt_fields(receipt: &[u8; 160]) {
+fn receipt_fields(receipt: &[u8])
+    requires { ⌜ length (now receipt) ≡ 160 ⌝ }
+{
     say(b"\n  ");
     hex(&receipt[0..8]);
     say(b" ");
@@ -225,6 +229,7 @@ fn largest() {
 fn lengths() {
     let mut table = [0u8; 148];
     let mut receipt = [0u8; 160];
+    let mut short = [0u8; 159];
     let wide = [0u8; 33];
     let nonce = [0u8; 32];
     say(b"-- lengths\n");
@@ -234,7 +239,7 @@ fn lengths() {
     changed(b"advance", b, &table);
     let c = end(&table, 0, &wide, &mut receipt);
     answered(c.number());
-    let d = end(&table, 0, &nonce, &mut receipt[0..159]);
+    let d = end(&table, 0, &nonce, &mut short);
     answered(d.number());
     let e = end(&table, 0, &nonce, &mut receipt);
     answered(e.number());

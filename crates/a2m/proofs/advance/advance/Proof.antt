@@ -1,54 +1,41 @@
+-- `a2m::advance::advance` meets its contract. Assumes nothing.
 use Prim.Native.Nat.{ℕ}
 use Rattle.a2m.specs.Opened.{changeReply}
 use Rattle.a2m.specs.Call.{advance}
 use Rattle.a2m.proofs.CallLaws.{advance-digest, advance-value, advance-sized, unopened, at-log}
 use Rattle.a2m.proofs.OpenedLaws.{opened}
-use mathlib.Core.Path.{_≡_, refl, sym, ap, _∙_}
+use mathlib.Core.Path.{refl, sym, _∙_}
 use borrow.Author.Needs.{needs}
 use Rattle.a2m.proofs.advance.advance.Statement.{statement}
 use Rattle.a2m.proofs.advance.advance.Tie as tie
-use Rattle.a2m.proofs.advance.advance.Reads as reads
-use Rattle.a2m.proofs.advance.advance.Lts as lts
-use Rattle.a2m.proofs.advance.advance_open.Reads as advance-open-reads
-use Rattle.a2m.proofs.open.open.Reads as open-reads
 
--- src/advance.rt:46:9
 returns : tie.Need-returns
 returns c = let a = c .before .before .before .before .args in advance-digest (a .table .now) (a .position) (a .digest .now) (a .value .now) (a .log) (c .if1 .taken)
 
--- src/advance.rt:49:9
 returns-2 : tie.Need-returns-2
 returns-2 c = let a = c .before .before .before .before .before .args in advance-value (a .table .now) (a .position) (a .digest .now) (a .value .now) (a .log) (c .before .if1 .left) (c .if2 .taken)
 
--- src/advance.rt:51:11
 open-requires : tie.Need-open-requires
 open-requires c κs = search needs
 
--- src/advance.rt:52:23
 enum-known-view : tie.Need-enum-known-view
 enum-known-view c = search needs
 
--- src/advance.rt:52:32
 advance-open-requires : tie.Need-advance-open-requires
 advance-open-requires c κs = (opened (c .before .before .before .before .before .before .before .before .before .before .before .args .table .now) (c .before .before .before .before .before .before .before .before .before .before .before .args .log) (c .before .before .view .given .0 .0) (sym (c .before .before .view .given .1) ∙ c .before .before .before .before .«open» .ensures) .0, (c .before .before .before .before .before .before .before .if1 .left, c .before .before .before .before .before .before .if2 .left))
 
--- src/advance.rt:53:26
 enum-known-why : tie.Need-enum-known-why
 enum-known-why c = search needs
 
--- src/advance.rt:41:1
 same-length : tie.Need-same-length
 same-length c = search needs
 
--- src/advance.rt:41:1
 returns-3 : tie.Need-returns-3
 returns-3 c = let a = c .before .before .before .before .before .before .before .before .before .before .before .before .before .before .args in at-log (a .table .now) (λ (g : ℕ). advance g (a .position) (a .digest .now) (a .value .now)) (changeReply (c .before .before .advance-open .result)) (c .before .before .advance-open .last .0) (opened (a .table .now) (a .log) (c .before .before .before .before .before .view .given .0 .0) (sym (c .before .before .before .before .before .view .given .1) ∙ c .before .before .before .before .before .before .before .«open» .ensures) .1) (c .before .before .advance-open .ensures)
 
--- src/advance.rt:41:1
 same-length-2 : tie.Need-same-length-2
 same-length-2 c = search needs
 
--- src/advance.rt:41:1
 returns-4 : tie.Need-returns-4
 returns-4 c = let a = c .before .before .before .before .before .before .before .before .before .before .args in unopened (a .table .now) (a .log) (c .before .why .given .0 .0) (advance (a .log) (a .position) (a .digest .now) (a .value .now)) (sym (c .before .why .given .1) ∙ c .before .before .before .«open» .ensures) refl (advance-sized (a .table .now) (a .position) (a .digest .now) (a .value .now) (a .log) (c .before .before .before .before .before .before .if1 .left) (c .before .before .before .before .before .if2 .left))
 

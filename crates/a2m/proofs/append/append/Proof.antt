@@ -1,50 +1,38 @@
+-- `a2m::append::append` meets its contract. Assumes nothing.
 use Prim.Native.Nat.{ℕ}
 use Rattle.a2m.specs.Opened.{changeReply}
 use Rattle.a2m.specs.Call.{append}
 use Rattle.a2m.proofs.CallLaws.{append-length, append-sized, unopened, at-log}
 use Rattle.a2m.proofs.OpenedLaws.{opened}
-use mathlib.Core.Path.{_≡_, refl, sym, ap, _∙_}
+use mathlib.Core.Path.{refl, sym, _∙_}
 use borrow.Author.Needs.{needs}
 use Rattle.a2m.proofs.append.append.Statement.{statement}
 use Rattle.a2m.proofs.append.append.Tie as tie
-use Rattle.a2m.proofs.append.append.Reads as reads
-use Rattle.a2m.proofs.append.append.Lts as lts
-use Rattle.a2m.proofs.append.append_open.Reads as append-open-reads
-use Rattle.a2m.proofs.open.open.Reads as open-reads
 
--- src/append.rt:47:9
 returns : tie.Need-returns
 returns c = append-length (c .before .before .before .args .table .now) (c .before .before .before .args .value .now) (c .before .before .before .args .log) (c .if1 .taken)
 
--- src/append.rt:49:11
 open-requires : tie.Need-open-requires
 open-requires c κs = search needs
 
--- src/append.rt:50:23
 enum-known-view : tie.Need-enum-known-view
 enum-known-view c = search needs
 
--- src/append.rt:50:32
 append-open-requires : tie.Need-append-open-requires
 append-open-requires c κs = (opened (c .before .before .before .before .before .before .before .before .before .args .table .now) (c .before .before .before .before .before .before .before .before .before .args .log) (c .before .before .view .given .0 .0) (sym (c .before .before .view .given .1) ∙ c .before .before .before .before .«open» .ensures) .0, c .before .before .before .before .before .before .if1 .left)
 
--- src/append.rt:51:26
 enum-known-why : tie.Need-enum-known-why
 enum-known-why c = search needs
 
--- src/append.rt:42:1
 same-length : tie.Need-same-length
 same-length c = search needs
 
--- src/append.rt:42:1
 returns-2 : tie.Need-returns-2
 returns-2 c = at-log (c .before .before .before .before .before .before .before .before .before .before .before .before .args .table .now) (λ (g : ℕ). append g (c .before .before .before .before .before .before .before .before .before .before .before .before .args .value .now)) (changeReply (c .before .before .append-open .result)) (c .before .before .append-open .last .0) (opened (c .before .before .before .before .before .before .before .before .before .before .before .before .args .table .now) (c .before .before .before .before .before .before .before .before .before .before .before .before .args .log) (c .before .before .before .before .before .view .given .0 .0) (sym (c .before .before .before .before .before .view .given .1) ∙ c .before .before .before .before .before .before .before .«open» .ensures) .1) (c .before .before .append-open .ensures)
 
--- src/append.rt:42:1
 same-length-2 : tie.Need-same-length-2
 same-length-2 c = search needs
 
--- src/append.rt:42:1
 returns-3 : tie.Need-returns-3
 returns-3 c = unopened (c .before .before .before .before .before .before .before .before .args .table .now) (c .before .before .before .before .before .before .before .before .args .log) (c .before .why .given .0 .0) (append (c .before .before .before .before .before .before .before .before .args .log) (c .before .before .before .before .before .before .before .before .args .value .now)) (sym (c .before .why .given .1) ∙ c .before .before .before .«open» .ensures) refl (append-sized (c .before .before .before .before .before .before .before .before .args .table .now) (c .before .before .before .before .before .before .before .before .args .value .now) (c .before .before .before .before .before .before .before .before .args .log) (c .before .before .before .before .before .if1 .left))
 

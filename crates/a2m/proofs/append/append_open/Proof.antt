@@ -1,50 +1,37 @@
+-- `a2m::append::append_open` meets its contract. Assumes nothing.
 use Rattle.a2m.specs.Opened.{changeReply}
 use lib.ListN.{length}
 use Rattle.a2m.proofs.CallLaws.{append-spent, append-full, append-done, append-high, append-fits}
 use Rattle.entry.proofs.DigestLaws.{length-entryDigest}
 use Rattle.a2m.proofs.OpenedLaws.{opened-counted, last-most}
-use Prim.Native.Nat.{ℕ, _<_}
 use mathlib.Core.Logic.{_≢_}
 use native.Mathlib.Omega.{arith}
-use mathlib.Core.Path.{_≡_, refl, sym, ap, _∙_}
+use mathlib.Core.Path.{ap, _∙_}
 use borrow.Author.Needs.{needs}
 use Rattle.a2m.proofs.append.append_open.Statement.{statement}
 use Rattle.a2m.proofs.append.append_open.Tie as tie
-use Rattle.a2m.proofs.append.append_open.Reads as reads
-use Rattle.a2m.proofs.append.append_open.Lts as lts
-use Rattle.a2m.proofs.digest.digest_after.Reads as digest-after-reads
-use Rattle.a2m.proofs.entering.enter.Reads as enter-reads
-use Rattle.layout.proofs.Row.append.Reads as append-reads
 
--- src/append.rt:24:9
 returns : tie.Need-returns
 returns c = let a = c .before .before .before .before .before .args in append-spent (a .table .now) (a .value .now) (a .view) (c .before .before .before .before .before .pre .0) (c .before .before .before .before .before .pre .1) (c .if1 .taken)
 
--- src/append.rt:27:9
 returns-2 : tie.Need-returns-2
 returns-2 c = let a = c .before .before .before .before .before .before .before .args in append-full (a .table .now) (a .value .now) (a .view) (c .before .before .before .before .before .before .before .pre .0) (c .before .before .before .before .before .before .before .pre .1) (c .before .before .if1 .left) (c .if2 .taken)
 
--- src/append.rt:29:9
 append-requires : tie.Need-append-requires
 append-requires c κs = search needs
 
--- src/append.rt:30:18
 digest-after-requires : tie.Need-digest-after-requires
 digest-after-requires c κs = let a = c .before .before .before .before .before .before .before .before .before .args in (opened-counted (a .table .now) (a .view) (c .before .before .before .before .before .before .before .before .before .pre .0), (last-most (a .table .now) (a .view) (c .before .before .before .before .before .before .before .before .before .pre .0), c .before .before .before .before .before .before .before .before .before .pre .1))
 
--- src/append.rt:38:38
 slice-aggregate-enter : tie.Need-slice-aggregate-enter
 slice-aggregate-enter c = search needs
 
--- src/append.rt:38:5
 enter-requires : tie.Need-enter-requires
 enter-requires c κs = let a = c .before .before .before .before .before .before .before .before .before .before .before .before .args in let f : a .view .free ≢ 0 = c .before .before .before .before .before .if2 .left in (c .before .before .before .before .before .before .before .before .before .before .before .before .pre .0, (omega arith, (append-high (a .view .row) (c .before .before .before .before .append .result) (a .view .free) (c .before .before .before .before .append .ensures), (append-fits (a .view .row) (c .before .before .before .before .append .result) (a .view .free) (c .before .before .before .before .append .ensures) (omega (arith, c .before .before .before .before .before .before .before .before .struct-known .given)) (c .before .before .before .before .before .before .before .if1 .left), (c .before .before .before .before .before .before .before .before .before .before .before .before .pre .1, ap length (c .before .before .digest-after .ensures) ∙ length-entryDigest _ _ _)))))
 
--- src/append.rt:16:1
 same-length : tie.Need-same-length
 same-length c = search needs
 
--- src/append.rt:16:1
 returns-3 : tie.Need-returns-3
 returns-3 c = let a = c .before .before .before .before .before .before .before .before .before .before .before .before .before .before .before .args in append-done (a .table .now) (a .value .now) (a .view) (c .before .before .before .before .before .before .before .before .before .before .before .before .before .before .before .pre .0) (c .before .before .before .before .before .before .before .before .before .before .before .before .before .before .before .pre .1) (c .before .before .before .before .before .before .before .before .before .before .if1 .left) (c .before .before .before .before .before .before .before .before .if2 .left) (c .before .before .before .before .before .before .before .append .result) (c .before .before .before .before .before .digest-after .result) (c .before .before .before .before .before .before .before .append .ensures) (c .before .before .before .before .before .digest-after .ensures) (changeReply (c .before .before .enter .result)) (c .before .before .enter .last .0) (c .before .before .enter .ensures .0) (c .before .before .enter .ensures .1)
 

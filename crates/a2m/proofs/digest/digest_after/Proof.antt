@@ -1,39 +1,30 @@
+-- `a2m::digest::digest_after` meets its contract. Assumes nothing.
 use Rattle.octets.specs.Octets.{zeros}
 use Prim.Native.Nat.{ℕ}
 use mathlib.Core.List.{List}
 use Rattle.entry.specs.Digest.{entryDigest}
 use Rattle.a2m.proofs.SlotLaws.{none-before, digest-long}
-use mathlib.Core.Path.{_≡_, refl, sym, ap, _∙_}
+use mathlib.Core.Path.{ap, _∙_}
 use borrow.Author.Needs.{needs}
 use Rattle.a2m.proofs.digest.digest_after.Statement.{statement}
 use Rattle.a2m.proofs.digest.digest_after.Tie as tie
-use Rattle.a2m.proofs.digest.digest_after.Reads as reads
-use Rattle.a2m.proofs.digest.digest_after.Lts as lts
-use Rattle.entry.proofs.entry_digest.Reads as entry-digest-reads
-use Rattle.layout.proofs.cells.digest_at.Reads as digest-at-reads
 
--- src/digest.rt:43:46
 slice-aggregate-entry-digest : tie.Need-slice-aggregate-entry-digest
 slice-aggregate-entry-digest c = search needs
 
--- src/digest.rt:43:9
 entry-digest-requires : tie.Need-entry-digest-requires
 entry-digest-requires c κs = search needs
 
--- src/digest.rt:43:9
 returns : tie.Need-returns
 unfolding zeros
 returns c = let a = c .before .before .before .before .before .args in none-before (a .table .now) (a .last) (a .position) (a .value .now) (c .entry-digest .result) (c .before .before .if1 .taken) (c .entry-digest .ensures)
 
--- src/digest.rt:45:9
 digest-at-requires : tie.Need-digest-at-requires
 digest-at-requires c κs = search needs
 
--- src/digest.rt:46:5
 entry-digest-requires-2 : tie.Need-entry-digest-requires-2
 entry-digest-requires-2 c κs = let a = c .before .before .before .before .args in (c .before .before .before .before .pre .1 .1, digest-long (a .table .now) (a .logs) (a .slots) (a .last) (c .before .before .before .before .pre .0) (c .before .if1 .left) (c .before .before .before .before .pre .1 .0) (c .digest-at .result .now) (c .digest-at .ensures))
 
--- src/digest.rt:28:1
 returns-2 : tie.Need-returns-2
 returns-2 c = let a = c .before .before .before .before .before .args in c .entry-digest2 .ensures ∙ ap (λ (d : List ℕ). entryDigest (a .position) (a .value .now) d) (c .before .digest-at .ensures)
 

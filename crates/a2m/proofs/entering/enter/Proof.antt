@@ -1,48 +1,33 @@
+-- `a2m::entering::enter` meets its contract. Assumes nothing.
 use Rattle.a2m.proofs.EnterLaws.{slot-good, row-good, next-good, held-1, held-2, held-3, held-long, entered, enter-answer}
 use Rattle.layout.proofs.HoldsLaws.{holds-counted}
 use Rattle.a2m.proofs.OpenedLaws.{opened-counted, opened-log, free-most, last-most}
 use native.Mathlib.Omega.{arith}
-use mathlib.Core.Path.{_≡_, refl, sym, ap, _∙_}
 use borrow.Author.Needs.{needs}
 use Rattle.a2m.proofs.entering.enter.Statement.{statement}
 use Rattle.a2m.proofs.entering.enter.Tie as tie
-use Rattle.a2m.proofs.entering.enter.Reads as reads
-use Rattle.a2m.proofs.entering.enter.Lts as lts
-use Rattle.a2m.proofs.entering.hook.Reads as hook-reads
-use Rattle.layout.proofs.cells.link_at.Reads as link-at-reads
-use Rattle.layout.proofs.cells.put_slot.Reads as put-slot-reads
-use Rattle.layout.proofs.head.put_free.Reads as put-free-reads
-use Rattle.layout.proofs.rows.put_row.Reads as put-row-reads
 
--- src/entering.rt:46:9
 link-at-requires : tie.Need-link-at-requires
 link-at-requires c κs = let a = c .before .before .before .before .before .args in let p = c .before .before .before .before .before .pre in (opened-counted (a .table .now) (a .view) (p .0), (p .1 .0, free-most (a .table .now) (a .view) (p .0)))
 
--- src/entering.rt:52:9
 add-put-slot : tie.Need-add-put-slot
 add-put-slot c = let a = c .before .before .before .before .before .before .before .args in let p = c .before .before .before .before .before .before .before .pre in let l = opened-log (a .table .now) (a .view) (p .0) in let k = opened-counted (a .table .now) (a .view) (p .0) .logs-most in omega arith
 
--- src/entering.rt:47:5
 put-slot-requires : tie.Need-put-slot-requires
 put-slot-requires c κs = let a = c .before .before .before .before .before .before .before .args in let p = c .before .before .before .before .before .before .before .pre in (opened-counted (a .table .now) (a .view) (p .0), ((p .1 .0, free-most (a .table .now) (a .view) (p .0)), slot-good (a .table .now) (a .view) (a .after) (a .value .now) (a .digest .now) (p .0) (λ i. omega (arith, c .before .before .before .before .before .before .slice-known .given i)) (p .1 .0) (p .1 .1 .0) (p .1 .1 .1 .0) (p .1 .1 .1 .1 .0) (p .1 .1 .1 .1 .1)))
 
--- src/entering.rt:58:5
 hook-requires : tie.Need-hook-requires
 hook-requires c κs = let a = c .before .before .before .before .before .before .before .before .before .before .before .args in let p = c .before .before .before .before .before .before .before .before .before .before .before .pre in (holds-counted _ _ _ _ (held-1 (a .table .now) (a .view) (a .after) (a .value .now) (a .digest .now) (p .0) (λ i. omega (arith, c .before .before .before .before .before .before .before .before .before .before .slice-known .given i)) (p .1 .0) (p .1 .1 .0) (p .1 .1 .1 .0) (p .1 .1 .1 .1 .0) (p .1 .1 .1 .1 .1) (c .before .before .before .put-slot .last .0) (c .before .before .before .put-slot .ensures)), (last-most (a .table .now) (a .view) (p .0), free-most (a .table .now) (a .view) (p .0)))
 
--- src/entering.rt:59:5
 put-row-requires : tie.Need-put-row-requires
 put-row-requires c κs = let a = c .before .before .before .before .before .before .before .before .before .before .before .before .before .before .before .args in let p = c .before .before .before .before .before .before .before .before .before .before .before .before .before .before .before .pre in (holds-counted _ _ _ _ (held-2 (a .table .now) (a .view) (a .after) (a .value .now) (a .digest .now) (p .0) (λ i. omega (arith, c .before .before .before .before .before .before .before .before .before .before .before .before .before .before .slice-known .given i)) (p .1 .0) (p .1 .1 .0) (p .1 .1 .1 .0) (p .1 .1 .1 .1 .0) (p .1 .1 .1 .1 .1) (c .before .before .before .before .before .before .before .put-slot .last .0) (c .before .before .before .hook .last .0) (c .before .before .before .before .before .before .before .put-slot .ensures) (c .before .before .before .hook .ensures)), (opened-log (a .table .now) (a .view) (p .0), row-good (a .table .now) (a .view) (a .after) (a .value .now) (a .digest .now) (p .0) (λ i. omega (arith, c .before .before .before .before .before .before .before .before .before .before .before .before .before .before .slice-known .given i)) (p .1 .0) (p .1 .1 .0) (p .1 .1 .1 .0) (p .1 .1 .1 .1 .0) (p .1 .1 .1 .1 .1)))
 
--- src/entering.rt:60:5
 put-free-requires : tie.Need-put-free-requires
 put-free-requires c κs = let a = c .before .before .before .before .before .before .before .before .before .before .before .before .before .before .before .before .before .before .before .args in let p = c .before .before .before .before .before .before .before .before .before .before .before .before .before .before .before .before .before .before .before .pre in (held-long _ _ _ _ (held-3 (a .table .now) (a .view) (a .after) (a .value .now) (a .digest .now) (p .0) (λ i. omega (arith, c .before .before .before .before .before .before .before .before .before .before .before .before .before .before .before .before .before .before .slice-known .given i)) (p .1 .0) (p .1 .1 .0) (p .1 .1 .1 .0) (p .1 .1 .1 .1 .0) (p .1 .1 .1 .1 .1) (c .before .before .before .before .before .before .before .before .before .before .before .put-slot .last .0) (c .before .before .before .before .before .before .before .hook .last .0) (c .before .before .before .put-row .last .0) (c .before .before .before .before .before .before .before .before .before .before .before .put-slot .ensures) (c .before .before .before .before .before .before .before .hook .ensures) (c .before .before .before .put-row .ensures)), next-good (a .table .now) (a .view) (a .after) (a .value .now) (a .digest .now) (p .0) (λ i. omega (arith, c .before .before .before .before .before .before .before .before .before .before .before .before .before .before .before .before .before .before .slice-known .given i)) (p .1 .0) (p .1 .1 .0) (p .1 .1 .1 .0) (p .1 .1 .1 .1 .0) (p .1 .1 .1 .1 .1) (c .before .before .before .before .before .before .before .before .before .before .before .before .before .link-at .result) (c .before .before .before .before .before .before .before .before .before .before .before .before .before .link-at .ensures))
 
--- src/entering.rt:32:1
 same-length : tie.Need-same-length
 same-length c = search needs
 
--- src/entering.rt:32:1
 returns : tie.Need-returns
 returns c = let a = c .before .before .before .before .before .before .before .before .before .before .before .before .before .before .before .before .before .before .before .before .before .before .args in let p = c .before .before .before .before .before .before .before .before .before .before .before .before .before .before .before .before .before .before .before .before .before .before .pre in (enter-answer (a .view) (a .after) (p .1 .1 .0), entered (a .table .now) (a .view) (a .after) (a .value .now) (a .digest .now) (p .0) (λ i. omega (arith, c .before .before .before .before .before .before .before .before .before .before .before .before .before .before .before .before .before .before .before .before .before .slice-known .given i)) (p .1 .0) (p .1 .1 .0) (p .1 .1 .1 .0) (p .1 .1 .1 .1 .0) (p .1 .1 .1 .1 .1) (c .before .before .before .before .before .before .before .before .before .before .before .before .before .before .put-slot .last .0) (c .before .before .before .before .before .before .before .before .before .before .hook .last .0) (c .before .before .before .before .before .before .put-row .last .0) (c .before .before .put-free .last .0) (c .before .before .before .before .before .before .before .before .before .before .before .before .before .before .before .before .link-at .result) (c .before .before .before .before .before .before .before .before .before .before .before .before .before .before .before .before .link-at .ensures) (c .before .before .before .before .before .before .before .before .before .before .before .before .before .before .put-slot .ensures) (c .before .before .before .before .before .before .before .before .before .before .hook .ensures) (c .before .before .before .before .before .before .put-row .ensures) (c .before .before .put-free .ensures))
 

@@ -1,54 +1,38 @@
+-- `a2m::open::open` meets its contract. Assumes nothing.
 use Rattle.a2m.proofs.OpenedLaws.{open-torn, check-whole, open-beyond, open-found, whole-long, whole-counted}
 use native.Mathlib.Omega.{arith}
-use mathlib.Core.Path.{_≡_, refl, sym, ap, _∙_}
+use mathlib.Core.Path.{sym, _∙_}
 use borrow.Author.Needs.{needs}
 use Rattle.a2m.proofs.open.open.Statement.{statement}
 use Rattle.a2m.proofs.open.open.Tie as tie
-use Rattle.a2m.proofs.open.open.Reads as reads
-use Rattle.a2m.proofs.open.open.Lts as lts
-use Rattle.layout.proofs.head.free_of.Reads as free-of-reads
-use Rattle.layout.proofs.head.logs_of.Reads as logs-of-reads
-use Rattle.layout.proofs.head.slots_of.Reads as slots-of-reads
-use Rattle.layout.proofs.rows.row_at.Reads as row-at-reads
-use Rattle.table.proofs.whole.check.Reads as check-reads
 
--- src/open.rt:18:42
 check-requires : tie.Need-check-requires
 check-requires c κs = search needs
 
--- src/open.rt:18:33
 enum-known-last : tie.Need-enum-known-last
 enum-known-last c = search needs
 
--- src/open.rt:19:33
 enum-told : tie.Need-enum-told
 enum-told c = search needs
 
--- src/open.rt:19:9
 returns : tie.Need-returns
 returns c = open-torn (c .before .before .before .before .args .table .now) (c .before .before .before .before .args .log) (sym (c .enum-told .given .1) ∙ c .before .before .check .ensures)
 
--- src/open.rt:21:9
 logs-of-requires : tie.Need-logs-of-requires
 logs-of-requires c κs = whole-long (c .before .before .before .before .before .args .table .now) (check-whole (c .before .before .before .before .before .args .table .now) (c .before .before .before .before .before .args .log) _ _ (sym (c .before .last .given .1) ∙ c .before .before .before .check .ensures) .0)
 
--- src/open.rt:23:9
 returns-2 : tie.Need-returns-2
 returns-2 c = open-beyond (c .before .before .before .before .before .before .before .args .table .now) (c .before .before .before .before .before .before .before .args .log) (check-whole (c .before .before .before .before .before .before .before .args .table .now) (c .before .before .before .before .before .before .before .args .log) _ _ (sym (c .before .before .before .last .given .1) ∙ c .before .before .before .before .before .check .ensures) .0) (omega (arith, c .if1 .taken, c .before .logs-of .ensures .0))
 
--- src/open.rt:25:9
 slots-of-requires : tie.Need-slots-of-requires
 slots-of-requires c κs = whole-long (c .before .before .before .before .before .before .before .args .table .now) (check-whole (c .before .before .before .before .before .before .before .args .table .now) (c .before .before .before .before .before .before .before .args .log) _ _ (sym (c .before .before .before .last .given .1) ∙ c .before .before .before .before .before .check .ensures) .0)
 
--- src/open.rt:27:9
 row-at-requires : tie.Need-row-at-requires
 row-at-requires c κs = (whole-counted (c .before .before .before .before .before .before .before .before .args .table .now) (c .before .before .logs-of .result) (c .slots-of .result) (check-whole (c .before .before .before .before .before .before .before .before .args .table .now) (c .before .before .before .before .before .before .before .before .args .log) _ _ (sym (c .before .before .before .before .last .given .1) ∙ c .before .before .before .before .before .before .check .ensures) .0) (c .before .before .logs-of .ensures .0) (c .slots-of .ensures .0), c .before .if1 .left)
 
--- src/open.rt:28:9
 free-of-requires : tie.Need-free-of-requires
 free-of-requires c κs = whole-long (c .before .before .before .before .before .before .before .before .before .args .table .now) (check-whole (c .before .before .before .before .before .before .before .before .before .args .table .now) (c .before .before .before .before .before .before .before .before .before .args .log) _ _ (sym (c .before .before .before .before .before .last .given .1) ∙ c .before .before .before .before .before .before .before .check .ensures) .0)
 
--- src/open.rt:15:1
 returns-3 : tie.Need-returns-3
 returns-3 c = let w = check-whole (c .before .before .before .before .before .before .before .before .before .before .args .table .now) (c .before .before .before .before .before .before .before .before .before .before .args .log) _ _ (sym (c .before .before .before .before .before .before .last .given .1) ∙ c .before .before .before .before .before .before .before .before .check .ensures) in open-found (c .before .before .before .before .before .before .before .before .before .before .args .table .now) (c .before .before .before .before .before .before .before .before .before .before .args .log) (w .0) (c .before .before .before .before .logs-of .result) (c .before .before .slots-of .result) (c .free-of .result) (c .before .before .before .before .before .before .last .given .0 .1 .0) (c .before .row-at .result) (c .before .before .before .if1 .left) (c .before .before .before .before .logs-of .ensures .0) (c .before .before .slots-of .ensures .0) (c .before .row-at .ensures) (c .free-of .ensures .0) (w .1)
 

@@ -1,3 +1,4 @@
+-- `a2m::search::find` meets its contract. Assumes nothing.
 use Rattle.a2m.specs.Opened.{foundOf}
 use Rattle.a2m.specs.Search.{search}
 use Rattle.a2m.specs.ImageCalls.{entriesIn}
@@ -7,27 +8,19 @@ use Rattle.layout.specs.Image.{Entry}
 use Rattle.a2m.proofs.SearchLaws.{is-unassigned, is-forgotten, is-searched}
 use Rattle.a2m.proofs.OpenedLaws.{opened-counted, opened-reaches, entries-are}
 use native.Mathlib.Omega.{arith}
-use mathlib.Core.Path.{_≡_, refl, sym, ap, _∙_}
-use borrow.Author.Needs.{needs}
+use mathlib.Core.Path.{ap, _∙_}
 use Rattle.a2m.proofs.search.find.Statement.{statement}
 use Rattle.a2m.proofs.search.find.Tie as tie
-use Rattle.a2m.proofs.search.find.Reads as reads
-use Rattle.a2m.proofs.search.find.Lts as lts
-use Rattle.a2m.proofs.search.search.Reads as search-reads
 
--- src/search.rt:61:9
 returns : tie.Need-returns
 returns c = let a = c .before .before .before .before .args in (omega arith, is-unassigned (readTable (a .table .now) .slots) (a .view .row) (entriesIn (readTable (a .table .now)) (a .view .log)) (a .n) (c .if1 .taken))
 
--- src/search.rt:69:9
 returns-2 : tie.Need-returns-2
 returns-2 c = let a = c .before .before .before .before .before .before .args in (omega arith, is-forgotten (readTable (a .table .now) .slots) (a .view .row) (entriesIn (readTable (a .table .now)) (a .view .log)) (a .n) (c .before .before .if1 .left) (c .if2 .taken))
 
--- src/search.rt:76:5
 search-requires : tie.Need-search-requires
 search-requires c κs = let a = c .before .before .before .before .before .before .args in (opened-counted (a .table .now) (a .view) (c .before .before .before .before .before .before .pre), opened-reaches (a .table .now) (a .view) (c .before .before .before .before .before .before .pre))
 
--- src/search.rt:54:1
 returns-3 : tie.Need-returns-3
 returns-3 c = let a = c .before .before .before .before .before .before .before .args in (c .search .ensures .0, is-searched (readTable (a .table .now) .slots) (a .view .row) (entriesIn (readTable (a .table .now)) (a .view .log)) (a .n) (c .before .before .before .if1 .left) (c .before .if2 .left) (foundOf (readTable (a .table .now) .slots) (c .search .result)) (c .search .ensures .1 ∙ ap (λ (es : List Entry). search (a .n) 0 es) (entries-are (a .table .now) (a .view) (c .before .before .before .before .before .before .before .pre))))
 

@@ -1,34 +1,24 @@
+-- `a2m::truncate::join` meets its contract. Assumes nothing.
 use Rattle.a2m.proofs.ReleaseLaws.{joins-first, joins-behind}
-use mathlib.Core.Path.{_≡_, refl, sym, ap, _∙_}
 use borrow.Author.Needs.{needs}
 use Rattle.a2m.proofs.truncate.join.Statement.{statement}
 use Rattle.a2m.proofs.truncate.join.Tie as tie
-use Rattle.a2m.proofs.truncate.join.Reads as reads
-use Rattle.a2m.proofs.truncate.join.Lts as lts
-use Rattle.layout.proofs.cells.put_next.Reads as put-next-reads
-use Rattle.layout.proofs.head.put_free.Reads as put-free-reads
 
--- src/truncate.rt:30:9
 put-free-requires : tie.Need-put-free-requires
 put-free-requires c κs = search needs
 
--- src/truncate.rt:32:9
 put-next-requires : tie.Need-put-next-requires
 put-next-requires c κs = search needs
 
--- src/truncate.rt:24:1
 same-length : tie.Need-same-length
 same-length c = search needs
 
--- src/truncate.rt:24:1
 returns : tie.Need-returns
 returns c = let a = c .before .before .before .before .before .before .args in joins-first (a .table .now) (c .before .before .put-free .last .0) (a .last) (a .t) (c .before .before .before .before .if1 .taken) (c .before .before .put-free .ensures)
 
--- src/truncate.rt:24:1
 same-length-2 : tie.Need-same-length-2
 same-length-2 c = search needs
 
--- src/truncate.rt:24:1
 returns-2 : tie.Need-returns-2
 returns-2 c = let a = c .before .before .before .before .before .before .args in joins-behind (a .table .now) (c .before .before .put-next .last .0) (a .last) (a .t) (c .before .before .before .before .if1 .left) (c .before .before .put-next .ensures)
 

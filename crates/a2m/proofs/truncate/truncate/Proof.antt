@@ -1,46 +1,35 @@
+-- `a2m::truncate::truncate` meets its contract. Assumes nothing.
 use Prim.Native.Nat.{ℕ}
 use Rattle.a2m.specs.Opened.{changeReply}
 use Rattle.a2m.specs.Call.{truncate}
 use Rattle.a2m.proofs.CallLaws.{truncate-sized, unopened, at-log}
 use Rattle.a2m.proofs.OpenedLaws.{opened}
-use mathlib.Core.Path.{_≡_, refl, sym, ap, _∙_}
+use mathlib.Core.Path.{refl, sym, _∙_}
 use borrow.Author.Needs.{needs}
 use Rattle.a2m.proofs.truncate.truncate.Statement.{statement}
 use Rattle.a2m.proofs.truncate.truncate.Tie as tie
-use Rattle.a2m.proofs.truncate.truncate.Reads as reads
-use Rattle.a2m.proofs.truncate.truncate.Lts as lts
-use Rattle.a2m.proofs.open.open.Reads as open-reads
-use Rattle.a2m.proofs.truncate.truncate_open.Reads as truncate-open-reads
 
--- src/truncate.rt:88:11
 open-requires : tie.Need-open-requires
 open-requires c κs = search needs
 
--- src/truncate.rt:89:23
 enum-known-view : tie.Need-enum-known-view
 enum-known-view c = search needs
 
--- src/truncate.rt:89:32
 truncate-open-requires : tie.Need-truncate-open-requires
 truncate-open-requires c κs = opened (c .before .before .before .before .before .before .before .args .table .now) (c .before .before .before .before .before .before .before .args .log) (c .before .before .view .given .0 .0) (sym (c .before .before .view .given .1) ∙ c .before .before .before .before .«open» .ensures) .0
 
--- src/truncate.rt:90:26
 enum-known-why : tie.Need-enum-known-why
 enum-known-why c = search needs
 
--- src/truncate.rt:84:1
 same-length : tie.Need-same-length
 same-length c = search needs
 
--- src/truncate.rt:84:1
 returns : tie.Need-returns
 returns c = let a = c .before .before .before .before .before .before .before .before .before .before .args in at-log (a .table .now) (λ (g : ℕ). truncate g (a .position)) (changeReply (c .before .before .truncate-open .result)) (c .before .before .truncate-open .last .0) (opened (a .table .now) (a .log) (c .before .before .before .before .before .view .given .0 .0) (sym (c .before .before .before .before .before .view .given .1) ∙ c .before .before .before .before .before .before .before .«open» .ensures) .1) (c .before .before .truncate-open .ensures)
 
--- src/truncate.rt:84:1
 same-length-2 : tie.Need-same-length-2
 same-length-2 c = search needs
 
--- src/truncate.rt:84:1
 returns-2 : tie.Need-returns-2
 returns-2 c = let a = c .before .before .before .before .before .before .args in unopened (a .table .now) (a .log) (c .before .why .given .0 .0) (truncate (a .log) (a .position)) (sym (c .before .why .given .1) ∙ c .before .before .before .«open» .ensures) refl (truncate-sized (a .table .now) (a .position) (a .log))
 
