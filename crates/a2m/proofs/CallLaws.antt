@@ -20,7 +20,8 @@ use Rattle.layout.proofs.TableLaws.{length-rows}
 use Rattle.a2m.specs.declared.View.{View}
 use Rattle.a2m.specs.declared.Opening.the-variants as opening
 use Rattle.a2m.specs.Call.{Call, append, advance, truncate, logOf, Reply, refused, done}
-use Rattle.a2m.specs.Digest.{entryDigest, newEntry}
+use Rattle.entry.specs.Digest.{entryDigest}
+use Rattle.a2m.specs.NewEntry.{newEntry}
 use Rattle.a2m.specs.ImageCalls.{rowIn, wrongLength, misplaced, spent, nothingHeld, full, put, previousIn, releases, lowered, imageDone, imageAccept}
 use Rattle.a2m.specs.TableCalls.{tableRefusal, tableStep}
 use Rattle.a2m.specs.Opened.{openingOf, Opened, entryAt}

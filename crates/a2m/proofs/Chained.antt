@@ -1,20 +1,20 @@
 -- The chains of an image after a slot was taken or released: none loses a slot, and none gains one that it did not get.
 use Prim.Native.Nat.{ℕ, suc, _<_}
 use mathlib.Core.Path.{_≡_, refl, sym, ap, _∙_}
-use mathlib.Core.Logic.{_≢_}
 use mathlib.Core.List.{List, [], _∷_, _++_, tail-eq-of-cons-eq}
 use mathlib.Core.Bool.{true}
 use native.Mathlib.Omega.{arith}
 use lib.ListN.{length}
 use lib.Seq.{getD-set-same}
-use Rattle.layout.specs.Image.{Entry, Slot, Image, blankEntry, entryOf, freeSlot, freshRow, slotAt, rowAt}
+use Rattle.layout.specs.Image.{Entry, Image, freeSlot, freshRow, slotAt, rowAt}
 use Rattle.layout.specs.Changes.{advancedRow, truncatedRow}
 use Rattle.table.specs.Chains.{chain, lastOf}
 use Rattle.table.specs.Free.{freeChain, joint}
 use Rattle.table.specs.WholeImage.{wholeImage}
 use Rattle.a2m.specs.ImageCalls.{rowIn, entriesIn, heldSlot, put, release}
 use Rattle.a2m.proofs.Lists.{lastOf-snoc}
-use Rattle.a2m.proofs.Links.{Links, Holds, chain-links, links-head}
+use Rattle.table.specs.Conditions.{Links}
+use Rattle.a2m.proofs.Links.{Holds, chain-links}
 use Rattle.a2m.proofs.Moves.{Move, move-from, move-to}
 use Rattle.a2m.proofs.WholeChains.{log-chain, free-links}
 

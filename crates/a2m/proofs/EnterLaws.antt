@@ -23,7 +23,8 @@ use Rattle.a2m.specs.declared.View.{View}
 use Rattle.a2m.specs.Call.{done}
 use Rattle.a2m.specs.ImageCalls.{rowIn, entriesIn, joined, heldSlot, put, changed}
 use Rattle.a2m.specs.Opened.{Opened, hooked, entryAt}
-use Rattle.a2m.proofs.Links.{Links, slotAt-other}
+use Rattle.a2m.proofs.Links.{slotAt-other}
+use Rattle.table.specs.Conditions.{Links}
 use Rattle.a2m.proofs.Moves.{hook-apart}
 use Rattle.a2m.proofs.Chained.{Chained, put-move}
 use Rattle.a2m.proofs.FitsAfter.{slot-fits, first-fits}
@@ -61,7 +62,7 @@ hooked-joined slots t last x n = go (eqb last 0)
     go false = ap (λ (y : Slot). setSlot (setSlot slots t x) last (withNext y t)) (slotAt-other slots last t x n)
 
 module _ (b : List ℕ) (v : View) (after : Row) (x d : List ℕ) (o : Opened b v) (bytes : Bytes b) (some : 1 ≤ v .free)
-  (rowed : after ≡ advancedRow (v .row) (after .high) (v .free)) (high : after .high < 2 ^ 64) (lx : length x ≡ 32) (ld : length d ≡ 32) where
+    (rowed : after ≡ advancedRow (v .row) (after .high) (v .free)) (high : after .high < 2 ^ 64) (lx : length x ≡ 32) (ld : length d ≡ 32) where
   abbrev slot : Slot
   slot = slotOf (v .log + 1) 0 (after .high) x d
 

@@ -1,27 +1,27 @@
 -- The image after an accepted call fits its bytes, if the one before did and the call's numbers have their widths.
-use Prim.Native.Nat.{ℕ, zero, suc, _+_, _-_, _^_, _≤_, _<_}
-use mathlib.Core.Path.{_≡_, refl, ap}
+use Prim.Native.Nat.{ℕ, zero, suc, _+_, _-_, _^_, _<_}
+use mathlib.Core.Path.{_≡_, refl}
 use mathlib.Core.Logic.{_≢_}
 use mathlib.Core.List.{List}
-use mathlib.Core.Bool.{Bool, true, false, cond, not, _||_}
+use mathlib.Core.Bool.{Bool, true, false, cond, not}
 use mathlib.Core.Option.{Option, none, some}
 use native.Mathlib.Omega.{arith}
-use lib.ListN.{length, getD, set, length-set}
+use lib.ListN.{length, getD, length-set}
 use lib.Dec.{eqb, leb}
 use borrow.Author.Tests.{eqb-true, eqb-false, leb-false, not-false}
 use Rattle.octets.proofs.Tests.{or-none}
 use Rattle.layout.specs.declared.Row.{Row}
-use Rattle.layout.specs.Image.{Entry, Slot, Image, freeSlot, freshRow, slotAt, setSlot, rowAt}
+use Rattle.layout.specs.Image.{Entry, Slot, Image, freeSlot, freshRow, slotAt, setSlot}
 use Rattle.layout.specs.Changes.{withNext, advancedRow, truncatedRow}
 use Rattle.layout.specs.Fits.{RowFits, SlotFits, Fits}
 use Rattle.layout.proofs.ListLaws.{every-set}
 use Rattle.layout.proofs.TableLaws.{free-fits}
 use Rattle.table.specs.Free.{joint}
 use Rattle.a2m.specs.Call.{Call, append, advance, truncate, lookup, end, Wide}
-use Rattle.a2m.specs.Digest.{newEntry}
+use Rattle.a2m.specs.NewEntry.{newEntry}
 use Rattle.a2m.specs.ImageCalls.{rowIn, wrongLength, spent, imageRefusal, changed, joined, firstOf, heldSlot, put, previousIn, release, releases, lowered, imageDone, imageAccept, imageStep}
 use Rattle.a2m.proofs.Clear.{Clear, clear}
-use Rattle.a2m.proofs.DigestLaws.{length-digest}
+use Rattle.entry.proofs.DigestLaws.{length-entryDigest}
 use Rattle.a2m.proofs.Moves.{length-joined}
 
 abbrev pub SlotsFit : List Slot → Type 0
@@ -109,9 +109,9 @@ unfolding imageAccept imageDone wrongLength spent
 accept-fits torn m f (append g x) w c =
     let h = f .rows g .high in
     let n : rowIn m g .high ≢ 2 ^ 64 - 1 = eqb-false (rowIn m g .high) (2 ^ 64 - 1) (c .room) in
-    put-fits m f g (leb-false (length (m .rows)) g (c .log)) (newEntry (rowIn m g .high + 1) x (previousIn m g)) (omega arith) (is32 x (c .sized)) (length-digest (rowIn m g .high + 1) x (previousIn m g))
+    put-fits m f g (leb-false (length (m .rows)) g (c .log)) (newEntry (rowIn m g .high + 1) x (previousIn m g)) (omega arith) (is32 x (c .sized)) (length-entryDigest (rowIn m g .high + 1) x (previousIn m g))
 accept-fits torn m f (advance g n d x) w c =
-    put-fits m f g (leb-false (length (m .rows)) g (c .log)) (newEntry n x d) w (is32 x (or-none (not (eqb (length d) 32)) (not (eqb (length x) 32)) (c .sized) .1)) (length-digest n x d)
+    put-fits m f g (leb-false (length (m .rows)) g (c .log)) (newEntry n x d) w (is32 x (or-none (not (eqb (length d) 32)) (not (eqb (length x) 32)) (c .sized) .1)) (length-entryDigest n x d)
 accept-fits torn m f (truncate g n) w c = lowered-fits (releases (length (m .slots)) n m g) (releases-fits (length (m .slots)) n m f g) g n w
 accept-fits torn m f (lookup g n c k) w h = f
 accept-fits torn m f (end g c k) w h = f

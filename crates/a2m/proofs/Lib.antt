@@ -1,8 +1,8 @@
+pub mod AnswerLaws
 pub mod CallLaws
 pub mod Cases
 pub mod Chained
 pub mod Clear
-pub mod DigestLaws
 pub mod EnterLaws
 pub mod FitsAfter
 pub mod Links
@@ -13,7 +13,7 @@ pub mod ReadLaws
 pub mod ReleaseLaws
 pub mod Releases
 pub mod SearchLaws
+pub mod SlotLaws
 pub mod Unchanged
-pub mod WholeBytes
 pub mod WholeChains
 pub mod Written

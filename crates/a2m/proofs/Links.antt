@@ -1,17 +1,16 @@
--- Chains of slots as a relation: a chain is the list of its slots, and `Links` says that the slots have it. `walk` finds the chain, and nothing else.
+-- Chains of slots: split and joined, no slot twice, as they were where their slots are.
 use Prim.Native.Nat.{ℕ, zero, suc, _≤_, _<_}
 use mathlib.Core.Path.{_≡_, refl, sym, ap, ap₂, subst, _∙_}
-use mathlib.Core.Logic.{_⊎_, inl, inr, _≢_}
+use mathlib.Core.Logic.{inl, inr, _≢_}
 use mathlib.Core.List.{List, [], _∷_, _++_}
-use mathlib.Core.Bool.{Bool, true, false, _&&_, false≢true}
-use mathlib.Core.Option.{Option, none, some, Option·map, Option·none-ne-some}
+use mathlib.Core.Bool.{true}
 use native.Mathlib.Omega.{arith}
 use lib.ListN.{length, length-set}
 use lib.Seq.{getD-set-same, getD-set-other}
-use lib.Dec.{eqb, leb}
-use borrow.Author.Tests.{eqb-true, eqb-false, leb-true, eq-eqb, ne-eqb, le-leb}
 use Rattle.layout.specs.Image.{Entry, Slot, entryOf, slotAt, setSlot, freeSlot}
-use Rattle.table.specs.Chains.{walk, chain, reaches, entriesOf}
+use Rattle.table.specs.Chains.{chain, reaches, entriesOf}
+use Rattle.table.specs.Conditions.{Links}
+use Rattle.table.proofs.LinkLaws.{links-reach}
 use Rattle.a2m.proofs.Lists.{In, Distinct, pigeon}
 
 -- ---- one slot
@@ -33,11 +32,6 @@ length-setSlot slots zero x = refl
 length-setSlot slots (suc i) x = length-set slots i x
 
 -- ---- chains
-
--- from slot s along the slots of c, each of owner o, to slot e
-abbrev pub Links : List Slot → ℕ → ℕ → List ℕ → ℕ → Type 0
-Links slots o s [] e = s ≡ e
-Links slots o s (t ∷ c) e = (s ≡ t) × (1 ≤ t) × (t ≤ length slots) × (slotAt slots t .owner ≡ o) × Links slots o (slotAt slots t .next) c e
 
 module _ (slots : List Slot) (o : ℕ) where
   pub links-split : (s : ℕ) (c d : List ℕ) (e : ℕ) → Links slots o s (c ++ d) e → (m : ℕ) × Links slots o s c m × Links slots o m d e
@@ -99,58 +93,6 @@ module _ (slots : List Slot) (o : ℕ) where
       bound x (inl e) = omega arith
       bound x (inr m) = let q = links-in s c 0 x h m .1 in omega arith
 
-  -- the walk finds the chain, and nothing else
-  pub walk-links : (fuel s : ℕ) (c : List ℕ) → Links slots o s c 0 → length c ≤ fuel → walk slots o fuel s ≡ some c
-  unfolding walk
-  walk-links zero s [] h le = rw (eq-eqb s 0 h, walk)
-  walk-links (suc fuel) s [] h le = rw (eq-eqb s 0 h, walk)
-  walk-links zero s (t ∷ c) h le = absurd (omega arith)
-  walk-links (suc fuel) s (t ∷ c) h le =
-      let e : s ≡ t = h .0 in
-      let ih : walk slots o fuel (slotAt slots t .next) ≡ some c = walk-links fuel (slotAt slots t .next) c (h .4) (omega arith) in
-      rw (ne-eqb s 0 (λ (z : s ≡ 0). let h1 = h .1 in omega arith), walk)
-      (rw (le-leb s (length slots) (rw e (h .2)), eq-eqb (slotAt slots s .owner) o (rw e (h .3)))
-      (rw (e, ih)))
-
-  pub links-walk : (fuel s : ℕ) (c : List ℕ) → walk slots o fuel s ≡ some c → Links slots o s c 0
-  unfolding walk
-  links-walk zero s c h = go (eqb s 0) refl
-    where
-      go : (b : Bool) → eqb s 0 ≡ b → Links slots o s c 0
-      go true e =
-          let q : some [] ≡ some c = rw (e, walk) at h in
-          let r : [] ≡ c = cc in
-          rw (← r) (eqb-true s 0 e)
-      go false e =
-          let q : none ≡ some c = rw (e, walk) at h in
-          absurd (Option·none-ne-some c q)
-  links-walk (suc fuel) s c h = go (λ (d : List ℕ) (e : walk slots o fuel (slotAt slots s .next) ≡ some d). links-walk fuel (slotAt slots s .next) d e) (eqb s 0) refl
-    where
-      Below : Type 0
-      Below = (d : List ℕ) → walk slots o fuel (slotAt slots s .next) ≡ some d → Links slots o (slotAt slots s .next) d 0
-
-      rest : Below → (w : Option (List ℕ)) → walk slots o fuel (slotAt slots s .next) ≡ w → eqb s 0 ≡ false → leb s (length slots) ≡ true → eqb (slotAt slots s .owner) o ≡ true → Option·map (λ (d : List ℕ). s ∷ d) w ≡ some c → Links slots o s c 0
-      rest b none e n l w q = absurd (Option·none-ne-some c q)
-      rest b (some d) e n l w q =
-          let r : s ∷ d ≡ c = cc in
-          let pos : 1 ≤ s = omega (arith, eqb-false s 0 n) in
-          rw (← r) (refl, pos, leb-true s (length slots) l, eqb-true (slotAt slots s .owner) o w, b d e)
-
-      own : Below → (b : Bool) → eqb (slotAt slots s .owner) o ≡ b → eqb s 0 ≡ false → leb s (length slots) ≡ true → Links slots o s c 0
-      own b true w n l = rest b (walk slots o fuel (slotAt slots s .next)) refl n l w (rw (n, walk, l, w) at h)
-      own b false w n l = absurd (Option·none-ne-some c (rw (n, walk, l, w) at h))
-
-      inside : Below → (b : Bool) → leb s (length slots) ≡ b → eqb s 0 ≡ false → Links slots o s c 0
-      inside b true l n = own b (eqb (slotAt slots s .owner) o) refl n l
-      inside b false l n = absurd (Option·none-ne-some c (rw (n, walk, l) at h))
-
-      go : Below → (b : Bool) → eqb s 0 ≡ b → Links slots o s c 0
-      go b true e =
-          let q : some [] ≡ some c = rw (e, walk) at h in
-          let r : [] ≡ c = cc in
-          rw (← r) (eqb-true s 0 e)
-      go b false e = inside b (leb s (length slots)) refl e
-
 -- a chain whose slots are as they were is as it was
 pub links-frame : (slots after : List Slot) (o s : ℕ) (c : List ℕ) (e : ℕ) → length after ≡ length slots → ((t : ℕ) → In t c → slotAt after t ≡ slotAt slots t) → Links slots o s c e → Links after o s c e
 links-frame slots after o s [] e l f h = h
@@ -170,23 +112,13 @@ pub record Holds (slots : List Slot) (o s : ℕ) (c : List ℕ) (es : List Entry
 pub holds-frame : (slots after : List Slot) (o s : ℕ) (c : List ℕ) (es : List Entry) → length after ≡ length slots → ((t : ℕ) → In t c → slotAt after t ≡ slotAt slots t) → Holds slots o s c es → Holds after o s c es
 holds-frame slots after o s c es l f h = record { links = links-frame slots after o s c 0 l f (h .links); held = entries-frame slots after c f ∙ h .held }
 
--- ---- what the test and the chain compute to
+-- ---- what the test computes to
 
 pub chain-links : (slots : List Slot) (o s : ℕ) (c : List ℕ) → Links slots o s c 0 → chain slots o s ≡ c
-unfolding chain
-chain-links slots o s c h = rw (walk-links slots o (length slots) s c h (links-fit slots o s c h), chain)
+chain-links slots o s c h = links-reach slots o s c h (links-fit slots o s c h) .1
 
 pub reaches-links : (slots : List Slot) (o s : ℕ) (c : List ℕ) → Links slots o s c 0 → reaches slots o s ≡ true
-unfolding reaches
-reaches-links slots o s c h = rw (reaches, walk-links slots o (length slots) s c h (links-fit slots o s c h))
-
-pub links-reaches : (slots : List Slot) (o s : ℕ) → reaches slots o s ≡ true → Links slots o s (chain slots o s) 0
-unfolding reaches chain
-links-reaches slots o s h = go (walk slots o (length slots) s) refl
-  where
-    go : (w : Option (List ℕ)) → walk slots o (length slots) s ≡ w → Links slots o s (chain slots o s) 0
-    go none e = absurd (false≢true (rw (reaches, e) at h))
-    go (some c) e = rw (chain, e) (links-walk slots o (length slots) s c e)
+reaches-links slots o s c h = links-reach slots o s c h (links-fit slots o s c h) .0
 
 pub links-head : (slots : List Slot) (o s t : ℕ) (c : List ℕ) (e : ℕ) → Links slots o s (t ∷ c) e → Links slots o s (s ∷ c) e
 links-head slots o s t c e h = subst (λ (x : ℕ). Links slots o s (x ∷ c) e) (sym (h .0)) h

@@ -23,7 +23,6 @@ use Rattle.table.specs.declared.Check.the-variants as check
 use Rattle.table.specs.Chains.{chain, reaches, lastOf, entriesOf}
 use Rattle.table.specs.Free.{freeChain, joint}
 use Rattle.table.specs.Whole.{whole, checked, checkOf}
-use Rattle.table.proofs.HeaderLaws.{in-range}
 use Rattle.a2m.specs.declared.View.{View}
 use Rattle.a2m.specs.declared.Opening.{Opening}
 use Rattle.a2m.specs.declared.Opening.the-variants as opening
@@ -33,9 +32,10 @@ use Rattle.a2m.specs.TableCalls.{tableRefusal}
 use Rattle.a2m.specs.Opened.{viewOf, openingOf, Opened}
 use Rattle.a2m.proofs.Cases.{torn, no-log}
 use Rattle.a2m.proofs.Lists.{In, in-last}
-use Rattle.a2m.proofs.Links.{Links, links-in, reaches-links}
+use Rattle.a2m.proofs.Links.{links-in, reaches-links}
+use Rattle.table.specs.Conditions.{Links}
 use Rattle.a2m.proofs.Chained.{Chained, whole-chained}
-use Rattle.a2m.proofs.WholeBytes.{whole-range, whole-formed, whole-image}
+use Rattle.table.proofs.WholeLaws.{whole-range, whole-formed, whole-image}
 
 -- ---- opening
 
@@ -122,7 +122,7 @@ module _ (b : List ℕ) (g : ℕ) where
 
 pub whole-counted : (b : List ℕ) (logs slots : ℕ) → whole b ≡ true → logs ≡ logsOf b → slots ≡ slotsOf b → Counted b logs slots
 whole-counted b logs slots w l s =
-    let r = in-range (logsOf b) (slotsOf b) (whole-range b w) in
+    let r = whole-range b w in
     let f : Formed b = whole-formed b w in
     record {
       logs-are = l;

@@ -26,11 +26,12 @@ use Rattle.a2m.specs.Call.{done}
 use Rattle.a2m.specs.ImageCalls.{rowIn, entriesIn, firstOf, joined, release, releases, lowered, imageDone}
 use Rattle.a2m.specs.Opened.{Opened, joinedAt}
 use Rattle.a2m.proofs.Lists.{In, in-last, lastOf-snoc}
-use Rattle.a2m.proofs.Links.{Links, links-in, links-fit, links-frame, chain-links, slotAt-same, slotAt-other, length-setSlot}
+use Rattle.a2m.proofs.Links.{links-in, links-fit, links-frame, chain-links, slotAt-same, slotAt-other, length-setSlot}
+use Rattle.table.specs.Conditions.{Links}
 use Rattle.a2m.proofs.Moves.{joined-at}
 use Rattle.a2m.proofs.Chained.{Chained, joint-is, release-chained, release-joint}
 use Rattle.a2m.proofs.Releases.{releases-stop, releases-go}
-use Rattle.a2m.proofs.WholeBytes.{whole-image}
+use Rattle.table.proofs.WholeLaws.{whole-image}
 use Rattle.a2m.proofs.WholeChains.{log-chain}
 use Rattle.a2m.proofs.EnterLaws.{hookedSlots}
 use Rattle.a2m.proofs.OpenedLaws.{view-logs, view-slots, view-row, view-free, view-last, slots-length, opened-holds, opened-chained, opened-log, first-most, last-free-most, first-within, last-within}
@@ -351,20 +352,22 @@ module _ (b : List ℕ) (v : View) (n : ℕ) (table : List ℕ) (last s : ℕ) (
         let gG : g < length (I .rows) = omega (arith, length-set (I .rows) g (v .row), R .held .logs-are, opened-log b v o) in
         let rc = release-chained I g t c x es (R .freed) h1 gG in
         let nx : Links (I .slots) (suc g) (slotAt (I .slots) s .next) (t ∷ c) 0 = subst (λ (d : List ℕ). Links (I .slots) (suc g) (slotAt (I .slots) s .next) d 0) ec (own .4) in
-        let tn : l .next ≡ t = next-is ∙ nx .0 in
-        (record {
-          image = release I g;
-          fuel = k;
-          left = c;
-          entries = es;
-          freed = R .freed ++ (rowIn I g .first ∷ []);
-          same = R .same ∙ ap (λ (f : ℕ). releases f n I g) ef ∙ releases-go k n I g (omega (arith, place-is, ap (λ (y : ℕ). slotAt (I .slots) y .position) starts));
-          enough = let q = R .enough in omega (arith, ap length ec);
-          chained = subst (λ (y : ℕ). Chained (release I g) g (y ∷ c) es (R .freed ++ (rowIn I g .first ∷ []))) (sym tn) rc;
-          last-is = sym (lastOf-snoc (R .freed) (rowIn I g .first) ∙ starts);
-          top = subst (λ (y : List Entry). n ≤ topOf y) eq (R .top);
-          held = subst (λ (y : Image). Holds after y (v .logs) (v .slots)) image-is (holds-slot table _ (v .logs) (v .slots) (R .held) after s (freeSlot (l .next)) e (own .1) (slot-within .1) freed-fits);
-        }, sym (ap length ec))
+        let tn : l .next ≡ t = next-is ∙ nx .0 in (
+          record {
+            image = release I g;
+            fuel = k;
+            left = c;
+            entries = es;
+            freed = R .freed ++ (rowIn I g .first ∷ []);
+            same = R .same ∙ ap (λ (f : ℕ). releases f n I g) ef ∙ releases-go k n I g (omega (arith, place-is, ap (λ (y : ℕ). slotAt (I .slots) y .position) starts));
+            enough = let q = R .enough in omega (arith, ap length ec);
+            chained = subst (λ (y : ℕ). Chained (release I g) g (y ∷ c) es (R .freed ++ (rowIn I g .first ∷ []))) (sym tn) rc;
+            last-is = sym (lastOf-snoc (R .freed) (rowIn I g .first) ∙ starts);
+            top = subst (λ (y : List Entry). n ≤ topOf y) eq (R .top);
+            held = subst (λ (y : Image). Holds after y (v .logs) (v .slots)) image-is (holds-slot table _ (v .logs) (v .slots) (R .held) after s (freeSlot (l .next)) e (own .1) (slot-within .1) freed-fits);
+          },
+          sym (ap length ec),
+        )
 
     -- the log's last entry stands at n or above: a slot below it is followed by another
     pub releasing-on : l .position < n → (after : List ℕ) → after ≡ putSlot table s (slotOf 0 (l .next) 0 (zeros 32) (zeros 32)) → (Q : Releasing b v n after s (l .next)) × (suc (length (Q .left)) ≡ length (R .left))

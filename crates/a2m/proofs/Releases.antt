@@ -1,8 +1,6 @@
 -- Truncate releases slots below n, and stops at the first at n or above: that one stays.
 use Prim.Native.Nat.{ℕ, suc, _≤_, _<_}
-use mathlib.Core.Path.{_≡_, refl}
-use mathlib.Core.Bool.{true, false}
-use lib.Dec.{leb}
+use mathlib.Core.Path.{_≡_}
 use borrow.Author.Tests.{le-leb, lt-leb}
 use Rattle.layout.specs.Image.{Image, slotAt}
 use Rattle.a2m.specs.ImageCalls.{rowIn, release, releases}

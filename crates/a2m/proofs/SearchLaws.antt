@@ -17,7 +17,9 @@ use Rattle.table.specs.Chains.{chain, reaches, entriesOf}
 use Rattle.a2m.specs.declared.Hit.{Hit}
 use Rattle.a2m.specs.Search.{Found, search, lookedUp}
 use Rattle.a2m.specs.Opened.{foundOf}
-use Rattle.a2m.proofs.Links.{Links, chain-links, links-reaches, links-fit}
+use Rattle.a2m.proofs.Links.{chain-links, links-fit}
+use Rattle.table.specs.Conditions.{Links}
+use Rattle.table.proofs.LinkLaws.{reach-links}
 use Rattle.a2m.proofs.OpenedLaws.{chain-cons}
 
 abbrev hit : ℕ → ℕ → ℕ → ℕ → Hit
@@ -57,7 +59,7 @@ pub record Going (slots : List Slot) (o n first s k : ℕ) : Type 0 where
 
 module _ (slots : List Slot) (o n first : ℕ) where
   pub going-first : reaches slots o first ≡ true → Going slots o n first first 0
-  going-first h = let l = links-reaches slots o first h in let f = links-fit slots o first (chain slots o first) l in record { links = l; count = omega arith; rest = refl }
+  going-first h = let l = reach-links slots o first h in let f = links-fit slots o first (chain slots o first) l in record { links = l; count = omega arith; rest = refl }
 
   module _ (s k : ℕ) (G : Going slots o n first s k) (ne : s ≢ 0) where
     cons : (d : List ℕ) × (chain slots o s ≡ s ∷ d)

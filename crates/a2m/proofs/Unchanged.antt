@@ -2,7 +2,6 @@
 use Prim.Native.Nat.{ℕ}
 use mathlib.Core.Path.{_≡_, refl, ap, _∙_}
 use mathlib.Core.List.{List}
-use mathlib.Core.Bool.{not}
 use mathlib.Core.Option.{Option, none, some}
 use native.Mathlib.Omega.{arith}
 use borrow.Author.Tests.{not-false}
@@ -11,11 +10,11 @@ use Rattle.layout.specs.Image.{Image}
 use Rattle.layout.specs.Layout.{readTable, writeTable}
 use Rattle.layout.proofs.TableLaws.{write-read}
 use Rattle.table.specs.Whole.{whole}
+use Rattle.table.proofs.WholeLaws.{whole-formed}
 use Rattle.a2m.specs.Call.{Call, append, advance, truncate, lookup, end, refused}
 use Rattle.a2m.specs.ImageCalls.{imageDone, imageAccept}
 use Rattle.a2m.specs.TableCalls.{tableRefusal, tableStep}
 use Rattle.a2m.proofs.Clear.{clear}
-use Rattle.a2m.proofs.WholeBytes.{whole-formed}
 
 accept-not : (m : Image) (call : Call) (k : ℕ) → imageAccept m call .reply ≡ refused k → ⊥
 unfolding imageAccept imageDone

@@ -1,8 +1,8 @@
 -- What the test of wholeness says of an image: its chains, and the positions along them.
-use Prim.Native.Nat.{ℕ, zero, suc, _+_, _≤_, _<_}
-use mathlib.Core.Path.{_≡_, refl, sym, ap, _∙_}
-use mathlib.Core.List.{List, [], _∷_, _++_}
-use mathlib.Core.Bool.{Bool, true, false, _&&_, _||_}
+use Prim.Native.Nat.{ℕ, zero, suc, _+_, _≤_}
+use mathlib.Core.Path.{_≡_, refl, sym, _∙_}
+use mathlib.Core.List.{List, [], _∷_}
+use mathlib.Core.Bool.{Bool, true, false, _&&_}
 use native.Mathlib.Omega.{arith}
 use native.Mathlib.Nat.{zero-add, add-zero, add-suc, suc-add}
 use lib.ListN.{length}
@@ -15,7 +15,9 @@ use Rattle.table.specs.Chains.{chain, reaches, lastOf, positionsOf}
 use Rattle.table.specs.Free.{freeChain}
 use Rattle.table.specs.WholeImage.{all, blank, freeOk, fresh, risingFrom, started, rowOk, rowsOk, meets, wholeImage}
 use Rattle.a2m.proofs.Lists.{lastOf-nil}
-use Rattle.a2m.proofs.Links.{Links, chain-links, links-reaches}
+use Rattle.table.specs.Conditions.{Links}
+use Rattle.table.proofs.LinkLaws.{reach-links}
+use Rattle.table.proofs.WalkLaws.{chain-none}
 
 -- a row and the chain of its log: a fresh row's is empty, with high 0
 pub record RowChain (slots : List Slot) (g : ℕ) (r : Row) : Type 0 where
@@ -26,16 +28,13 @@ pub record RowChain (slots : List Slot) (g : ℕ) (r : Row) : Type 0 where
   pub low1 : 1 ≤ r .low
   pub fresh : r .high ≡ 0 → r .low ≡ 1
 
-chain-nil : (slots : List Slot) (o : ℕ) → chain slots o 0 ≡ []
-chain-nil slots o = chain-links slots o 0 [] refl
-
 pub row-chain : (slots : List Slot) (g : ℕ) (r : Row) → rowOk slots g r ≡ true → RowChain slots g r
 unfolding rowOk fresh started risingFrom
 row-chain slots g r h = go (fresh r) refl
   where
     from-fresh : r .low ≡ 1 → r .high ≡ 0 → r .first ≡ 0 → r .last ≡ 0 → RowChain slots g r
     from-fresh l h f z =
-        let c : chain slots (suc g) (r .first) ≡ [] = ap (chain slots (suc g)) f ∙ chain-nil slots (suc g) in
+        let c : chain slots (suc g) (r .first) ≡ [] = chain-none slots (suc g) (r .first) f in
         record { links = rw c f; last = rw c (z ∙ sym lastOf-nil); rising = rw c refl; top = rw c (lastOf-nil ∙ sym h); low1 = omega arith; fresh = λ (q : r .high ≡ 0). l }
 
     go : (b : Bool) → fresh r ≡ b → RowChain slots g r
@@ -57,7 +56,7 @@ row-chain slots g r h = go (fresh r) refl
         let t6 : eqb (lastOf c) (r .last) ≡ true = search (and-left, and-right) in
         let l1 = leb-true 1 (r .low) t2 in
         let lh = leb-true (r .low) (r .high) t3 in
-        record { links = links-reaches slots (suc g) (r .first) t1; last = sym (eqb-true (lastOf c) (r .last) t6); rising = t4; top = eqb-true (lastOf ps) (r .high) t5; low1 = l1; fresh = λ (z : r .high ≡ 0). absurd (omega arith) }
+        record { links = reach-links slots (suc g) (r .first) t1; last = sym (eqb-true (lastOf c) (r .last) t6); rising = t4; top = eqb-true (lastOf ps) (r .high) t5; low1 = l1; fresh = λ (z : r .high ≡ 0). absurd (omega arith) }
 
 row-at : (slots : List Slot) (g : ℕ) (rs : List Row) → rowsOk slots g rs ≡ true → (i : ℕ) → rowOk slots (g + i) (rowAt rs i) ≡ true
 unfolding rowsOk rowOk fresh
@@ -76,7 +75,7 @@ module _ (m : Image) (w : wholeImage m ≡ true) where
   -- the free chain
   pub free-links : Links (m .slots) 0 (m .free) (freeChain m) 0
   unfolding wholeImage freeOk
-  free-links = links-reaches (m .slots) 0 (m .free) (and-left _ _ (and-left _ _ (and-left _ _ w)))
+  free-links = reach-links (m .slots) 0 (m .free) (and-left _ _ (and-left _ _ (and-left _ _ w)))
 
   pub free-blank : all (λ (s : ℕ). blank (slotAt (m .slots) s)) (freeChain m) ≡ true
   unfolding wholeImage freeOk

@@ -8,13 +8,13 @@ use lib.Dec.{eqb, leb, ltb}
 use Rattle.refusal.specs.Order.{Fault, fault, firstFault}
 use Rattle.receipt.specs.Attestation.{Attestation, LOOKUP, END, receiptBytes}
 use Rattle.layout.specs.declared.Row.{Row}
-use Rattle.layout.specs.Image.{Entry, Slot, Image, entryOf, freeSlot, slotAt, setSlot, rowAt}
+use Rattle.layout.specs.Image.{Entry, Slot, Image, freeSlot, slotAt, setSlot, rowAt}
 use Rattle.layout.specs.Changes.{withNext, slotOf, advancedRow, truncatedRow}
 use Rattle.table.specs.Chains.{chain, entriesOf}
 use Rattle.table.specs.Free.{taken, afterTaken, joint}
 use Rattle.table.specs.WholeImage.{wholeImage}
-use Rattle.a2m.specs.Call.{Call, append, advance, truncate, lookup, end, logOf, Reply, refused, done, found, ended, Outcome, outcome}
-use Rattle.a2m.specs.Digest.{newEntry}
+use Rattle.a2m.specs.Call.{Call, append, advance, truncate, lookup, end, logOf, refused, done, found, ended, Outcome, outcome}
+use Rattle.a2m.specs.NewEntry.{newEntry}
 use Rattle.a2m.specs.Search.{Found, lookedUp}
 
 -- the row of log g, and the entries along its chain

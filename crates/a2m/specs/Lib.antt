@@ -1,6 +1,6 @@
 pub mod Call
-pub mod Digest
 pub mod ImageCalls
+pub mod NewEntry
 pub mod Opened
 pub mod Search
 pub mod TableCalls

@@ -2,9 +2,9 @@
 use crate::Change;
 use crate::Opening;
 use crate::View;
-use crate::digest::entry_digest;
 use crate::entering::enter;
 use crate::open::open;
+use entry::entry_digest;
 use refusal::Refusal;
 ghost use mathlib.Core.Path.{_≡_};
 ghost use lib.ListN.{length};
@@ -13,13 +13,7 @@ ghost use Rattle.a2m.specs.TableCalls.{tableStep};
 ghost use Rattle.a2m.specs.Opened.{Opened, changeReply};
 
 // Refusals 3 and 5, and the entry at the given position; the given digest stands for the previous one.
-fn advance_open(
-    table: &mut [u8],
-    view: View,
-    position: u64,
-    digest: &[u8],
-    value: &[u8],
-) -> Change
+fn advance_open(table: &mut [u8], view: View, position: u64, digest: &[u8], value: &[u8]) -> Change
     requires { ⌜ Opened (now table) view ⌝ }
     requires { ⌜ (length (now digest) ≡ 32) × (length (now value) ≡ 32) ⌝ }
     ensures answer { λ r. ⌜ changeReply r ≡ tableStep (now (table .entry)) (advances (view .log) position (now (digest .entry)) (now (value .entry))) .reply ⌝ }

@@ -27,14 +27,7 @@ fn append_open(table: &mut [u8], view: View, value: &[u8]) -> Change
         return Change::Refused(Refusal::Full);
     }
     let after = row.append(view.free);
-    let digest = digest_after(
-        table,
-        view.logs,
-        view.slots,
-        row.last,
-        after.high,
-        value,
-    );
+    let digest = digest_after(table, view.logs, view.slots, row.last, after.high, value);
     enter(table, view, after, value, &digest)
 }
 

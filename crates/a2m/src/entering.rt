@@ -44,17 +44,7 @@ pub fn enter(table: &mut [u8], view: View, after: Row, value: &[u8], digest: &[u
     let t = view.free;
     let row = view.row;
     let l = link_at(table, logs, slots, t);
-    put_slot(
-        table,
-        logs,
-        slots,
-        t,
-        log + 1,
-        0,
-        after.high,
-        value,
-        digest,
-    );
+    put_slot(table, logs, slots, t, log + 1, 0, after.high, value, digest);
     hook(table, logs, slots, row.last, t);
     put_row(table, logs, slots, log, after);
     put_free(table, l.next);

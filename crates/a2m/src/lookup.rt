@@ -16,13 +16,7 @@ ghost use Rattle.a2m.specs.TableCalls.{tableStep};
 ghost use Rattle.a2m.specs.Opened.{Opened, findingReply, receiptAfter};
 
 // Refusal 3, and the receipt of what stands at the position.
-fn lookup_open(
-    table: &[u8],
-    view: View,
-    position: u64,
-    nonce: &[u8],
-    receipt: &mut [u8],
-) -> Finding
+fn lookup_open(table: &[u8], view: View, position: u64, nonce: &[u8], receipt: &mut [u8]) -> Finding
     requires { ⌜ Opened (now table) view ⌝ }
     requires { ⌜ (length (now nonce) ≡ 32) × (length (now receipt) ≡ 160) ⌝ }
     ensures answer { λ r. ⌜ findingReply r (now (receipt .exit)) ≡ tableStep (now (table .entry)) (looks (view .log) position (now (nonce .entry)) (length (now (receipt .entry)))) .reply ⌝ }
@@ -56,13 +50,7 @@ fn lookup_open(
 }
 
 // Writes a receipt of what stands at a position of a log.
-pub fn lookup(
-    table: &[u8],
-    log: u64,
-    position: u64,
-    nonce: &[u8],
-    receipt: &mut [u8],
-) -> Finding
+pub fn lookup(table: &[u8], log: u64, position: u64, nonce: &[u8], receipt: &mut [u8]) -> Finding
     ensures answer { λ r. ⌜ findingReply r (now (receipt .exit)) ≡ tableStep (now (table .entry)) (looks log position (now (nonce .entry)) (length (now (receipt .entry)))) .reply ⌝ }
     ensures bytes { λ _. ⌜ now (receipt .exit) ≡ receiptAfter (tableStep (now (table .entry)) (looks log position (now (nonce .entry)) (length (now (receipt .entry)))) .reply) (now (receipt .entry)) ⌝ }
 {

@@ -59,15 +59,17 @@ module _ (b : List ℕ) (logs slots : ℕ) (h : Counted b logs slots) (at : ℕ)
 pub byte-put : (o : List ℕ) (at n : ℕ) → at + 1 ≤ length o → n < 256 → set o at n ≡ splice o at (be 1 n)
 byte-put o at n h k = ap (set o at) (sym (mod-eq-of-lt k)) ∙ put-byte at n o h
 
-zero-one : be 1 0 ≡ zeros 1
+-- the constants, as numbers
+
+pub zero-one : be 1 0 ≡ zeros 1
 unfolding be zeros
 zero-one = refl
 
-zero-two : be 2 0 ≡ zeros 2
+pub zero-two : be 2 0 ≡ zeros 2
 unfolding be zeros
 zero-two = refl
 
-mark-four : be 4 0x41324D54 ≡ mark
+pub mark-four : be 4 0x41324D54 ≡ mark
 unfolding be
 mark-four = refl
 

@@ -17,7 +17,7 @@ ghost use Rattle.layout.specs.Layout.{slotSize, readSlot, slotBytes, rea
 ghost use Rattle.layout.specs.Fits.{SlotFits, Counted};
 
 // The owner, next slot and position in a slot's part of a table.
-pub fn read_link(part: &[u8]) -> Link
+fn read_link(part: &[u8]) -> Link
     requires { ⌜ length (now part) ≡ slotSize ⌝ }
     ensures { λ r. ⌜ r ≡ linkOf (readSlot (now (part .entry))) ⌝ }
 {

@@ -62,7 +62,7 @@ pub fn put_free(table: &mut [u8], free: usize)
 }
 
 // The mark and the counts into the front of a table.
-pub fn write_counts(part: &mut [u8], logs: usize, slots: usize)
+fn write_counts(part: &mut [u8], logs: usize, slots: usize)
     requires { ⌜ length (now part) ≡ headerSize ⌝ }
     requires { ⌜ (logs < 256) × (slots < 65536) ⌝ }
     ensures { λ _. ⌜ now (part .exit) ≡ splice (now (part .entry)) 0 (countBytes logs slots) ⌝ }

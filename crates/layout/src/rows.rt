@@ -14,7 +14,7 @@ ghost use Rattle.layout.specs.Layout.{rowSize, readRow, rowBytes, readTa
 ghost use Rattle.layout.specs.Fits.{RowFits, Counted};
 
 // The row in a row's part of a table.
-pub fn read_row(part: &[u8]) -> Row
+fn read_row(part: &[u8]) -> Row
     requires { ⌜ length (now part) ≡ rowSize ⌝ }
     ensures { λ r. ⌜ r ≡ readRow (now (part .entry)) ⌝ }
 {

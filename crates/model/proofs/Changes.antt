@@ -1,14 +1,13 @@
 -- What a call does to each log of the model: nothing, one entry more, or a cut.
-use Prim.Native.Nat.{ℕ, suc, _-_, _^_, _≤_, _<_}
+use Prim.Native.Nat.{ℕ, _-_, _^_, _≤_, _<_}
 use mathlib.Core.Path.{_≡_, refl}
-use mathlib.Core.List.{List}
 use native.Mathlib.Omega.{arith}
 use native.Mathlib.Decide.{ℕ-discrete}
 use lib.ListN.{length, set}
 use lib.Seq.{getD-set-same, getD-set-other}
 use Rattle.layout.specs.Image.{Entry}
 use Rattle.a2m.specs.Call.{Call, append, advance, truncate, lookup, end, Wide}
-use Rattle.a2m.proofs.DigestLaws.{length-digest}
+use Rattle.entry.proofs.DigestLaws.{length-entryDigest}
 use Rattle.model.specs.Log.{Log, freshLog, entered, cutAt}
 use Rattle.model.specs.Model.{Rules, Model, logAt, modelDone, modelAccept, modelStep}
 use Rattle.model.proofs.Passed.{Passed, Stepped, turned, taken, stepped}
@@ -34,10 +33,10 @@ module _ (ru : Rules) (b : Model) where
   accept-change (append g x) a k =
       let l = logAt (b .logs) g in
       let r = a .room in
-      change-at (Unit {0}) g _ (a .log) (entering _ (omega arith) (λ (v : Unit {0}) (q : l .high < 2 ^ 64). omega arith) (a .value) (length-digest _ x _) refl) k
+      change-at (Unit {0}) g _ (a .log) (entering _ (omega arith) (λ (v : Unit {0}) (q : l .high < 2 ^ 64). omega arith) (a .value) (length-entryDigest _ x _) refl) k
   accept-change (advance g n d x) a k =
       let l = logAt (b .logs) g in
-      change-at (n < 2 ^ 64) g _ (a .log) (entering _ (a .above) (λ (v : n < 2 ^ 64) (q : l .high < 2 ^ 64). v) (a .value) (length-digest n x _) refl) k
+      change-at (n < 2 ^ 64) g _ (a .log) (entering _ (a .above) (λ (v : n < 2 ^ 64) (q : l .high < 2 ^ 64). v) (a .value) (length-entryDigest n x _) refl) k
   accept-change (truncate g n) a k = change-at (n < 2 ^ 64) g _ (a .log) (cutting n (a .low) (a .high) refl) k
   accept-change (lookup g n c q) a k = same refl
   accept-change (end g c q) a k = same refl

@@ -97,4 +97,3 @@ module _ (ru : Rules) (b : Model) (keeps : Keeps b) (cs : List Call) (w : AllWid
       let L : Later (cutAt n (logAt (after (modelStep ru) b (take j cs) .logs) g)) (logAt (after (modelStep ru) b (take i cs) .logs) g) = rw next at (at-later ru b cs (suc j) i ji g) in
       let low : n ≤ logAt (after (modelStep ru) b (take i cs) .logs) g .low = L .low in
       omega arith
-

@@ -1,14 +1,12 @@
 -- Demand 3 on images: along every list of calls an image answers as the model that it says, and what demand 3 says holds of answers and image.
-use Prim.Native.Nat.{ℕ, suc, _^_, _≤_, _<_}
-use mathlib.Core.Path.{_≡_, refl, ap, ap₂, _∙_}
+use Prim.Native.Nat.{ℕ, _^_, _≤_, _<_}
+use mathlib.Core.Path.{_≡_, refl, ap₂, _∙_}
 use mathlib.Core.List.{List, [], _∷_}
-use native.Mathlib.Omega.{arith}
 use lib.ListN.{length, length-replicate}
 use lib.Dec.{lit<}
 use Rattle.layout.specs.Image.{Entry, Image}
 use Rattle.a2m.specs.Call.{Call, Reply, replies, after, AllWide}
 use Rattle.a2m.specs.ImageCalls.{imageStep}
-use Rattle.a2m.proofs.Lists.{In}
 use Rattle.model.specs.Log.{freshLog}
 use Rattle.model.specs.Model.{rules01, Model, newModel, logAt, modelStep}
 use Rattle.model.specs.Claim.{RowSays, ListClaim}

@@ -15,7 +15,7 @@ use Rattle.table.specs.Free.{queue, queuedNext}
 use Rattle.table.specs.Format.{formatted}
 use Rattle.table.specs.WholeImage.{all, blank, freeOk, fresh, risingFrom, started, rowOk, rowsOk, heldBy, meets, wholeImage}
 use Rattle.a2m.specs.Call.{Call, replies, after}
-use Rattle.a2m.specs.Digest.{entryDigest}
+use Rattle.entry.specs.Digest.{entryDigest}
 use Rattle.a2m.specs.Search.{search, lookedUp}
 use Rattle.a2m.specs.ImageCalls.{rowIn, entriesIn, wrongLength, misplaced, spent, nothingHeld, full, faults, imageRefusal, joined, put, release, releases, lowered, lookupAttested, endAttested, imageDone, imageAccept, imageStep}
 use Rattle.model.specs.Log.{lastEntry, keepFrom, keepBelow, entered, cutAt, standingAmong, standing, kindOf, referenceOf, examinedFor}

@@ -1,33 +1,34 @@
 -- A whole image says one sound model, `modelOf`: a call on it answers as that model, and leaves a whole image.
-use Prim.Native.Nat.{ℕ, zero, suc, _+_, _≤_, _<_}
-use mathlib.Core.Path.{_≡_, refl, sym, ap, ap₂, _∙_}
-use mathlib.Core.List.{List, [], _∷_, _++_}
-use mathlib.Core.Bool.{Bool, true, false, _&&_, cond, not}
+use Prim.Native.Nat.{ℕ, suc, _≤_, _<_}
+use mathlib.Core.Path.{_≡_, refl, sym, ap, _∙_}
+use mathlib.Core.List.{List, []}
+use mathlib.Core.Bool.{Bool, true, false}
 use native.Mathlib.Omega.{arith}
 use native.Mathlib.Nat.{zero-add}
-use lib.ListN.{length, getD, length-append, length-map, replicate, List·getD-eq-default}
+use lib.ListN.{length, length-append, length-map, List·getD-eq-default}
 use lib.Seq.{ext-getD}
 use lib.Dec.{ltb}
 use borrow.Author.Tests.{ltb-true, ltb-false}
 use Rattle.octets.specs.Octets.{Bytes}
 use Rattle.layout.specs.declared.Row.{Row}
 use Rattle.layout.specs.Lists.{tabulate}
-use Rattle.layout.specs.Image.{Entry, Slot, Image, entryOf, slotAt, freshRow, rowAt}
-use Rattle.layout.specs.Layout.{readTable, writeTable}
+use Rattle.layout.specs.Image.{Image, entryOf, slotAt, freshRow}
+use Rattle.layout.specs.Layout.{readTable}
 use Rattle.layout.proofs.ListLaws.{length-tabulate, getD-tabulate}
 use Rattle.layout.proofs.TableLaws.{length-rows, length-slots, write-read, fits-read, read-write}
-use Rattle.table.specs.Chains.{chain, lastOf, positionsOf, entriesOf}
+use Rattle.table.specs.Chains.{chain, lastOf, entriesOf}
 use Rattle.table.specs.Free.{freeChain}
-use Rattle.table.specs.Whole.{inRange, whole}
-use Rattle.table.specs.WholeImage.{risingFrom, heldBy, meets, wholeImage}
+use Rattle.table.specs.Conditions.{Range}
+use Rattle.table.specs.Whole.{whole}
+use Rattle.table.proofs.WholeLaws.{whole-formed, whole-range, whole-image}
+use Rattle.table.specs.WholeImage.{heldBy, meets, wholeImage}
 use Rattle.a2m.specs.Call.{Call, Wide, Outcome, outcome}
 use Rattle.a2m.specs.ImageCalls.{rowIn, entriesIn, imageStep}
 use Rattle.a2m.specs.TableCalls.{written, tableStep}
 use Rattle.a2m.proofs.Links.{chain-links}
 use Rattle.a2m.proofs.FitsAfter.{step-fits}
-use Rattle.a2m.proofs.WholeBytes.{whole-image, whole-range, whole-formed}
 use Rattle.a2m.proofs.WholeChains.{RowChain, log-chain, free-links, free-blank, sum-meets}
-use Rattle.a2m.proofs.Written.{whole-written, step-written}
+use Rattle.a2m.proofs.Written.{step-written}
 use Rattle.model.specs.Log.{Log, freshLog}
 use Rattle.model.specs.Model.{rules01, Model, logAt, total, modelStep}
 use Rattle.model.specs.ModelOf.{logIn, modelOf}
@@ -45,7 +46,7 @@ length-entries m g = length-map (chain (m .slots) (suc g) (rowIn m g .first)) (�
 -- ---- the model of a whole image
 
 -- a log beyond the table's is fresh
-log-in : (m : Image) (g : ℕ) → logAt (modelOf m .logs) g ≡ logIn m g
+pub log-in : (m : Image) (g : ℕ) → logAt (modelOf m .logs) g ≡ logIn m g
 unfolding modelOf logIn entriesIn
 log-in m g = go (ltb g (length (m .rows))) refl
   where
@@ -125,6 +126,6 @@ pub table-step : (b : List ℕ) → Bytes b → whole b ≡ true → (call : Cal
 table-step b h w call wide =
     let m = readTable b in
     let f = fits-read b h (whole-formed b w) in
-    let counts : inRange (length (m .rows)) (length (m .slots)) ≡ true = rw (length-rows b, length-slots b) (whole-range b w) in
+    let counts : Range (length (m .rows)) (length (m .slots)) = rw (length-rows b, length-slots b) (whole-range b w) in
     let e : tableStep b call ≡ written (imageStep m call) = ap (λ (x : List ℕ). tableStep x call) (sym (write-read b h (whole-formed b w))) ∙ step-written m f counts call in
     rw (e, read-write (imageStep m call .state) (step-fits m f call wide)) (whole-step m (whole-image b w) call)

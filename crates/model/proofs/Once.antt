@@ -1,20 +1,20 @@
 -- The chains of an image that says a model meet every slot exactly once.
-use Prim.Native.Nat.{ℕ, zero, suc, _+_, _≤_, _<_, zero-le}
-use mathlib.Core.Path.{_≡_, refl, sym, ap, _∙_}
-use mathlib.Core.Logic.{_⊎_, inl, inr, _≢_}
+use Prim.Native.Nat.{ℕ, suc, _+_, _≤_, _<_}
+use mathlib.Core.Path.{_≡_, refl, ap}
+use mathlib.Core.Logic.{_⊎_, inl, inr}
 use mathlib.Core.List.{List, [], _∷_, _++_}
 use native.Mathlib.Omega.{arith}
 use native.Mathlib.Nat.{zero-add, add-zero, add-suc, suc-add}
 use native.Mathlib.Decide.{ℕ-discrete}
 use lib.ListN.{length}
-use lib.Dec.{eqb}
 use borrow.Author.Tests.{eq-eqb, ne-eqb}
 use Rattle.layout.specs.declared.Row.{Row}
 use Rattle.layout.specs.Image.{Slot, Image, slotAt, rowAt}
 use Rattle.table.specs.Chains.{chain}
 use Rattle.table.specs.WholeImage.{heldBy, meets}
 use Rattle.a2m.proofs.Lists.{In, in-cases, Distinct, pigeon}
-use Rattle.a2m.proofs.Links.{Links, links-in, links-distinct}
+use Rattle.table.specs.Conditions.{Links}
+use Rattle.a2m.proofs.Links.{links-in, links-distinct}
 use Rattle.model.specs.Model.{Model}
 use Rattle.model.specs.Claim.{times}
 use Rattle.model.proofs.Represents.{Rep}

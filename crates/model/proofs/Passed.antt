@@ -1,6 +1,6 @@
 -- What an accepted call of the model passed.
 use Prim.Native.Nat.{ℕ, _-_, _^_, _≤_, _<_}
-use mathlib.Core.Path.{_≡_, refl, sym}
+use mathlib.Core.Path.{_≡_, refl}
 use mathlib.Core.Logic.{_≢_}
 use mathlib.Core.List.{List}
 use mathlib.Core.Bool.{Bool, true, false, cond, not, _||_}

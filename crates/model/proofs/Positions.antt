@@ -8,7 +8,7 @@ use native.Mathlib.Omega.{arith}
 use lib.Dec.{leb}
 use borrow.Author.Tests.{leb-true, le-leb}
 use Rattle.octets.proofs.Tests.{and-left, and-right, and-both}
-use Rattle.layout.specs.Image.{Entry, Slot, entryOf, slotAt}
+use Rattle.layout.specs.Image.{Entry, Slot, slotAt}
 use Rattle.table.specs.Chains.{lastOf, positionsOf, entriesOf}
 use Rattle.table.specs.WholeImage.{risingFrom}
 use Rattle.model.specs.Log.{Log, lastEntry}

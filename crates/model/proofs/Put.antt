@@ -1,6 +1,6 @@
 -- Append and advance on an image and on the model: the first free slot goes to the log's end.
-use Prim.Native.Nat.{ℕ, zero, suc, _+_, _<_}
-use mathlib.Core.Path.{_≡_, refl, sym, ap, _∙_}
+use Prim.Native.Nat.{ℕ, suc, _+_, _<_}
+use mathlib.Core.Path.{_≡_, refl, sym, _∙_}
 use mathlib.Core.Logic.{_≢_}
 use mathlib.Core.List.{List, [], _∷_, _++_, tail-eq-of-cons-eq}
 use mathlib.Core.Bool.{false}

@@ -3,7 +3,7 @@ use Prim.Native.Nat.{ℕ, zero, suc, _+_, _≤_, _<_}
 use mathlib.Core.Path.{_≡_, refl, sym, ap, _∙_}
 use mathlib.Core.Logic.{inl, _≢_}
 use mathlib.Core.List.{List, [], _∷_, _++_, map}
-use mathlib.Core.Bool.{true, false}
+use mathlib.Core.Bool.{false}
 use native.Mathlib.Omega.{arith}
 use native.Mathlib.Decide.{ℕ-discrete}
 use lib.ListN.{length, set, length-map}
@@ -14,8 +14,9 @@ use Rattle.layout.specs.declared.Row.{Row}
 use Rattle.layout.specs.Image.{Entry, Slot, Image, entryOf, slotAt, rowAt, freshRow}
 use Rattle.table.specs.Chains.{chain, lastOf, entriesOf}
 use Rattle.a2m.specs.ImageCalls.{rowIn, entriesIn}
-use Rattle.a2m.proofs.Lists.{In, in-right, Snoc, snoc, ending, lastOf-nil, lastOf-snoc, map-append}
-use Rattle.a2m.proofs.Links.{Links, Holds, links-in, chain-links}
+use Rattle.a2m.proofs.Lists.{in-right, Snoc, snoc, ending, lastOf-nil, lastOf-snoc, map-append}
+use Rattle.table.specs.Conditions.{Links}
+use Rattle.a2m.proofs.Links.{Holds, links-in, chain-links}
 use Rattle.model.specs.Log.{Log, freshLog, lastEntry}
 use Rattle.model.specs.Model.{Model, logAt, total, isNil}
 use Rattle.model.proofs.Represents.{Rep, RowRep}

@@ -1,15 +1,11 @@
 -- An image that says a sound model refuses what the model refuses, with one number. 1 never occurs.
-use Prim.Native.Nat.{ℕ, _-_, _^_, _≤_, _<_}
-use mathlib.Core.Path.{_≡_, refl, sym, ap, _∙_}
-use mathlib.Core.List.{List, [], _∷_}
-use mathlib.Core.Bool.{Bool, true, false, cond, not, _&&_, _||_}
-use mathlib.Core.Option.{Option, none, some}
-use lib.ListN.{length}
-use lib.Dec.{eqb, leb, ltb}
+use Prim.Native.Nat.{ℕ, _-_}
+use mathlib.Core.Path.{_≡_, refl}
+use mathlib.Core.Bool.{Bool, true, false, not, _&&_, _||_}
+use lib.Dec.{leb, ltb}
 use borrow.Author.Tests.{leb-true, leb-false, ltb-true, ltb-false, le-leb, lt-leb, lt-ltb, le-ltb}
 use Rattle.refusal.specs.Order.{firstFault}
 use Rattle.layout.specs.Image.{Image}
-use Rattle.table.specs.WholeImage.{wholeImage}
 use Rattle.a2m.specs.Call.{Call, append, advance, truncate, lookup, end}
 use Rattle.a2m.specs.ImageCalls.{wrongLength, misplaced, spent, nothingHeld, full, faults, imageRefusal}
 use Rattle.model.specs.Model.{Model, rules01, modelRefusal}

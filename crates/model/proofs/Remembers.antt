@@ -1,32 +1,30 @@
 -- The model is no empty one: what a call put at n, a later lookup of n shows assigned, until a truncate goes past n.
-use Prim.Native.Nat.{ℕ, zero, suc, _+_, _-_, _^_, _≤_, _<_}
+use Prim.Native.Nat.{ℕ, zero, suc, _-_, _^_, _≤_, _<_}
 use native.Mathlib.Nat.{le-refl}
-use mathlib.Core.Path.{_≡_, refl, sym, ap, ap₂, subst, _∙_}
-use mathlib.Core.Logic.{_⊎_, inl, inr, _≢_}
-use mathlib.Core.List.{List, [], _∷_, _++_}
-use mathlib.Core.Bool.{Bool, true, false, cond, not, _||_}
-use mathlib.Core.Option.{Option, none, some, Option·none-ne-some, Option·some-injective}
+use mathlib.Core.Path.{_≡_, refl, sym, ap, subst, _∙_}
+use mathlib.Core.Logic.{inl, inr}
+use mathlib.Core.List.{List, [], _∷_}
+use mathlib.Core.Bool.{Bool, true, false, cond}
+use mathlib.Core.Option.{Option, none, some, Option·none-ne-some}
 use native.Mathlib.Omega.{arith}
 use native.Mathlib.Decide.{ℕ-discrete}
 use lib.ListN.{length, take, getElem?, set}
 use lib.Seq.{getD-set-same, getD-set-other}
-use lib.Dec.{eqb, leb, ltb}
+use lib.Dec.{leb}
 use borrow.Author.Tests.{leb-true, leb-false, eq-eqb, ne-eqb, le-leb, lt-leb, le-ltb}
-use Rattle.receipt.specs.Attestation.{Attestation, LOOKUP, receiptBytes, readAttestation, Sized}
+use Rattle.receipt.specs.Attestation.{Attestation, LOOKUP, receiptBytes, readAttestation}
 use Rattle.receipt.proofs.Fields.{read-receipt}
 use Rattle.layout.specs.Image.{Entry}
-use Rattle.a2m.specs.Call.{Call, append, advance, truncate, lookup, end, refused, done, found, Outcome, Reply, replies, after, AllWide}
-use Rattle.a2m.specs.Digest.{entryDigest, newEntry}
+use Rattle.a2m.specs.Call.{Call, append, advance, truncate, lookup, end, refused, done, Outcome, Reply, replies, after, AllWide}
 use Rattle.a2m.proofs.Lists.{In, in-left, in-right}
-use Rattle.model.specs.Log.{Log, freshLog, lastEntry, keepFrom, entered, cutAt, Standing, assigned, standingAmong, standing, kindOf, referenceOf}
-use Rattle.model.specs.Model.{Rules, Model, logAt, not32, modelRefusal, modelReceipt, shownFor, lookupReply, modelDone, modelAccept, modelStep}
-use Rattle.model.specs.Claim.{Shows, receiptIn, replyAt, ShowsAt, ForgetsAt, Stores, Asked}
-use Rattle.model.proofs.Represents.{LogOk, Sound, Rising}
+use Rattle.model.specs.Log.{Log, freshLog, keepFrom, entered, cutAt, assigned, standingAmong, standing, kindOf, referenceOf}
+use Rattle.model.specs.Model.{Rules, Model, logAt, modelRefusal, modelReceipt, shownFor, lookupReply, modelDone, modelAccept, modelStep}
+use Rattle.model.specs.Claim.{Shows, receiptIn, replyAt, ShowsAt, Stores, Asked}
+use Rattle.model.proofs.Represents.{LogOk, Rising}
 use Rattle.model.proofs.Passed.{Passed, Stepped, turned, taken, stepped}
-use Rattle.model.proofs.Entries.{EntryAt, Fit, in-bounds, rising-in}
-use Rattle.model.proofs.Later.{Later}
+use Rattle.model.proofs.Entries.{EntryAt, in-bounds, rising-in}
 use Rattle.model.proofs.Shown.{length-LOOKUP}
-use Rattle.model.proofs.Along.{Keeps, after-fixed, at-keeps, at-later, at-next, at-reply}
+use Rattle.model.proofs.Along.{Keeps, after-fixed, at-keeps, at-next, at-reply}
 
 -- ---- a log keeps its entries down to its low
 

@@ -1,25 +1,25 @@
 -- A receipt that shows a position assigned shows an entry that the model has then.
-use Prim.Native.Nat.{ℕ, suc, _^_, _≤_, _<_}
+use Prim.Native.Nat.{ℕ, _^_, _<_}
 use mathlib.Core.Path.{_≡_, refl, sym, ap, subst, _∙_}
-use mathlib.Core.Logic.{_⊎_, inl, inr}
-use mathlib.Core.List.{List, [], _∷_, _++_, append-assoc}
+use mathlib.Core.Logic.{inl}
+use mathlib.Core.List.{List, [], _∷_, append-assoc}
 use mathlib.Core.Bool.{Bool, true, false, cond}
-use mathlib.Core.Option.{Option, none, some, Option·none-ne-some, Option·some-injective}
+use mathlib.Core.Option.{some, Option·none-ne-some, Option·some-injective}
 use native.Mathlib.Omega.{arith}
 use lib.ListN.{length, getD}
 use lib.Seq.{getD-at}
-use lib.Dec.{eqb, leb, ltb}
+use lib.Dec.{eqb, ltb}
 use borrow.Author.Tests.{eqb-true}
 use Rattle.hmac.specs.Hmac.{hmac}
 use Rattle.receipt.specs.Attestation.{Attestation, LOOKUP, END, attestedBytes, receiptBytes, readAttestation, Sized}
 use Rattle.receipt.proofs.Fields.{read-receipt}
 use Rattle.layout.specs.Image.{Entry}
-use Rattle.a2m.specs.Call.{Call, append, advance, truncate, lookup, end, Reply, Wide}
+use Rattle.a2m.specs.Call.{Call, append, advance, truncate, lookup, end, Wide}
 use Rattle.a2m.proofs.Lists.{In}
 use Rattle.model.specs.Log.{Log, lastEntry, keepFrom, Standing, unassigned, forgotten, assigned, skipped, standingAmong, standing, kindOf, referenceOf}
 use Rattle.model.specs.Model.{Rules, Model, logAt, isNil, modelReceipt, shownFor, lookupReply, endReply, modelDone, modelAccept, modelStep}
 use Rattle.model.specs.Claim.{Shows, receiptIn}
-use Rattle.model.proofs.Represents.{LogOk, Sound}
+use Rattle.model.proofs.Represents.{Sound}
 use Rattle.model.proofs.Passed.{Passed, Stepped, turned, taken, stepped}
 use Rattle.model.proofs.Later.{in-keepFrom}
 use Rattle.model.proofs.Entries.{EntryAt, Fit, AllFit, last-in}
@@ -86,15 +86,16 @@ module _ (b : Model) (keeper : b .keeper < 2 ^ 64) (l : Log) (fit : Fit l) (e : 
       let z = fit .sized e m in
       let a : Attestation = record { name = name; kind = 1; log = g; keeper = b .keeper; position = n; reference = n; nonce = nonce; value = e .value; digest = e .digest } in
       let sz : Sized a = record { name = six; keeper = keeper; position = n64; reference = n64; nonce = hn; value = z .0; digest = z .1 } in
-      let w : a ≡ readAttestation r = sym (read-receipt (b .key) a sz) ∙ ap readAttestation q in
-      (ap (λ (x : Attestation). x .log) w ∙ s .log,
+      let w : a ≡ readAttestation r = sym (read-receipt (b .key) a sz) ∙ ap readAttestation q in (
+        ap (λ (x : Attestation). x .log) w ∙ s .log,
         record {
           entry = e;
           there = m;
           position = en ∙ ap (λ (x : Attestation). x .position) w ∙ s .position;
           value = ap (λ (x : Attestation). x .value) w ∙ s .value;
           digest = ap (λ (x : Attestation). x .digest) w ∙ s .digest;
-        })
+        },
+      )
 
 module _ (ru : Rules) (b : Model) (ok : Sound b) (keeper : b .keeper < 2 ^ 64) (fits : AllFit b) where
   lookup-shown : (g n : ℕ) (c : List ℕ) → length c ≡ 32 → n < 2 ^ 64 → (s : Standing) → standing (logAt (b .logs) g) n ≡ s → (r : List ℕ)

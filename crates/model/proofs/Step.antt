@@ -1,25 +1,25 @@
 -- On an image that says a sound model, every call answers as the model does, and leaves an image that says the model after.
-use Prim.Native.Nat.{ℕ, suc, _+_, _≤_, _<_}
+use Prim.Native.Nat.{ℕ, suc, _+_, _<_}
 use native.Mathlib.Numerals.{add-one}
 use mathlib.Core.Path.{_≡_, refl, sym, ap, ap₂, subst, _∙_}
 use mathlib.Core.Logic.{_≢_}
-use mathlib.Core.List.{List, [], _∷_}
+use mathlib.Core.List.{List}
 use mathlib.Core.Bool.{false, cond}
 use mathlib.Core.Option.{Option, none, some}
 use native.Mathlib.Omega.{arith}
 use lib.ListN.{length, set}
 use lib.Seq.{getD-set-same}
 use lib.Dec.{eqb}
-use Rattle.receipt.specs.Attestation.{END, LOOKUP, receiptBytes}
+use Rattle.receipt.specs.Attestation.{receiptBytes}
 use Rattle.layout.specs.Image.{Entry, Image, entryOf, slotAt}
-use Rattle.a2m.specs.Call.{Call, append, advance, truncate, lookup, end, Reply, refused, done, found, ended, Outcome, outcome}
-use Rattle.a2m.specs.Digest.{newEntry}
-use Rattle.a2m.specs.Search.{Found, lookedUp}
-use Rattle.a2m.specs.ImageCalls.{rowIn, entriesIn, imageRefusal, put, previousIn, lookupAttested, endAttested, imageDone, imageAccept, imageStep}
-use Rattle.model.specs.Log.{Log, freshLog, lastEntry, entered, standing, kindOf, referenceOf, examinedFor}
-use Rattle.model.specs.Model.{Rules, rules01, Model, logAt, total, withLog, isNil, modelRefusal, modelReceipt, shownFor, lookupReply, endReply, modelDone, modelAccept, modelStep}
-use Rattle.model.proofs.Represents.{Rep, Sound, LogOk}
-use Rattle.model.proofs.Reading.{entries-are, empty-is, full-is, last-is}
+use Rattle.a2m.specs.Call.{Call, append, advance, truncate, lookup, end, Reply, done, found, ended, Outcome}
+use Rattle.a2m.specs.NewEntry.{newEntry}
+use Rattle.a2m.specs.Search.{lookedUp}
+use Rattle.a2m.specs.ImageCalls.{rowIn, entriesIn, put, previousIn, lookupAttested, endAttested, imageDone, imageAccept, imageStep}
+use Rattle.model.specs.Log.{Log, freshLog, lastEntry, entered, standing, examinedFor}
+use Rattle.model.specs.Model.{rules01, Model, logAt, total, withLog, isNil, modelRefusal, modelReceipt, lookupReply, endReply, modelDone, modelAccept, modelStep}
+use Rattle.model.proofs.Represents.{Rep, Sound}
+use Rattle.model.proofs.Reading.{entries-are, full-is, last-is}
 use Rattle.model.proofs.Put.{put-keeps}
 use Rattle.model.proofs.Truncate.{truncate-keeps}
 use Rattle.model.proofs.Refusals.{refusal-is}

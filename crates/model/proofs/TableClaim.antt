@@ -1,20 +1,21 @@
 -- Demand 3 on bytes: along every list of calls the table's bytes are those of the image, so what holds of images holds of them.
 use Prim.Native.Nat.{ℕ, _^_, _<_}
-use mathlib.Core.Path.{_≡_, refl, sym, ap, ap₂, _∙_}
+use mathlib.Core.Path.{_≡_, refl, ap, _∙_}
 use mathlib.Core.List.{List, [], _∷_}
 use mathlib.Core.Bool.{true}
-use lib.ListN.{length, length-replicate}
+use lib.ListN.{length}
 use Rattle.layout.specs.Image.{Image}
 use Rattle.layout.specs.Layout.{readTable, writeTable}
 use Rattle.layout.specs.Fits.{Fits}
 use Rattle.layout.proofs.TableLaws.{read-write}
-use Rattle.table.specs.Whole.{inRange, whole}
+use Rattle.table.specs.Conditions.{Range}
+use Rattle.table.specs.Whole.{whole}
+use Rattle.table.proofs.WholeLaws.{written-whole}
 use Rattle.a2m.specs.Call.{Call, AllWide, Reply, replies, after}
 use Rattle.a2m.specs.ImageCalls.{imageStep}
 use Rattle.a2m.specs.TableCalls.{tableStep}
 use Rattle.a2m.proofs.FitsAfter.{step-fits}
-use Rattle.a2m.proofs.Written.{whole-written, step-written}
-use Rattle.model.specs.Log.{freshLog}
+use Rattle.a2m.proofs.Written.{step-written}
 use Rattle.model.specs.Model.{rules01, Model, newModel, modelStep}
 use Rattle.model.specs.Claim.{ListClaim}
 use Rattle.model.proofs.Represents.{Rep, Sound}
@@ -29,9 +30,9 @@ pub record Stands (m : Image) (b : Model) : Type 0 where
   pub says : Rep m b
   pub sound : Sound b
   pub fits : Fits m
-  pub counts : inRange (length (b .logs)) (b .size) ≡ true
+  pub counts : Range (length (b .logs)) (b .size)
 
-in-range : (m : Image) (b : Model) (s : Stands m b) → inRange (length (m .rows)) (length (m .slots)) ≡ true
+in-range : (m : Image) (b : Model) → Stands m b → Range (length (m .rows)) (length (m .slots))
 in-range m b s = rw (s .says .count, s .says .size) (s .counts)
 
 step-stands : (m : Image) (b : Model) → Stands m b → (c : Call) (w : AllWide (c ∷ [])) → Stands (imageStep m c .state) (modelStep rules01 b c .state)
@@ -72,4 +73,4 @@ pub table-whole : (m : Image) (b : Model) → Stands m b → (cs : List Call) �
 table-whole m b s cs w =
     let W = list-written m b s cs w in
     let t = W .stands in
-    ap whole (W .bytes) ∙ whole-written (after imageStep m cs) (t .fits) (in-range _ _ t) ∙ whole-of (after imageStep m cs) (after (modelStep rules01) b cs) (t .says) (t .sound)
+    ap whole (W .bytes) ∙ written-whole (after imageStep m cs) (t .fits) (in-range _ _ t) ∙ whole-of (after imageStep m cs) (after (modelStep rules01) b cs) (t .says) (t .sound)

@@ -14,12 +14,13 @@ use Rattle.layout.specs.Changes.{truncatedRow}
 use Rattle.table.specs.Chains.{lastOf, entriesOf}
 use Rattle.table.specs.Free.{joint}
 use Rattle.a2m.specs.ImageCalls.{rowIn, joined, firstOf, release, releases, lowered}
-use Rattle.a2m.proofs.Links.{Links, Holds, links-head}
+use Rattle.table.specs.Conditions.{Links}
+use Rattle.a2m.proofs.Links.{Holds, links-head}
 use Rattle.a2m.proofs.Chained.{Chained, release-move}
 use Rattle.a2m.proofs.Releases.{releases-stop, releases-go}
 use Rattle.a2m.proofs.Moves.{Move, move-other, move-from, move-to, length-joined}
 use Rattle.model.specs.Log.{Log, freshLog, lastEntry, keepFrom, cutAt}
-use Rattle.model.specs.Model.{Model, logAt, total, withLog}
+use Rattle.model.specs.Model.{Model, logAt, withLog}
 use Rattle.model.proofs.Represents.{Rep, RowRep, LogOk, Rising}
 use Rattle.model.proofs.Reading.{total-set, total-at, rows-set}
 
@@ -148,7 +149,7 @@ lowered-keeps : (m : Image) (b : Model) (R : Rep m b) (g n : ℕ) → g < length
 unfolding lowered truncatedRow
 lowered-keeps m b R g n gG = record {
   keeper = R .keeper;
-    key = R .key;
+  key = R .key;
   count = length-set (m .rows) g _ ∙ R .count ∙ sym (length-set (b .logs) g _);
   size = R .size;
   rows = rows-set (m .slots) (m .rows) (b .logs) g _ _ (rw (R .count) gG) gG (λ (k : ℕ) (q : k ≢ g). R .rows k) (let w = R .rows g in record { chain = w .chain; holds = w .holds; last = w .last; low = refl; high = w .high });

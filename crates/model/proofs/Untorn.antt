@@ -1,6 +1,6 @@
 -- The model never answers 1.
 use Prim.Native.Nat.{ℕ, zero, suc, _-_, _^_}
-use mathlib.Core.Path.{_≡_, refl, sym}
+use mathlib.Core.Path.{_≡_, refl}
 use mathlib.Core.Logic.{_≢_}
 use mathlib.Core.List.{List, [], _∷_}
 use mathlib.Core.Bool.{Bool, true, false, cond, not, _||_}
@@ -8,7 +8,7 @@ use mathlib.Core.Option.{Option, none, some}
 use native.Mathlib.Omega.{arith}
 use lib.ListN.{length}
 use lib.Dec.{eqb, leb, ltb}
-use Rattle.a2m.specs.Call.{Call, append, advance, truncate, lookup, end, Reply, refused, replies}
+use Rattle.a2m.specs.Call.{Call, append, advance, truncate, lookup, end, refused, replies}
 use Rattle.model.specs.Model.{rules01, Model, logAt, total, isNil, not32, modelRefusal, lookupReply, endReply, modelDone, modelAccept, modelStep}
 use Rattle.model.specs.Claim.{replyAt}
 

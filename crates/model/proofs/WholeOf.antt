@@ -1,8 +1,8 @@
 -- An image that says a sound model is whole.
-use Prim.Native.Nat.{ℕ, zero, suc, _+_}
+use Prim.Native.Nat.{ℕ, suc, _+_}
 use mathlib.Core.Path.{_≡_, refl, sym, ap, ap₂, _∙_}
 use mathlib.Core.Logic.{_≢_}
-use mathlib.Core.List.{List, [], _∷_, _++_, cons≢nil, tail-eq-of-cons-eq, head-eq-of-cons-eq}
+use mathlib.Core.List.{List, [], _∷_, cons≢nil, tail-eq-of-cons-eq, head-eq-of-cons-eq}
 use mathlib.Core.Bool.{Bool, true, false, _&&_, _||_}
 use native.Mathlib.Omega.{arith}
 use native.Mathlib.Nat.{zero-add, add-zero, add-suc, suc-add}
@@ -15,10 +15,11 @@ use Rattle.octets.proofs.Tests.{and-left, and-right, and-both}
 use Rattle.octets.proofs.Same.{same-eq, same-refl}
 use Rattle.layout.specs.declared.Row.{Row}
 use Rattle.layout.specs.Image.{Entry, Slot, Image, entryOf, blankEntry, slotAt, rowAt}
-use Rattle.table.specs.Chains.{chain, lastOf, positionsOf, entriesOf}
+use Rattle.table.specs.Chains.{chain, lastOf, entriesOf}
 use Rattle.table.specs.WholeImage.{all, blank, freeOk, fresh, started, rowOk, rowsOk, heldBy, meets, wholeImage}
 use Rattle.a2m.proofs.Lists.{lastOf-nil}
-use Rattle.a2m.proofs.Links.{Links, chain-links, reaches-links}
+use Rattle.table.specs.Conditions.{Links}
+use Rattle.a2m.proofs.Links.{chain-links, reaches-links}
 use Rattle.model.specs.Log.{Log}
 use Rattle.model.specs.Model.{Model, logAt, total}
 use Rattle.model.proofs.Represents.{Rep, RowRep, LogOk, Sound}

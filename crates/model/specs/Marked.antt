@@ -1,7 +1,6 @@
 -- Document 01's marked set: the 11 log calls of its script and the lines answered, as one table.
 use Prim.Native.Nat.{ℕ}
 use mathlib.Core.List.{List, [], _∷_, _++_}
-use lib.ListN.{replicate}
 use Rattle.octets.specs.Octets.{zeros}
 use Rattle.bigendian.specs.BigEndian.{be, unbe}
 use Rattle.receipt.specs.Attestation.{Attestation, readAttestation}

@@ -8,9 +8,9 @@ use mathlib.Core.Option.{Option, none, some}
 use lib.ListN.{length, getD, set, replicate}
 use lib.Dec.{eqb, leb, ltb}
 use Rattle.layout.specs.Image.{Entry, blankEntry}
-use Rattle.receipt.specs.Attestation.{Attestation, LOOKUP, END, receiptBytes}
+use Rattle.receipt.specs.Attestation.{LOOKUP, END, receiptBytes}
 use Rattle.a2m.specs.Call.{Call, append, advance, truncate, lookup, end, Reply, refused, done, found, ended, Outcome, outcome}
-use Rattle.a2m.specs.Digest.{newEntry}
+use Rattle.a2m.specs.NewEntry.{newEntry}
 use Rattle.model.specs.Log.{Log, freshLog, lastEntry, entered, cutAt, Standing, unassigned, forgotten, assigned, skipped, standing, kindOf, referenceOf, examinedFor}
 
 -- slots S, keeper number, key; the logs

@@ -13,6 +13,7 @@ use Rattle.octets.proofs.Same.{same-eq, eq-same}
 use Rattle.bigendian.specs.BigEndian.{be, unbe}
 use Rattle.layout.specs.Layout.{mark, headerSize, slotSize, zeroOffset, zerosOffset, rowOffset, padOffset, tableSize, logsOf, slotsOf}
 use Rattle.layout.specs.Fits.{Counted, Formed}
+use Rattle.layout.proofs.CodeLaws.{zero-one, zero-two, mark-four}
 use Rattle.table.specs.Conditions.{Range}
 use Rattle.table.specs.Whole.{inRange, constantsFit, headerFits, allBelow, padsFit}
 use Rattle.table.proofs.TestLaws.{and-yes, and-no, and-not, and-split, field-same}
@@ -48,18 +49,6 @@ module _ (logs slots : ℕ) where
   range-in r = sym (by-slots (r .logs-least) (r .logs-most) (r .slots-least)) ∙ le-leb slots 800 (r .slots-most)
 
 -- constants
-
-zero-one : be 1 0 ≡ zeros 1
-unfolding be zeros
-zero-one = refl
-
-zero-two : be 2 0 ≡ zeros 2
-unfolding be zeros
-zero-two = refl
-
-mark-four : be 4 0x41324D54 ≡ mark
-unfolding be
-mark-four = refl
 
 pub zero-test : (b : List ℕ) (at : ℕ) → Bytes b → at + 1 ≤ length b → eqb (unbe (part b at 1)) 0 ≡ same (part b at 1) (zeros 1)
 zero-test b at h k = field-same b at 1 0 h k (omega arith) ∙ ap (same (part b at 1)) zero-one

@@ -21,7 +21,7 @@ ghost use Rattle.layout.specs.Fits.{Counted};
 ghost use Rattle.table.specs.Whole.{inRange, constantsFit, headerFits, padsFit, checkOf};
 
 // Whether a table may have so many logs and slots.
-pub fn in_range(logs: u64, slots: u64) -> bool
+pub(crate) fn in_range(logs: u64, slots: u64) -> bool
     ensures { λ r. ⌜ r ≡ inRange logs slots ⌝ }
 {
     if logs < 1 {

@@ -1,4 +1,4 @@
--- `quorum::certify` meets its contract. Assumes nothing.
+-- `quorum::certify` meets its contract.
 use Rattle.quorum.specs.Tally.{firstIn}
 use Rattle.quorum.specs.Certificate.{receiptCount}
 use Rattle.quorum.specs.Roster.{size}

@@ -1,4 +1,4 @@
--- `receipt::accepted` meets its contract. Assumes nothing.
+-- `receipt::accepted` meets its contract.
 use Rattle.receipt.specs.Verdict.{carried}
 use Rattle.receipt.specs.Attestation.{readAttestation}
 use borrow.Author.Needs.{needs}

@@ -1,4 +1,4 @@
--- `receipt::is_tagged` meets its contract. Assumes nothing.
+-- `receipt::is_tagged` meets its contract.
 use Rattle.receipt.specs.Verdict.{isTagged}
 use Rattle.octets.specs.Octets.{part, same}
 use mathlib.Core.Path.{ap, _∙_}

@@ -1,4 +1,4 @@
--- `receipt::put_receipt` meets its contract. Assumes nothing.
+-- `receipt::put_receipt` meets its contract.
 use Rattle.receipt.specs.Writer.{attestationOf}
 use Rattle.receipt.proofs.Writing.{tag-behind, written-length}
 use borrow.Author.Needs.{needs}

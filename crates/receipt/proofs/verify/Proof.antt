@@ -1,4 +1,4 @@
--- `receipt::verify` meets its contract. Assumes nothing.
+-- `receipt::verify` meets its contract.
 use Rattle.receipt.proofs.Cases.{key-length, nonce-length, receipt-length, impossible, wrong-tag, other-question, accepts}
 use borrow.Author.Tests.{not-true, not-false}
 use mathlib.Core.Path.{sym, _∙_}

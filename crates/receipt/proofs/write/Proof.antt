@@ -1,4 +1,4 @@
--- `receipt::write` meets its contract. Assumes nothing.
+-- `receipt::write` meets its contract.
 use mathlib.Core.Path.{_∙_}
 use Rattle.receipt.specs.Writer.{attestationOf}
 use Rattle.receipt.specs.Attestation.{receiptBytes}

@@ -1,7 +1,7 @@
 use Rattle.a2m.specs.Opened.{changeReply}
 use lib.ListN.{length}
 use Rattle.a2m.proofs.CallLaws.{advance-position, advance-full, advance-done, advance-high}
-use Rattle.a2m.proofs.DigestLaws.{length-digest}
+use Rattle.entry.proofs.DigestLaws.{length-entryDigest}
 use Prim.Native.Nat.{ℕ, _<_}
 use mathlib.Core.Logic.{_≢_}
 use native.Mathlib.Omega.{arith}
@@ -11,7 +11,7 @@ use Rattle.a2m.proofs.advance.advance_open.Statement.{statement}
 use Rattle.a2m.proofs.advance.advance_open.Tie as tie
 use Rattle.a2m.proofs.advance.advance_open.Reads as reads
 use Rattle.a2m.proofs.advance.advance_open.Lts as lts
-use Rattle.a2m.proofs.digest.entry_digest.Reads as entry-digest-reads
+use Rattle.entry.proofs.entry_digest.Reads as entry-digest-reads
 use Rattle.a2m.proofs.entering.enter.Reads as enter-reads
 use Rattle.layout.proofs.Row.advance.Reads as advance-reads
 
@@ -37,7 +37,7 @@ slice-aggregate-enter c = search needs
 
 -- src/advance.rt:37:5
 enter-requires : tie.Need-enter-requires
-enter-requires c κs = let a = c .before .before .before .before .before .before .before .before .before .before .before .before .args in let p = c .before .before .before .before .before .before .before .before .before .before .before .before .pre in let f : a .view .free ≢ 0 = c .before .before .before .before .if2 .left in let h = advance-high (a .view .row) (c .before .before .before .advance .result) (a .position) (a .view .free) (c .before .before .before .advance .ensures) in (p .0, (omega arith, (h .0, (omega (arith, h .1, c .before .before .before .before .before .before .before .before .before .before .before .before .fits .position), (p .1 .1, ap length (c .before .before .entry-digest .ensures) ∙ length-digest _ _ _)))))
+enter-requires c κs = let a = c .before .before .before .before .before .before .before .before .before .before .before .before .args in let p = c .before .before .before .before .before .before .before .before .before .before .before .before .pre in let f : a .view .free ≢ 0 = c .before .before .before .before .if2 .left in let h = advance-high (a .view .row) (c .before .before .before .advance .result) (a .position) (a .view .free) (c .before .before .before .advance .ensures) in (p .0, (omega arith, (h .0, (omega (arith, h .1, c .before .before .before .before .before .before .before .before .before .before .before .before .fits .position), (p .1 .1, ap length (c .before .before .entry-digest .ensures) ∙ length-entryDigest _ _ _)))))
 
 -- src/advance.rt:16:1
 same-length : tie.Need-same-length

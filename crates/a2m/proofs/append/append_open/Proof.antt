@@ -1,7 +1,7 @@
 use Rattle.a2m.specs.Opened.{changeReply}
 use lib.ListN.{length}
 use Rattle.a2m.proofs.CallLaws.{append-spent, append-full, append-done, append-high, append-fits}
-use Rattle.a2m.proofs.DigestLaws.{length-digest}
+use Rattle.entry.proofs.DigestLaws.{length-entryDigest}
 use Rattle.a2m.proofs.OpenedLaws.{opened-counted, last-most}
 use Prim.Native.Nat.{ℕ, _<_}
 use mathlib.Core.Logic.{_≢_}
@@ -38,7 +38,7 @@ slice-aggregate-enter c = search needs
 
 -- src/append.rt:38:5
 enter-requires : tie.Need-enter-requires
-enter-requires c κs = let a = c .before .before .before .before .before .before .before .before .before .before .before .before .args in let f : a .view .free ≢ 0 = c .before .before .before .before .before .if2 .left in (c .before .before .before .before .before .before .before .before .before .before .before .before .pre .0, (omega arith, (append-high (a .view .row) (c .before .before .before .before .append .result) (a .view .free) (c .before .before .before .before .append .ensures), (append-fits (a .view .row) (c .before .before .before .before .append .result) (a .view .free) (c .before .before .before .before .append .ensures) (omega (arith, c .before .before .before .before .before .before .before .before .struct-known .given)) (c .before .before .before .before .before .before .before .if1 .left), (c .before .before .before .before .before .before .before .before .before .before .before .before .pre .1, ap length (c .before .before .digest-after .ensures) ∙ length-digest _ _ _)))))
+enter-requires c κs = let a = c .before .before .before .before .before .before .before .before .before .before .before .before .args in let f : a .view .free ≢ 0 = c .before .before .before .before .before .if2 .left in (c .before .before .before .before .before .before .before .before .before .before .before .before .pre .0, (omega arith, (append-high (a .view .row) (c .before .before .before .before .append .result) (a .view .free) (c .before .before .before .before .append .ensures), (append-fits (a .view .row) (c .before .before .before .before .append .result) (a .view .free) (c .before .before .before .before .append .ensures) (omega (arith, c .before .before .before .before .before .before .before .before .struct-known .given)) (c .before .before .before .before .before .before .before .if1 .left), (c .before .before .before .before .before .before .before .before .before .before .before .before .pre .1, ap length (c .before .before .digest-after .ensures) ∙ length-entryDigest _ _ _)))))
 
 -- src/append.rt:16:1
 same-length : tie.Need-same-length

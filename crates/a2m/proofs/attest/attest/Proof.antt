@@ -1,7 +1,7 @@
 use Rattle.octets.specs.Octets.{zeros}
 use lib.ListN.{length}
 use Rattle.a2m.proofs.ReadLaws.{key-size, attest-slot, attest-none}
-use Rattle.a2m.proofs.DigestLaws.{value-size, digest-size}
+use Rattle.a2m.proofs.SlotLaws.{value-size, digest-size}
 use native.Mathlib.Omega.{arith}
 use mathlib.Core.Path.{_≡_, refl, sym, ap, _∙_}
 use borrow.Author.Needs.{needs}

@@ -1,15 +1,15 @@
 use Rattle.octets.specs.Octets.{zeros}
 use Prim.Native.Nat.{ℕ}
 use mathlib.Core.List.{List}
-use Rattle.a2m.specs.Digest.{entryDigest}
-use Rattle.a2m.proofs.DigestLaws.{none-before, digest-long}
+use Rattle.entry.specs.Digest.{entryDigest}
+use Rattle.a2m.proofs.SlotLaws.{none-before, digest-long}
 use mathlib.Core.Path.{_≡_, refl, sym, ap, _∙_}
 use borrow.Author.Needs.{needs}
 use Rattle.a2m.proofs.digest.digest_after.Statement.{statement}
 use Rattle.a2m.proofs.digest.digest_after.Tie as tie
 use Rattle.a2m.proofs.digest.digest_after.Reads as reads
 use Rattle.a2m.proofs.digest.digest_after.Lts as lts
-use Rattle.a2m.proofs.digest.entry_digest.Reads as entry-digest-reads
+use Rattle.entry.proofs.entry_digest.Reads as entry-digest-reads
 use Rattle.layout.proofs.cells.digest_at.Reads as digest-at-reads
 
 -- src/digest.rt:43:46

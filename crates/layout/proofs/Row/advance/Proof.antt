@@ -1,4 +1,4 @@
--- `layout::Row::advance` meets its contract. Assumes nothing.
+-- `layout::Row::advance` meets its contract.
 use Rattle.layout.specs.Changes.{advancedRow}
 use Rattle.layout.specs.declared.Row.{Row}
 use borrow.Author.Tests.{eq-eqb, ne-eqb}

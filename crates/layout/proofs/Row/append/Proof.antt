@@ -1,4 +1,4 @@
--- `layout::Row::append` meets its contract. Assumes nothing.
+-- `layout::Row::append` meets its contract.
 use Rattle.layout.specs.Changes.{appendedRow}
 use borrow.Author.Needs.{needs}
 use Rattle.layout.proofs.Row.append.Statement.{statement}

@@ -1,4 +1,4 @@
--- `layout::Row::truncate` meets its contract. Assumes nothing.
+-- `layout::Row::truncate` meets its contract.
 use Rattle.layout.specs.Changes.{truncatedRow}
 use mathlib.Core.Path.{refl}
 use Rattle.layout.proofs.Row.truncate.Statement.{statement}

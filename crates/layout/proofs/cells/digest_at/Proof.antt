@@ -1,4 +1,4 @@
--- `layout::cells::digest_at` meets its contract. Assumes nothing.
+-- `layout::cells::digest_at` meets its contract.
 use Rattle.layout.proofs.CodeLaws.{digest-there}
 use borrow.Author.Needs.{needs}
 use Rattle.layout.proofs.cells.digest_at.Statement.{statement}

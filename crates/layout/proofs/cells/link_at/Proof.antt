@@ -1,4 +1,4 @@
--- `layout::cells::link_at` meets its contract. Assumes nothing.
+-- `layout::cells::link_at` meets its contract.
 use Rattle.layout.specs.Image.{Slot}
 use Rattle.layout.specs.Changes.{linkOf}
 use mathlib.Core.Path.{ap, _∙_}

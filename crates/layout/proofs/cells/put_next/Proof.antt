@@ -1,4 +1,4 @@
--- `layout::cells::put_next` meets its contract. Assumes nothing.
+-- `layout::cells::put_next` meets its contract.
 use Rattle.layout.proofs.CodeLaws.{next-put}
 use borrow.Author.Needs.{needs}
 use Rattle.layout.proofs.cells.put_next.Statement.{statement}

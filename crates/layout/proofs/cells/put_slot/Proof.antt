@@ -1,4 +1,4 @@
--- `layout::cells::put_slot` meets its contract. Assumes nothing.
+-- `layout::cells::put_slot` meets its contract.
 use Rattle.layout.specs.Changes.{slotOf}
 use Rattle.layout.proofs.CodeLaws.{slot-put}
 use borrow.Author.Needs.{needs}

@@ -1,4 +1,4 @@
--- `layout::cells::read_link` meets its contract. Assumes nothing.
+-- `layout::cells::read_link` meets its contract.
 use Rattle.layout.specs.Layout.{readSlot}
 use borrow.Author.Needs.{needs}
 use Rattle.layout.proofs.cells.read_link.Statement.{statement}

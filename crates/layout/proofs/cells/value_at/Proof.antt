@@ -1,4 +1,4 @@
--- `layout::cells::value_at` meets its contract. Assumes nothing.
+-- `layout::cells::value_at` meets its contract.
 use Rattle.layout.proofs.CodeLaws.{value-there}
 use borrow.Author.Needs.{needs}
 use Rattle.layout.proofs.cells.value_at.Statement.{statement}

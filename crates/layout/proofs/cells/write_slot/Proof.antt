@@ -1,4 +1,4 @@
--- `layout::cells::write_slot` meets its contract. Assumes nothing.
+-- `layout::cells::write_slot` meets its contract.
 use Rattle.layout.proofs.CodeLaws.{slot-fields}
 use borrow.Author.Needs.{needs}
 use Rattle.layout.proofs.cells.write_slot.Statement.{statement}

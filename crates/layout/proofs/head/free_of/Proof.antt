@@ -1,4 +1,4 @@
--- `layout::head::free_of` meets its contract. Assumes nothing.
+-- `layout::head::free_of` meets its contract.
 use Rattle.layout.specs.Layout.{freeOf}
 use borrow.Author.Needs.{needs}
 use Rattle.layout.proofs.head.free_of.Statement.{statement}

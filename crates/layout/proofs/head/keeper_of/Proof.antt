@@ -1,4 +1,4 @@
--- `layout::head::keeper_of` meets its contract. Assumes nothing.
+-- `layout::head::keeper_of` meets its contract.
 use Rattle.layout.specs.Layout.{keeperOf}
 use borrow.Author.Needs.{needs}
 use Rattle.layout.proofs.head.keeper_of.Statement.{statement}

@@ -1,4 +1,4 @@
--- `layout::head::key_of` meets its contract. Assumes nothing.
+-- `layout::head::key_of` meets its contract.
 use Rattle.layout.specs.Layout.{keyOf}
 use mathlib.Core.Path.{refl}
 use borrow.Author.Needs.{needs}

@@ -1,4 +1,4 @@
--- `layout::head::logs_of` meets its contract. Assumes nothing.
+-- `layout::head::logs_of` meets its contract.
 use Rattle.layout.specs.Layout.{logsOf}
 use borrow.Author.Needs.{needs}
 use Rattle.layout.proofs.head.logs_of.Statement.{statement}

@@ -1,4 +1,4 @@
--- `layout::head::put_free` meets its contract. Assumes nothing.
+-- `layout::head::put_free` meets its contract.
 use Rattle.layout.specs.Layout.{putFree}
 use borrow.Author.Needs.{needs}
 use Rattle.layout.proofs.head.put_free.Statement.{statement}

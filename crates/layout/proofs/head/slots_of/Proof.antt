@@ -1,4 +1,4 @@
--- `layout::head::slots_of` meets its contract. Assumes nothing.
+-- `layout::head::slots_of` meets its contract.
 use Rattle.layout.specs.Layout.{slotsOf}
 use borrow.Author.Needs.{needs}
 use Rattle.layout.proofs.head.slots_of.Statement.{statement}

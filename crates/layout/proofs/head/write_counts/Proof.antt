@@ -1,4 +1,4 @@
--- `layout::head::write_counts` meets its contract. Assumes nothing.
+-- `layout::head::write_counts` meets its contract.
 use Rattle.layout.proofs.CodeLaws.{count-fields}
 use borrow.Author.Needs.{needs}
 use Rattle.layout.proofs.head.write_counts.Statement.{statement}

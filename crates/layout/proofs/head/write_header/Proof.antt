@@ -1,4 +1,4 @@
--- `layout::head::write_header` meets its contract. Assumes nothing.
+-- `layout::head::write_header` meets its contract.
 use Rattle.layout.proofs.CodeLaws.{header-fields}
 use borrow.Author.Needs.{needs}
 use Rattle.layout.proofs.head.write_header.Statement.{statement}

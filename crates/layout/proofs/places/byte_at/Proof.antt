@@ -1,4 +1,4 @@
--- `layout::places::byte_at` meets its contract. Assumes nothing.
+-- `layout::places::byte_at` meets its contract.
 use mathlib.Core.Path.{sym, _∙_}
 use Rattle.bigendian.proofs.Laws.{unbe-byte}
 use borrow.Author.Needs.{needs}

@@ -1,4 +1,4 @@
--- `layout::places::put_byte` meets its contract. Assumes nothing.
+-- `layout::places::put_byte` meets its contract.
 use Rattle.layout.proofs.CodeLaws.{byte-put}
 use borrow.Author.Needs.{needs}
 use Rattle.layout.proofs.places.put_byte.Statement.{statement}

@@ -1,4 +1,4 @@
--- `layout::rows::put_row` meets its contract. Assumes nothing.
+-- `layout::rows::put_row` meets its contract.
 use Rattle.layout.proofs.CodeLaws.{row-put}
 use borrow.Author.Needs.{needs}
 use Rattle.layout.proofs.rows.put_row.Statement.{statement}

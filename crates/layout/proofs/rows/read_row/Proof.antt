@@ -1,4 +1,4 @@
--- `layout::rows::read_row` meets its contract. Assumes nothing.
+-- `layout::rows::read_row` meets its contract.
 use Rattle.layout.specs.Layout.{readRow}
 use borrow.Author.Needs.{needs}
 use Rattle.layout.proofs.rows.read_row.Statement.{statement}

@@ -1,4 +1,4 @@
--- `layout::rows::row_at` meets its contract. Assumes nothing.
+-- `layout::rows::row_at` meets its contract.
 use mathlib.Core.Path.{_∙_}
 use Rattle.layout.proofs.CodeLaws.{row-there}
 use borrow.Author.Needs.{needs}

@@ -1,4 +1,4 @@
--- `layout::rows::write_row` meets its contract. Assumes nothing.
+-- `layout::rows::write_row` meets its contract.
 use Rattle.layout.proofs.CodeLaws.{row-fields}
 use borrow.Author.Needs.{needs}
 use Rattle.layout.proofs.rows.write_row.Statement.{statement}

@@ -1,4 +1,4 @@
--- `quorum::counting::count_receipt` meets its contract. Assumes nothing.
+-- `quorum::counting::count_receipt` meets its contract.
 use Rattle.receipt.specs.Verdict.{verdictAnswer}
 use Rattle.quorum.specs.Roster.{size}
 use Rattle.quorum.specs.Tally.{noted}

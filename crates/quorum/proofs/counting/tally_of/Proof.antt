@@ -1,4 +1,4 @@
--- `quorum::counting::tally_of` meets its contract. Assumes nothing.
+-- `quorum::counting::tally_of` meets its contract.
 use lib.Seq.{length-take-le}
 use lib.ListN.{take, drop, length-drop, getD, length}
 use Rattle.quorum.specs.Tally.{goodMember, Codes}

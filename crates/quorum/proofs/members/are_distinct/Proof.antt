@@ -1,4 +1,4 @@
--- `quorum::members::are_distinct` meets its contract. Assumes nothing.
+-- `quorum::members::are_distinct` meets its contract.
 use Rattle.quorum.proofs.RosterLaws.{repeated, new, all}
 use Rattle.quorum.specs.Roster.{distinct}
 use borrow.Author.Tests.{not-true, not-false}

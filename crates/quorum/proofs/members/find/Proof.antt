@@ -1,4 +1,4 @@
--- `quorum::members::find` meets its contract. Assumes nothing.
+-- `quorum::members::find` meets its contract.
 use Rattle.quorum.proofs.RosterLaws.{found, below, none}
 use Rattle.quorum.specs.Tally.{member}
 use Rattle.quorum.specs.Roster.{keeperAt}

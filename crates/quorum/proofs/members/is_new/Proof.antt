@@ -1,4 +1,4 @@
--- `quorum::members::is_new` meets its contract. Assumes nothing.
+-- `quorum::members::is_new` meets its contract.
 use Rattle.quorum.specs.Tally.{member}
 use Rattle.quorum.specs.Roster.{keeperAt}
 use Rattle.quorum.proofs.RosterLaws.{isNothing, absent-is}

@@ -1,4 +1,4 @@
--- `quorum::members::is_roster` meets its contract. Assumes nothing.
+-- `quorum::members::is_roster` meets its contract.
 use Rattle.quorum.proofs.RosterLaws.{no-items, even, too-many, by-keepers}
 use mathlib.Core.Path.{_∙_}
 use borrow.Author.Needs.{needs}

@@ -1,4 +1,4 @@
--- `quorum::members::majority` meets its contract. Assumes nothing.
+-- `quorum::members::majority` meets its contract.
 use mathlib.Core.Path.{refl}
 use Rattle.quorum.specs.Roster.{majority}
 use borrow.Author.Needs.{needs}

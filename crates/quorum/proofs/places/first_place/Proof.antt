@@ -1,4 +1,4 @@
--- `quorum::places::first_place` meets its contract. Assumes nothing.
+-- `quorum::places::first_place` meets its contract.
 use Rattle.quorum.specs.declared.Tried.{Tried}
 use Prim.Native.Nat.{suc, ℕ, _+_, _-_, _≤_}
 use native.Mathlib.Numerals.{add-one}

@@ -1,4 +1,4 @@
--- `quorum::places::mask_of` meets its contract. Assumes nothing.
+-- `quorum::places::mask_of` meets its contract.
 use native.Mathlib.Numerals.{add-one}
 use Rattle.quorum.proofs.Tallies.{mask-start, mask-step}
 use Rattle.quorum.specs.Tally.{maskAt}

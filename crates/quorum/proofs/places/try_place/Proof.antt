@@ -1,4 +1,4 @@
--- `quorum::places::try_place` meets its contract. Assumes nothing.
+-- `quorum::places::try_place` meets its contract.
 use Rattle.quorum.proofs.Tallies.{not-good, stands, too-few}
 use borrow.Author.Needs.{needs}
 use Rattle.quorum.proofs.places.try_place.Statement.{statement}

@@ -1,4 +1,4 @@
--- `quorum::places::with_bit` meets its contract. Assumes nothing.
+-- `quorum::places::with_bit` meets its contract.
 use Prim.Native.Nat.{_^_, _-_}
 use native.Mathlib.Nat.{one-mul}
 use lib.Pow.{shl-exact}

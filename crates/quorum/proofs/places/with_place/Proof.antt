@@ -1,4 +1,4 @@
--- `quorum::places::with_place` meets its contract. Assumes nothing.
+-- `quorum::places::with_place` meets its contract.
 use borrow.Author.Tests.{eq-eqb, ne-eqb, not-true, not-false}
 use Rattle.octets.specs.Octets.{same}
 use lib.ListN.{take, drop}

@@ -1,4 +1,4 @@
--- `receipt::answers::is_answer` meets its contract. Assumes nothing.
+-- `receipt::answers::is_answer` meets its contract.
 use Rattle.receipt.proofs.Cases.{other-keeper, other-log, other-nonce, by-ask}
 use borrow.Author.Tests.{not-true, not-false}
 use mathlib.Core.Path.{sym, _∙_}

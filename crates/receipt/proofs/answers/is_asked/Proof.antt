@@ -1,4 +1,4 @@
--- `receipt::answers::is_asked` meets its contract. Assumes nothing.
+-- `receipt::answers::is_asked` meets its contract.
 use Rattle.receipt.proofs.Cases.{other-name, by-position, by-end}
 use Rattle.receipt.specs.Verdict.{asks}
 use Rattle.receipt.specs.declared.Ask.{Ask}

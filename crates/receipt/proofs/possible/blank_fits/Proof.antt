@@ -1,4 +1,4 @@
--- `receipt::possible::blank_fits` meets its contract. Assumes nothing.
+-- `receipt::possible::blank_fits` meets its contract.
 use Rattle.receipt.proofs.Cases.{assigned-fits, end-left, by-blank}
 use borrow.Author.Tests.{not-true, not-false}
 use mathlib.Core.Path.{sym, _∙_}

@@ -1,4 +1,4 @@
--- `receipt::possible::is_blank` meets its contract. Assumes nothing.
+-- `receipt::possible::is_blank` meets its contract.
 use Rattle.receipt.proofs.Cases.{value-left, by-digest}
 use Rattle.octets.specs.Octets.{zeros}
 use borrow.Author.Tests.{not-true, not-false}

@@ -1,4 +1,4 @@
--- `receipt::possible::is_end` meets its contract. Assumes nothing.
+-- `receipt::possible::is_end` meets its contract.
 use Rattle.receipt.specs.Attestation.{END, readAttestation}
 use borrow.Author.Needs.{needs}
 use Rattle.receipt.proofs.possible.is_end.Statement.{statement}

@@ -1,4 +1,4 @@
--- `receipt::possible::is_lookup` meets its contract. Assumes nothing.
+-- `receipt::possible::is_lookup` meets its contract.
 use Rattle.receipt.specs.Attestation.{LOOKUP, readAttestation}
 use borrow.Author.Needs.{needs}
 use Rattle.receipt.proofs.possible.is_lookup.Statement.{statement}

@@ -1,4 +1,4 @@
--- `receipt::possible::is_name` meets its contract. Assumes nothing.
+-- `receipt::possible::is_name` meets its contract.
 use Rattle.receipt.proofs.Cases.{name-lookup, name-end}
 use mathlib.Core.Path.{sym, _∙_}
 use Rattle.receipt.specs.Attestation.{readAttestation}

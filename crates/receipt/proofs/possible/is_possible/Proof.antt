@@ -1,4 +1,4 @@
--- `receipt::possible::is_possible` meets its contract. Assumes nothing.
+-- `receipt::possible::is_possible` meets its contract.
 use Rattle.receipt.proofs.Cases.{no-name, no-log, no-position, no-reference, by-kind}
 use Rattle.receipt.specs.Possible.{referenceFits}
 use native.Mathlib.Omega.{arith}

@@ -1,4 +1,4 @@
--- `receipt::possible::reference_fits` meets its contract. Assumes nothing.
+-- `receipt::possible::reference_fits` meets its contract.
 use Rattle.receipt.proofs.Cases.{reference-at, reference-below, reference-none, reference-above}
 use Rattle.receipt.proofs.possible.reference_fits.Statement.{statement}
 use Rattle.receipt.proofs.possible.reference_fits.Tie as tie

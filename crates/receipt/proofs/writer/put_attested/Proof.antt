@@ -1,4 +1,4 @@
--- `receipt::writer::put_attested` meets its contract. Assumes nothing.
+-- `receipt::writer::put_attested` meets its contract.
 use Rattle.receipt.proofs.Writing.{attested-written}
 use borrow.Author.Needs.{needs}
 use Rattle.receipt.proofs.writer.put_attested.Statement.{statement}

@@ -1,4 +1,4 @@
--- `receipt::writer::put_facts` meets its contract. Assumes nothing.
+-- `receipt::writer::put_facts` meets its contract.
 use Rattle.receipt.proofs.Writing.{facts-written}
 use borrow.Author.Needs.{needs}
 use Rattle.receipt.proofs.writer.put_facts.Statement.{statement}

@@ -1,4 +1,4 @@
--- `receipt::writer::put_name` meets its contract. Assumes nothing.
+-- `receipt::writer::put_name` meets its contract.
 use Rattle.octets.specs.Octets.{splice}
 use Rattle.receipt.specs.declared.Name.{Name}
 use Rattle.receipt.specs.Writer.{nameBytes}

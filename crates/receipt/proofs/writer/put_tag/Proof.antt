@@ -1,4 +1,4 @@
--- `receipt::writer::put_tag` meets its contract. Assumes nothing.
+-- `receipt::writer::put_tag` meets its contract.
 use native.Mathlib.Omega.{arith}
 use mathlib.Core.Path.{refl}
 use Rattle.octets.proofs.Parts.{length-part}

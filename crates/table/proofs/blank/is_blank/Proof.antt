@@ -1,4 +1,4 @@
--- `table::blank::is_blank` meets its contract. Assumes nothing.
+-- `table::blank::is_blank` meets its contract.
 use mathlib.Core.Path.{_∙_}
 use Rattle.table.proofs.BlankLaws.{blank-there}
 use borrow.Author.Needs.{needs}

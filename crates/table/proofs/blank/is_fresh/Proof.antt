@@ -1,4 +1,4 @@
--- `table::blank::is_fresh` meets its contract. Assumes nothing.
+-- `table::blank::is_fresh` meets its contract.
 use mathlib.Core.Path.{sym}
 use Rattle.table.proofs.BlankLaws.{fresh-low, fresh-high, fresh-first, fresh-last}
 use Rattle.table.proofs.blank.is_fresh.Statement.{statement}

@@ -1,4 +1,4 @@
--- `table::blank::is_zero` meets its contract. Assumes nothing.
+-- `table::blank::is_zero` meets its contract.
 use Rattle.octets.proofs.Same.{same-none}
 use Rattle.octets.specs.Octets.{same, zeros}
 use lib.ListN.{length, take}

@@ -1,4 +1,4 @@
--- `table::format::fill` meets its contract. Assumes nothing.
+-- `table::format::fill` meets its contract.
 use Rattle.table.proofs.FillLaws.{three}
 use borrow.Author.Needs.{needs}
 use Rattle.table.proofs.format.fill.Statement.{statement}

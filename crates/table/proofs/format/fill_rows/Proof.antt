@@ -1,4 +1,4 @@
--- `table::format::fill_rows` meets its contract. Assumes nothing.
+-- `table::format::fill_rows` meets its contract.
 use Rattle.table.proofs.FillLaws.{rows-length, rows-none, rows-turn, rows-done}
 use mathlib.Core.Path.{refl, _≡_}
 use Rattle.layout.specs.Layout.{rowBytes}

@@ -1,4 +1,4 @@
--- `table::format::fill_slots` meets its contract. Assumes nothing.
+-- `table::format::fill_slots` meets its contract.
 use Rattle.table.proofs.FillLaws.{slots-length, slots-none, slots-turn, slots-done}
 use mathlib.Core.Path.{refl, _≡_}
 use Rattle.layout.specs.Layout.{slotBytes}

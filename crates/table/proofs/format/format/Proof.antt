@@ -1,4 +1,4 @@
--- `table::format::format` meets its contract. Assumes nothing.
+-- `table::format::format` meets its contract.
 use borrow.Author.Tests.{not-true, not-false}
 use mathlib.Core.Path.{sym, _∙_}
 use Rattle.table.proofs.HeaderLaws.{in-range}

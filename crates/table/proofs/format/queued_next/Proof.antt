@@ -1,4 +1,4 @@
--- `table::format::queued_next` meets its contract. Assumes nothing.
+-- `table::format::queued_next` meets its contract.
 use native.Mathlib.Omega.{arith}
 use Rattle.table.proofs.FillLaws.{next-queued, none-queued}
 use borrow.Author.Needs.{needs}

@@ -1,4 +1,4 @@
--- `table::format::write_free` meets its contract. Assumes nothing.
+-- `table::format::write_free` meets its contract.
 use Rattle.octets.specs.Octets.{zeros}
 use borrow.Author.Needs.{needs}
 use Rattle.table.proofs.format.write_free.Statement.{statement}

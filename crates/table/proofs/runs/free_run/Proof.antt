@@ -1,4 +1,4 @@
--- `table::runs::free_run` meets its contract. Assumes nothing.
+-- `table::runs::free_run` meets its contract.
 use Rattle.table.proofs.WalkLaws.{len, size}
 use Rattle.table.specs.WholeImage.{freeOk}
 use Rattle.table.specs.Runs.{runOf}

@@ -1,4 +1,4 @@
--- `table::runs::held_run` meets its contract. Assumes nothing.
+-- `table::runs::held_run` meets its contract.
 use Rattle.layout.specs.Layout.{readTable}
 use lib.ListN.{drop}
 use native.Mathlib.Omega.{arith}

@@ -1,4 +1,4 @@
--- `table::runs::log_run` meets its contract. Assumes nothing.
+-- `table::runs::log_run` meets its contract.
 use Rattle.table.proofs.WalkLaws.{len, size}
 use Rattle.table.specs.Runs.{startedRun}
 use Rattle.table.specs.Chains.{walk}

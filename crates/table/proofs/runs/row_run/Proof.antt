@@ -1,4 +1,4 @@
--- `table::runs::row_run` meets its contract. Assumes nothing.
+-- `table::runs::row_run` meets its contract.
 use Rattle.table.specs.Runs.{rowRun}
 use Rattle.layout.specs.Layout.{readTable}
 use mathlib.Core.Path.{sym, ap, _∙_}

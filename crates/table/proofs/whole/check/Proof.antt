@@ -1,4 +1,4 @@
--- `table::whole::check` meets its contract. Assumes nothing.
+-- `table::whole::check` meets its contract.
 use borrow.Author.Tests.{not-false}
 use mathlib.Core.Path.{sym, _∙_}
 use Rattle.table.proofs.HeaderLaws.{header-long, counted}

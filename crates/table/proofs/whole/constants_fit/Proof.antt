@@ -1,4 +1,4 @@
--- `table::whole::constants_fit` meets its contract. Assumes nothing.
+-- `table::whole::constants_fit` meets its contract.
 use native.Mathlib.Omega.{arith}
 use Rattle.table.proofs.HeaderLaws.{no-mark, no-zero, by-zeros}
 use borrow.Author.Needs.{needs}

@@ -1,4 +1,4 @@
--- `table::whole::header_fits` meets its contract. Assumes nothing.
+-- `table::whole::header_fits` meets its contract.
 use mathlib.Core.Path.{sym, _∙_}
 use borrow.Author.Tests.{not-false}
 use Rattle.table.proofs.HeaderLaws.{too-short, other-constants, other-counts, by-length, in-range}

@@ -1,4 +1,4 @@
--- `table::whole::in_range` meets its contract. Assumes nothing.
+-- `table::whole::in_range` meets its contract.
 use Rattle.table.proofs.HeaderLaws.{no-logs, many-logs, no-slots, by-slots}
 use Rattle.table.proofs.whole.in_range.Statement.{statement}
 use Rattle.table.proofs.whole.in_range.Tie as tie

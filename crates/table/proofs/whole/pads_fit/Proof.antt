@@ -1,4 +1,4 @@
--- `table::whole::pads_fit` meets its contract. Assumes nothing.
+-- `table::whole::pads_fit` meets its contract.
 use Rattle.table.specs.Whole.{padsFit}
 use native.Mathlib.Omega.{arith}
 use Prim.Native.Nat.{_≤_}

@@ -1,0 +1,11 @@
+pub mod AgreeLaws
+pub mod AnswerLaws
+pub mod BlockLaws
+pub mod CompareCases
+pub mod DemandThree
+pub mod LastUnequal
+pub mod NoRun
+pub mod PassLaws
+pub mod Reachable
+pub mod ScanLaws
+pub mod Verdicts

@@ -1,0 +1,54 @@
+-- `runs::conclude` meets its contract.
+use mathlib.Core.Path.{sym, _∙_}
+use lib.ListN.{length-map}
+use borrow.Author.Tests.{not-true, not-false}
+use Rattle.runs.proofs.BlockLaws.{size-blockFrom}
+use Rattle.runs.proofs.PassLaws.{differs, agrees, collides}
+use borrow.Author.Needs.{needs}
+use Rattle.runs.proofs.conclude.Statement.{statement}
+use Rattle.runs.proofs.conclude.Tie as tie
+
+slice-aggregate-equal : tie.Need-slice-aggregate-equal
+slice-aggregate-equal c = search needs
+
+slice-aggregate-equal-2 : tie.Need-slice-aggregate-equal-2
+slice-aggregate-equal-2 c = search needs
+
+equal-requires : tie.Need-equal-requires
+equal-requires c κs = search needs
+
+returns : tie.Need-returns
+returns c = let x = c .before .before .before .before .before .before .before .before .before .before .before .args in differs (x .first1) (x .values1 .now) (x .first2) (x .values2 .now) (x .s) (x .out .now) (sym (c .before .equal .ensures) ∙ not-true _ (c .if1 .taken))
+
+returns-2 : tie.Need-returns-2
+returns-2 c = let x = c .before .before .before .before .before .before .before .before .before .before .before .before .before .args in agrees (x .first1) (x .values1 .now) (x .first2) (x .values2 .now) (x .s) (x .out .now) (sym (c .before .before .before .equal .ensures) ∙ not-false _ (c .before .before .if1 .left)) (not-true _ (c .if2 .taken))
+
+put-block-requires : tie.Need-put-block-requires
+put-block-requires c κs = search needs
+
+put-block-requires-2 : tie.Need-put-block-requires-2
+put-block-requires-2 c κs = search needs
+
+same-length : tie.Need-same-length
+same-length c = search needs
+
+returns-3 : tie.Need-returns-3
+returns-3 c = let x = c .before .before .before .before .before .before .before .before .before .before .before .before .before .before .before .before .before .before .before .before .before .before .before .args in
+    let pre = c .before .before .before .before .before .before .before .before .before .before .before .before .before .before .before .before .before .before .before .before .before .before .before .pre in
+    collides (x .first1) (x .values1 .now) (x .first2) (x .values2 .now) (x .s) (x .out .now) (sym (c .before .before .before .before .before .before .before .before .before .before .before .before .before .equal .ensures) ∙ not-false _ (c .before .before .before .before .before .before .before .before .before .before .before .before .if1 .left)) (not-false _ (c .before .before .before .before .before .before .before .before .before .before .if2 .left))
+    (pre .0) (size-blockFrom (x .first1) (x .values1 .now) (x .s .kept .one) (pre .1 .0) (simp length-map at (c .before .before .before .before .before .before .before .before .before .before .before .before .before .before .before .before .before .before .before .before .before .before .before .good .0 .1 .1 .1 .1 .0 .1 .1 .1 .0 .1 .1 .1 .0 .1 .0 .1))) (size-blockFrom (x .first2) (x .values2 .now) (x .s .kept .two) (pre .1 .1) (simp length-map at (c .before .before .before .before .before .before .before .before .before .before .before .before .before .before .before .before .before .before .before .before .before .before .before .good .0 .1 .1 .1 .1 .0 .1 .1 .1 .1 .0 .1 .1 .1 .0 .1 .0 .1))) _ _
+    (c .before .before .before .before .before .before .put-block .ensures) (c .before .before .put-block2 .ensures)
+
+pub conclude-spec : {M : Type 1} → statement M
+conclude-spec =
+    tie.close
+    (tie.spec
+    slice-aggregate-equal
+    slice-aggregate-equal-2
+    equal-requires
+    returns
+    returns-2
+    put-block-requires
+    put-block-requires-2
+    same-length
+    returns-3)

@@ -1,0 +1,69 @@
+-- `runs::put_block` meets its contract.
+use native.Mathlib.Omega.{arith}
+use mathlib.Core.Path.{_≡_}
+use lib.ListN.{length, length-map}
+use Rattle.runs.proofs.BlockLaws.{put-is}
+use borrow.Author.Needs.{needs}
+use Rattle.runs.proofs.put_block.Statement.{statement}
+use Rattle.runs.proofs.put_block.Tie as tie
+
+mul-from : tie.Need-mul-from
+mul-from c = search needs
+
+add-end : tie.Need-add-end
+add-end c = search needs
+
+add-put-u64 : tie.Need-add-put-u64
+add-put-u64 c = search needs
+
+put-u64-requires : tie.Need-put-u64-requires
+put-u64-requires c κs = search needs
+
+add-put : tie.Need-add-put
+add-put c = search needs
+
+sub-put : tie.Need-sub-put
+sub-put c = search needs
+
+part-put-start : tie.Need-part-put-start
+part-put-start c = search needs
+
+part-put-end : tie.Need-part-put-end
+part-put-end c = search needs
+
+put-requires : tie.Need-put-requires
+put-requires c κs = search needs
+
+add-put-2 : tie.Need-add-put-2
+add-put-2 c = search needs
+
+slice-aggregate-put : tie.Need-slice-aggregate-put
+slice-aggregate-put c = search needs
+
+put-requires-2 : tie.Need-put-requires-2
+put-requires-2 c κs = let size : length (c .before .before .before .before .before .before .before .before .before .before .before .before .before .before .args .p .digest) ≡ 32 = simp length-map at (c .before .before .before .before .before .before .before .before .before .before .before .before .before .before .good .1 .1 .1 .1 .0 .1 .1 .1 .0 .1 .0 .1) in omega (arith, c .before .before .before .before .before .before .before .before .before .put-u64 .kept .0, c .before .before .before .before .put .kept .0)
+
+same-length : tie.Need-same-length
+same-length c = search needs
+
+returns : tie.Need-returns
+returns c = let x = c .before .before .before .before .before .before .before .before .before .before .before .before .before .before .before .before .before .args in put-is (x .first) (x .values .now) (x .p) (c .before .before .before .before .before .before .before .before .before .before .before .before .before .before .before .before .before .pre .1) (x .out .now) _ _ _ (x .at) (simp length-map at (c .before .before .before .before .before .before .before .before .before .before .before .before .before .before .before .before .before .good .1 .1 .1 .1 .0 .1 .1 .1 .0 .1 .0 .1)) (c .before .before .before .before .before .before .before .before .before .before .before .before .before .before .before .before .before .pre .0) (c .before .before .before .before .before .before .before .before .before .before .before .before .put-u64 .ensures) (c .before .before .before .before .before .before .before .put .ensures) (c .before .before .put2 .ensures)
+
+pub put-block-spec : {M : Type 1} → statement M
+put-block-spec =
+    tie.close
+    (tie.spec
+    mul-from
+    add-end
+    add-put-u64
+    put-u64-requires
+    add-put
+    sub-put
+    part-put-start
+    part-put-end
+    put-requires
+    add-put-2
+    slice-aggregate-put
+    put-requires-2
+    same-length
+    returns)

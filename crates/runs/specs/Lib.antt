@@ -1,0 +1,5 @@
+pub mod Call
+pub mod Claim
+pub mod Compare
+pub mod Run
+pub mod Scan
