@@ -1,4 +1,4 @@
--- `keeper::answer_all` meets its contract. Assumes nothing.
+-- `keeper::answer_all` meets its contract.
 use Prim.Native.Nat.{_+_, _-_, _≤_}
 use lib.ListN.{length}
 use Rattle.script.proofs.Reading.{progress}

@@ -1,4 +1,4 @@
--- `keeper::answer_last` meets its contract. Assumes nothing.
+-- `keeper::answer_last` meets its contract.
 use Prim.Native.Nat.{ℕ}
 use mathlib.Core.List.{List}
 use Rattle.script.specs.Script.{answerText}

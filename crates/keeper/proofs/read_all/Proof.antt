@@ -1,4 +1,4 @@
--- `keeper::read_all` meets its contract. Assumes nothing.
+-- `keeper::read_all` meets its contract.
 use Prim.Native.Nat.{_+_, _*_, _≤_}
 use lib.ListN.{length}
 use Rattle.keeper.specs.Bounds.{Ready}

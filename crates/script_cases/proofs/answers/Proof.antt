@@ -1,4 +1,4 @@
--- `script_cases::answers` meets its contract. Assumes nothing.
+-- `script_cases::answers` meets its contract.
 use lib.Seq.{length-take-le}
 use native.Mathlib.Omega.{arith}
 use mathlib.Core.Path.{sym}

@@ -1,4 +1,4 @@
--- `script::calls::append` meets its contract. Assumes nothing.
+-- `script::calls::append` meets its contract.
 use native.Mathlib.Omega.{arith}
 use Rattle.script.specs.Answer.{placed}
 use Rattle.a2m.specs.Call.{append}

@@ -1,4 +1,4 @@
--- `script::calls::attested` meets its contract. Assumes nothing.
+-- `script::calls::attested` meets its contract.
 use Rattle.script.proofs.AnswerLaws.{attested-fields}
 use Rattle.receipt.specs.Attestation.{readAttestation}
 use borrow.Author.Needs.{needs}

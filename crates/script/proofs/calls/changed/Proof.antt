@@ -1,4 +1,4 @@
--- `script::calls::changed` meets its contract. Assumes nothing.
+-- `script::calls::changed` meets its contract.
 use Rattle.layout.specs.Layout.{readTable}
 use Rattle.a2m.specs.ImageCalls.{rowIn}
 use Rattle.script.specs.Named.{ChangeNamed, changeAnswer}

@@ -1,4 +1,4 @@
--- `script::calls::end` meets its contract. Assumes nothing.
+-- `script::calls::end` meets its contract.
 use native.Mathlib.Omega.{arith}
 use Rattle.script.proofs.CallLaws.{refused-named}
 use Rattle.refusal.specs.declared.Outcome.{Outcome}

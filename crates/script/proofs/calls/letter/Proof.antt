@@ -1,4 +1,4 @@
--- `script::calls::letter` meets its contract. Assumes nothing.
+-- `script::calls::letter` meets its contract.
 use Rattle.script.proofs.AnswerLaws.{letter-u, letter-a, letter-s, letter-f}
 use Rattle.script.proofs.calls.letter.Statement.{statement}
 use Rattle.script.proofs.calls.letter.Tie as tie

@@ -1,4 +1,4 @@
--- `script::calls::lookup` meets its contract. Assumes nothing.
+-- `script::calls::lookup` meets its contract.
 use native.Mathlib.Omega.{arith}
 use Rattle.script.proofs.CallLaws.{refused-named}
 use Rattle.a2m.specs.declared.Finding.{Finding}

@@ -1,4 +1,4 @@
--- `script::calls::placed` meets its contract. Assumes nothing.
+-- `script::calls::placed` meets its contract.
 use Rattle.octets.specs.Octets.{zeros}
 use Rattle.script.proofs.AnswerLaws.{placed-bytes}
 use mathlib.Core.Path.{_∙_}

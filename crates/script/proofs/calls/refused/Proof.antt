@@ -1,4 +1,4 @@
--- `script::calls::refused` meets its contract. Assumes nothing.
+-- `script::calls::refused` meets its contract.
 use Prim.Native.Nat.{ℕ}
 use Rattle.script.specs.declared.Answer.the-variants.{Bounded}
 use Rattle.script.specs.Answer.{replyAnswer}

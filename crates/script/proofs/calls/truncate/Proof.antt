@@ -1,4 +1,4 @@
--- `script::calls::truncate` meets its contract. Assumes nothing.
+-- `script::calls::truncate` meets its contract.
 use native.Mathlib.Omega.{arith}
 use Rattle.a2m.specs.ImageCalls.{wrongLength}
 use Rattle.a2m.specs.Call.{truncate}

@@ -1,4 +1,4 @@
--- `script::lines::answer_line` meets its contract. Assumes nothing.
+-- `script::lines::answer_line` meets its contract.
 use Prim.Native.Nat.{_+_}
 use mathlib.Core.List.{List}
 use lib.ListN.{length, take}

@@ -1,4 +1,4 @@
--- `script::lines::cells` meets its contract. Assumes nothing.
+-- `script::lines::cells` meets its contract.
 use Rattle.script.specs.Script.{cellsOf}
 use Rattle.script.specs.declared.Answer.{Answer}
 use mathlib.Core.Path.{sym, ap}

@@ -1,4 +1,4 @@
--- `script::pieces::feed` meets its contract. Assumes nothing.
+-- `script::pieces::feed` meets its contract.
 use Prim.Native.Nat.{_<_, _-_}
 use mathlib.Core.Logic.{_≢_, inl, inr}
 use lib.ListN.{length}

@@ -1,4 +1,4 @@
--- `script::pieces::keep` meets its contract. Assumes nothing.
+-- `script::pieces::keep` meets its contract.
 use Rattle.script.proofs.StreamLaws.{kept-bytes}
 use native.Mathlib.Numerals.{add-one}
 use lib.Seq.{paste, paste-zero, paste-suc, take-paste, length-take-le}

@@ -1,4 +1,4 @@
--- `script::tables::carry_out` meets its contract. Assumes nothing.
+-- `script::tables::carry_out` meets its contract.
 use Rattle.a2m.proofs.Unchanged.{read-unchanged}
 use lib.ListN.{take}
 use Rattle.script.specs.Script.{commandAnswer, commandTable, Turns}
