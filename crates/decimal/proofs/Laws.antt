@@ -1,22 +1,22 @@
 -- Laws of decimal text.
 use Prim.Native.Nat.{ℕ, zero, suc, _+_, _*_, _-_, _/_, _%_, _^_, _≤_, _<_}
-use mathlib.Core.Path.{_≡_, refl, sym, ap, ap₂, subst, _∙_}
+use mathlib.Core.Path.{_≡_, refl, sym, ap, subst, _∙_}
 use mathlib.Core.Bool.{Bool, true, false, cond, _&&_}
-use mathlib.Core.List.{List, [], _∷_, _++_, append-assoc}
+use mathlib.Core.List.{List, [], _∷_, _++_}
 use Rattle.octets.specs.Octets.{splice}
 use Rattle.octets.proofs.Parts.{splice-nested}
 use Rattle.octets.proofs.Tests.{and-false}
 use native.Mathlib.Omega.{arith}
 use native.Mathlib.Decide.{decLe}
 use native.Mathlib.Nat.{pow-suc, pow-zero, one-le-pow, pow-le-pow-right, div-lt-iff-lt-mul, div-add-mod', mod-lt, mul-add-div-right, div-eq-of-lt, mul-add-mod-self-right, mod-eq-of-lt, add-mul, mul-assoc, mul-comm, mul-le-mul-right, add-zero}
-use lib.ListN.{length, drop, take, getD, set, length-drop, drop-of-length-le}
-use lib.Seq.{getD-drop, drop-drop, drop-cons, paste, paste-suc, take-all, length-paste}
+use lib.ListN.{length, drop, take, getD, set, drop-of-length-le}
+use lib.Seq.{getD-drop, drop-drop, drop-cons, paste, paste-suc, take-all}
 use native.Mathlib.Numerals.{add-one}
-use lib.Dec.{leb, ltb, eqb}
-use borrow.Author.Tests.{eq-eqb, lt-ltb, le-ltb, le-leb, lt-leb, ltb-true, leb-true, eqb-false, ne-eqb}
+use lib.Dec.{ltb}
+use borrow.Author.Tests.{eq-eqb, lt-ltb, le-ltb, le-leb, ltb-true, ne-eqb}
 use Rattle.decimal.specs.declared.Number.{Number}
 use Rattle.decimal.specs.declared.Number.the-variants.{Value, Malformed}
-use Rattle.decimal.specs.Decimal.{digitsOf, decimalFrom, decimalOf, isDigit, allDigits, valueAfter, valueOf, startsWell, isNumber, numberOf, moreOf, readAfter}
+use Rattle.decimal.specs.Decimal.{digitsOf, decimalFrom, decimalOf, isDigit, allDigits, valueAfter, startsWell, numberOf, moreOf, readAfter}
 
 -- ---- division by subtraction
 

@@ -5,14 +5,13 @@ use mathlib.Core.Bool.{Bool, true, false, cond, _&&_}
 use mathlib.Core.List.{List, [], _∷_}
 use native.Mathlib.Omega.{arith}
 use native.Mathlib.Decide.{decLe}
-use native.Mathlib.Nat.{pow-suc, pow-zero, pow-le-pow-right, mul-add-div-right, mul-add-mod-self-right, div-eq-of-lt, mod-eq-of-lt, add-zero, add-mul, mul-assoc, mul-comm, mul-le-mul-right, div-lt-iff-lt-mul, le-div-iff-mul-le}
+use native.Mathlib.Nat.{pow-suc, pow-zero, pow-le-pow-right, add-mul, mul-assoc, mul-comm, mul-le-mul-right, le-div-iff-mul-le}
 use lib.ListN.{length, getD}
 use lib.Dec.{leb, ltb, eqb}
-use borrow.Author.Tests.{lt-ltb, ltb-true, leb-true, eqb-false, eq-eqb, eqb-true}
-use Rattle.decimal.specs.declared.Number.{Number}
+use borrow.Author.Tests.{lt-ltb, ltb-true, leb-true, eq-eqb}
 use Rattle.decimal.specs.declared.Number.the-variants.{Value, Malformed}
 use Rattle.decimal.specs.Decimal.{digitsOf, decimalFrom, decimalOf, isDigit, allDigits, valueAfter, valueOf, startsWell, isNumber, numberOf}
-use Rattle.decimal.proofs.Laws.{pow-pos, rest-lt, digit-lt, length-digitsOf, digitsOf-digits, value-digitsOf, of-width, starts, quotient, remainder, below}
+use Rattle.decimal.proofs.Laws.{pow-pos, length-digitsOf, digitsOf-digits, value-digitsOf, of-width, starts, quotient, remainder, below}
 
 -- ---- the width of a number below 2^64
 

@@ -1,6 +1,6 @@
 -- Laws of fields and numbers.
-use Prim.Native.Nat.{ℕ, zero, suc, _+_, _-_, _≤_, _<_}
-use mathlib.Core.Path.{_≡_, refl, sym, ap, ap₂, subst, _∙_}
+use Prim.Native.Nat.{ℕ, suc, _+_, _-_, _≤_, _<_}
+use mathlib.Core.Path.{_≡_, refl, sym, ap, ap₂, _∙_}
 use mathlib.Core.Bool.{Bool, true, false, cond}
 use mathlib.Core.List.{List, [], _∷_, _++_, append-assoc, append-nil}
 use mathlib.Core.Option.{Option, some, none}
@@ -8,13 +8,12 @@ use native.Mathlib.Omega.{arith}
 use native.Mathlib.Numerals.{add-one}
 use lib.ListN.{length, take, drop, getD, set, length-append, length-drop, length-take, take-append-drop, drop-of-length-le}
 use native.Mathlib.Decide.{decLe}
-use lib.Seq.{drop-cons, drop-drop, take-suc-set, drop-set-lt, take-all, length-take-le}
-use lib.Dec.{eqb, leb}
+use lib.Seq.{drop-cons, drop-drop, take-suc-set, drop-set-lt}
+use lib.Dec.{eqb}
 use borrow.Author.Tests.{eq-eqb, ne-eqb, le-leb, lt-leb, eqb-true}
 use Rattle.decimal.specs.Decimal.{numberOf}
 use Rattle.decimal.specs.declared.Number.{Number}
 use Rattle.decimal.specs.declared.Number.the-variants.{Value, Malformed}
-use Rattle.line.specs.declared.Count.{Count}
 use Rattle.line.specs.declared.Count.the-variants.{Of, TooMany}
 use Rattle.line.specs.Fields.{onFirst, fieldsOf, before, numbersOf, partsOf, upTo}
 use Rattle.line.specs.Command.{countOf}

@@ -1,13 +1,11 @@
 -- Lines of document 01's sample, and lines that are none, as the definition has them.
-use Prim.Native.Nat.{ℕ}
 use mathlib.Core.Path.{_≡_, refl}
-use mathlib.Core.List.{List, [], _∷_}
+use mathlib.Core.List.{[], _∷_}
 use Rattle.decimal.specs.Decimal.{allDigits, valueAfter, numberOf}
 use Rattle.octets.specs.Octets.{same}
 use Rattle.line.specs.Fields.{partsOf, numbersOf}
 use Rattle.line.specs.Command.{commandOf}
-use Rattle.line.specs.declared.Command.{Command}
-use Rattle.line.specs.declared.Command.the-variants.{Format, Append, Advance, Truncate, Lookup, End, Malformed}
+use Rattle.line.specs.declared.Command.the-variants.{Format, Append, Advance, End, Malformed}
 
 -- format,2,3,7
 sample-format : commandOf (102 ∷ 111 ∷ 114 ∷ 109 ∷ 97 ∷ 116 ∷ 44 ∷ 50 ∷ 44 ∷ 51 ∷ 44 ∷ 55 ∷ []) ≡ Format 2 3 7

@@ -1,12 +1,11 @@
 -- The answer to a call, by its reply.
 use Prim.Native.Nat.{ℕ, _<_}
 use mathlib.Core.Path.{_≡_, refl, sym, ap, ap₂, subst, _∙_}
-use mathlib.Core.Bool.{Bool, true, false, cond, _||_}
+use mathlib.Core.Bool.{true, false}
 use mathlib.Core.List.{List}
 use mathlib.Core.Option.{Option, none, some}
 use native.Mathlib.Omega.{arith}
-use lib.Dec.{eqb}
-use lib.ListN.{getD, length}
+use lib.ListN.{getD}
 use borrow.Author.Tests.{eq-eqb, ne-eqb}
 use Rattle.octets.specs.Octets.{Bytes, part, splice, zeros}
 use Rattle.octets.proofs.Parts.{part-part}
@@ -18,12 +17,11 @@ use Rattle.layout.specs.Layout.{logsOf, readTable}
 use Rattle.table.specs.Whole.{whole}
 use Rattle.a2m.specs.declared.Change.{Change}
 use Rattle.a2m.specs.declared.Change.the-variants as change
-use Rattle.a2m.specs.Call.{Call, append, advance, logOf, Wide, Reply, refused, done, found, ended}
+use Rattle.a2m.specs.Call.{Call, append, advance, logOf, Wide, Reply, refused, found, ended}
 use Rattle.a2m.specs.ImageCalls.{rowIn, wrongLength}
 use Rattle.a2m.specs.TableCalls.{tableRefusal, tableStep}
 use Rattle.a2m.specs.Opened.{changeReply}
 use Rattle.a2m.proofs.Unchanged.{Reads, refused-unchanged, read-unchanged}
-use Rattle.script.specs.declared.Answer.{Answer}
 use Rattle.script.specs.declared.Answer.the-variants.{Plain, Bounded, Attested}
 use Rattle.script.specs.Answer.{placed, letterOf, numberIn, attestedAnswer, replyAnswer, callAnswer}
 use Rattle.script.specs.Named.{Named, ChangeNamed, changeAnswer}

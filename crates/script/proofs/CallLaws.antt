@@ -1,6 +1,6 @@
 -- What a call's reply says of the table: which refusals come from a whole table that has the log, and the row after the call.
-use Prim.Native.Nat.{ℕ, _<_, _≤_}
-use mathlib.Core.Path.{_≡_, refl, sym, ap, ap₂, subst, _∙_}
+use Prim.Native.Nat.{ℕ, _<_}
+use mathlib.Core.Path.{_≡_, refl, sym, ap, _∙_}
 use mathlib.Core.Logic.{_≢_}
 use mathlib.Core.Bool.{Bool, true, false, cond, not}
 use mathlib.Core.List.{List, [], _∷_}
@@ -12,26 +12,18 @@ use borrow.Author.Tests.{not-false, leb-false}
 use Rattle.octets.specs.Octets.{Bytes}
 use Rattle.refusal.specs.Order.{Fault, fault, firstFault}
 use Rattle.layout.specs.Image.{Image}
-use Rattle.layout.specs.Layout.{logsOf, slotsOf, readTable, writeTable}
-use Rattle.layout.specs.Fits.{Fits, Counted}
+use Rattle.layout.specs.Layout.{logsOf, readTable}
+use Rattle.layout.specs.Fits.{Fits}
 use Rattle.layout.proofs.TableLaws.{length-rows, read-write, fits-read}
-use Rattle.table.specs.WholeImage.{wholeImage}
 use Rattle.table.specs.Whole.{whole}
-use Rattle.table.proofs.ConditionLaws.{whole-conditions}
-use Rattle.a2m.specs.Call.{Call, append, advance, truncate, lookup, end, logOf, Wide, Reply, refused, done, found, ended}
+use Rattle.a2m.specs.Call.{Call, append, advance, truncate, logOf, Wide, refused, done, found}
 use Rattle.a2m.specs.ImageCalls.{rowIn, wrongLength, misplaced, spent, nothingHeld, full, faults, imageDone, imageAccept, imageRefusal, imageStep}
 use Rattle.a2m.specs.TableCalls.{tableRefusal, tableStep}
-use Rattle.a2m.proofs.Clear.{Clear, clear}
+use Rattle.a2m.proofs.Clear.{clear}
 use Rattle.a2m.proofs.FitsAfter.{step-fits}
 use Rattle.a2m.proofs.Unchanged.{refused-unchanged}
-use Rattle.a2m.proofs.WholeBytes.{whole-image, whole-formed}
+use Rattle.table.proofs.WholeLaws.{whole-formed, whole-image}
 use Rattle.script.specs.Named.{Named}
-
--- a whole table has the counts that its header says
-pub whole-counted : (b : List ℕ) → whole b ≡ true → Counted b (logsOf b) (slotsOf b)
-whole-counted b w =
-    let h = whole-conditions b w in
-    record { logs-are = refl; slots-are = refl; logs-most = h .counts .logs-most; slots-most = h .counts .slots-most; sized = h .sized }
 
 has-log : (b : List ℕ) (g : ℕ) → leb (length (readTable b .rows)) g ≡ false → g < logsOf b
 has-log b g h = omega (arith, leb-false (length (readTable b .rows)) g h, length-rows b)

@@ -1,19 +1,17 @@
 -- Laws of a script that comes in pieces.
-use Prim.Native.Nat.{ℕ, zero, suc, _+_, _-_, _≤_, _<_, min}
-use mathlib.Core.Path.{_≡_, refl, sym, ap, ap₂, subst, _∙_}
+use Prim.Native.Nat.{ℕ, suc, _+_, _-_, _≤_, _<_, min}
+use mathlib.Core.Path.{_≡_, refl, sym, ap, ap₂, _∙_}
 use mathlib.Core.Bool.{Bool, true, false, cond}
 use mathlib.Core.List.{List, [], _∷_, _++_, append-assoc, append-nil}
 use native.Mathlib.Omega.{arith}
 use native.Mathlib.Decide.{decLe}
-use native.Mathlib.Numerals.{add-one}
 use native.Mathlib.Nat.{add-zero, zero-add}
-use lib.ListN.{length, take, drop, getD, length-append, length-take, length-drop, drop-of-length-le, take-append-drop}
-use lib.Seq.{take-all, take-append-le, take-append-add, take-add, take-take, length-take-le, paste, take-paste, drop-drop, drop-cons}
-use lib.Dec.{eqb, leb}
-use borrow.Author.Tests.{eq-eqb, ne-eqb, le-leb, lt-leb, eqb-true}
+use lib.ListN.{length, take, drop, length-append, length-take, length-drop}
+use lib.Seq.{take-all, take-append-le, take-append-add, take-add, take-take, length-take-le, drop-drop}
+use lib.Dec.{eqb}
 use Rattle.octets.specs.Octets.{splice}
 use Rattle.octets.proofs.Parts.{part-splice-same}
-use Rattle.line.specs.Fields.{onFirst, partsOf, upTo}
+use Rattle.line.specs.Fields.{upTo}
 use Rattle.line.specs.Command.{commandOf}
 use Rattle.line.specs.Answer.{lineText}
 use Rattle.line.proofs.AnswerLaws.{line-length}
@@ -23,7 +21,7 @@ use Rattle.line.proofs.CommandLaws.{command-long}
 use Rattle.script.specs.declared.Answer.{Answer}
 use Rattle.script.specs.declared.Answer.the-variants.{Plain, Bounded, Attested}
 use Rattle.script.specs.Script.{commandAnswer, commandTable, cellsOf, answerText, tableAfter}
-use Rattle.script.specs.Stream.{lastLine, endedLines, linesOf, answersOf, cut, heldAfter, newlines, answered, tableRead, lastAnswer}
+use Rattle.script.specs.Stream.{cut, heldAfter, newlines, answered, tableRead}
 
 -- ---- what is cut does not matter
 

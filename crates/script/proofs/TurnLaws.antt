@@ -1,7 +1,7 @@
 -- What a command does to a buffer whose first bytes are the table.
-use Prim.Native.Nat.{ℕ, _+_, _-_, _≤_}
+use Prim.Native.Nat.{ℕ, _+_, _-_, _≤_, _<_}
 use mathlib.Core.Path.{_≡_, refl, sym, ap, ap₂, subst, _∙_}
-use mathlib.Core.Bool.{Bool, true, false, not, _&&_}
+use mathlib.Core.Bool.{Bool, true, false, cond, not, _&&_}
 use mathlib.Core.List.{List, _++_}
 use mathlib.Core.Option.{Option, none, some}
 use native.Mathlib.Omega.{arith}
@@ -9,18 +9,20 @@ use native.Mathlib.Nat.{zero-add}
 use lib.ListN.{length, take, drop, take-append-drop}
 use lib.Seq.{length-take-le}
 use lib.Dec.{leb, eqb}
-use borrow.Author.Tests.{not-true, not-false, leb-true, eq-eqb}
+use borrow.Author.Tests.{lt-leb}
 use borrow.Rule.Slice.PartMut.{putMid}
 use Rattle.octets.specs.Octets.{Bytes, splice, zeros}
 use Rattle.octets.proofs.Parts.{bytes-part}
-use Rattle.octets.proofs.Tests.{and-left, and-right}
+use Rattle.octets.proofs.Tests.{and-false}
+use Rattle.refusal.specs.Number.{numberOf}
+use Rattle.refusal.specs.declared.Refusal.{Refusal}
+use Rattle.refusal.specs.declared.Refusal.the-variants as why
 use Rattle.refusal.specs.Order.{firstFault, answerOf, afterwards}
 use Rattle.layout.specs.Layout.{tableSize, writeTable}
 use Rattle.table.specs.Whole.{inRange}
 use Rattle.table.specs.Format.{formatted, formatRefusal, formatBytes}
-use Rattle.table.proofs.FormatLaws.{no-refusal}
 use Rattle.line.specs.declared.Command.{Command}
-use Rattle.line.specs.declared.Command.the-variants.{Format, Malformed}
+use Rattle.line.specs.declared.Command.the-variants.{Format}
 use Rattle.script.specs.declared.Answer.{Answer}
 use Rattle.script.specs.declared.Answer.the-variants.{Plain}
 use Rattle.script.specs.declared.Turn.{Turn}
@@ -47,58 +49,7 @@ lent-size l n h = let z : n - 0 ≡ n = omega arith in ap (λ (k : ℕ). length 
 abbrev turn : Answer → ℕ → Turn
 turn a n = record { answer = a; size = n }
 
--- ---- format
-
-range : (logs slots : ℕ) → inRange logs slots ≡ true → (logs ≤ 16) × (slots ≤ 800)
-unfolding inRange
-range logs slots h =
-    let t = and-left (leb 1 logs && leb logs 16 && leb 1 slots) (leb slots 800) h in
-    let u = and-left (leb 1 logs && leb logs 16) (leb 1 slots) t in
-    (leb-true logs 16 (and-right (leb 1 logs) (leb logs 16) u), leb-true slots 800 (and-right (leb 1 logs && leb logs 16 && leb 1 slots) (leb slots 800) h))
-
-pub counts-most : (t : Bool) (logs slots : ℕ) → t ≡ inRange logs slots → not t ≡ false → (logs ≤ 16) × (slots ≤ 800)
-counts-most t logs slots e h = range logs slots (sym e ∙ not-false t h)
-
--- "8 counts: format with G or S out of range"
-pub format-counts : (t : Bool) (logs slots : ℕ) → t ≡ inRange logs slots → not t ≡ true → formatFault logs slots ≡ some 8
-unfolding formatRefusal firstFault
-format-counts t logs slots e h = rw (sym e ∙ not-true t h)
-
-pub format-refused : (l : List ℕ) (n logs slots keeper : ℕ) → n ≤ length l → n ≤ 61172 → formatFault logs slots ≡ some 8 → Turns l n (Format logs slots keeper) l (turn (Plain 8) n)
-unfolding commandAnswer commandTable answerOf afterwards
-format-refused l n logs slots keeper h m e =
-    let T : List ℕ = take n l in
-    let F : List ℕ = writeTable (formatted logs slots keeper (zeros 32)) in
-    let t : afterwards (formatFault logs slots) F T ≡ T = ap (λ (o : Option ℕ). afterwards o F T) e in
-    record {
-      answer = sym (ap (λ (o : Option ℕ). Plain (answerOf o)) e);
-      size = sym (ap length t ∙ length-take-le n l h);
-      most = m;
-      bytes = stays l n h ∙ ap (splice l 0) (sym t);
-    }
-
--- an accepted format: b is the part that was lent, y what came back
-pub format-done : (l b y : List ℕ) (n k logs slots keeper answer : ℕ) → inRange logs slots ≡ true → k ≡ tableSize logs slots → k ≤ 61172
-    → length b ≡ k → length y ≡ k
-    → answer ≡ answerOf (formatRefusal (length b) logs slots (length (zeros 32)))
-    → y ≡ formatBytes b logs slots keeper (zeros 32)
-    → Turns l n (Format logs slots keeper) (putMid 0 (k - 0) l y) (turn (Plain answer) k)
-unfolding commandAnswer commandTable answerOf afterwards formatBytes zeros
-format-done l b y n k logs slots keeper answer r e m hb hy ha hy′ =
-    let T : List ℕ = take n l in
-    let F : List ℕ = writeTable (formatted logs slots keeper (zeros 32)) in
-    let o : formatRefusal (length b) logs slots 32 ≡ none = no-refusal b logs slots keeper (zeros 32) r refl (hb ∙ e) in
-    let f : formatFault logs slots ≡ none = ap (λ (j : ℕ). formatRefusal j logs slots 32) (sym (hb ∙ e)) ∙ o in
-    let y₁ : y ≡ F = hy′ ∙ ap (λ (o : Option ℕ). afterwards o F b) o in
-    let t : afterwards (formatFault logs slots) F T ≡ F = ap (λ (o : Option ℕ). afterwards o F T) f in
-    record {
-      answer = ap Plain (ha ∙ ap answerOf (o ∙ sym f));
-      size = sym (ap length (t ∙ sym y₁) ∙ hy);
-      most = m;
-      bytes = came-back l y (afterwards (formatFault logs slots) F T) k (y₁ ∙ sym t) hy;
-    }
-
--- ---- the other commands
+-- ---- the calls
 
 -- a call on the lent table: y is what came back
 pub call-turns : (l y : List ℕ) (n : ℕ) {command : Command} (x : Command) (a : Answer) → command ≡ x → n ≤ length l → n ≤ 61172 → length y ≡ length (take (n - 0) l)
@@ -121,3 +72,96 @@ keeps-table l n x a e h m ha ht =
 -- bytes of the table's part are bytes
 pub bytes-first : (l : List ℕ) (n : ℕ) → Bytes l → Bytes (take n l)
 bytes-first l n h = bytes-part l 0 n h
+
+-- ---- format
+
+-- "8 counts: format with G or S out of range"
+pub many-logs : (logs slots : ℕ) → 16 < logs → formatFault logs slots ≡ some 8
+unfolding formatRefusal firstFault inRange
+many-logs logs slots h = rw (lt-leb logs 16 h, and-false (leb 1 logs))
+
+pub many-slots : (logs slots : ℕ) → 800 < slots → formatFault logs slots ≡ some 8
+unfolding formatRefusal firstFault inRange
+many-slots logs slots h = rw (lt-leb slots 800 h, and-false (leb 1 logs && leb logs 16 && leb 1 slots))
+
+-- where the counts are not in range nothing is lent
+pub format-counts : (l : List ℕ) (n logs slots keeper : ℕ) → n ≤ length l → n ≤ 61172 → formatFault logs slots ≡ some 8 → Turns l n (Format logs slots keeper) l (turn (Plain 8) n)
+unfolding commandAnswer commandTable answerOf afterwards
+format-counts l n logs slots keeper h m e = keeps-table l n (Format logs slots keeper) (Plain 8) refl h m (sym (ap (λ (o : Option ℕ). Plain (answerOf o)) e)) (ap (λ (o : Option ℕ). afterwards o (writeTable (formatted logs slots keeper (zeros 32))) (take n l)) e)
+
+-- ---- the part of k bytes was lent, b, and came back as y
+module _ (l y : List ℕ) (n k logs slots keeper : ℕ) (size : k ≡ tableSize logs slots) (fits : k ≤ length l) (most : k ≤ 61172) (kept : length y ≡ length (take (k - 0) l))
+    (bytes : y ≡ formatBytes (take (k - 0) l) logs slots keeper (zeros 32)) where
+  lent : List ℕ
+  lent = take (k - 0) l
+
+  image : List ℕ
+  image = writeTable (formatted logs slots keeper (zeros 32))
+
+  fault : formatRefusal (length lent) logs slots 32 ≡ formatFault logs slots
+  unfolding lent
+  fault = ap (λ (j : ℕ). formatRefusal j logs slots 32) (lent-size l k fits ∙ size)
+
+  came : y ≡ afterwards (formatFault logs slots) image lent
+  unfolding lent image formatBytes zeros
+  came = bytes ∙ ap (λ (o : Option ℕ). afterwards o image lent) fault
+
+  -- accepted: "8" and "7" are no 0
+  answer-none : (o : Option ℕ) (x z : Bool) → o ≡ cond x (some 8) (cond z (some 7) none) → 0 ≡ answerOf o → o ≡ none
+  unfolding answerOf
+  answer-none o true z e h = let q : _≡_ {A = ℕ} 0 8 = h ∙ ap answerOf e in absurd (omega arith)
+  answer-none o false true e h = let q : _≡_ {A = ℕ} 0 7 = h ∙ ap answerOf e in absurd (omega arith)
+  answer-none o false false e h = e
+
+  pub format-done : 0 ≡ answerOf (formatRefusal (length (take (k - 0) l)) logs slots (length (zeros 32))) → Turns l n (Format logs slots keeper) (putMid 0 (k - 0) l y) (turn (Plain 0) k)
+  unfolding lent image commandAnswer commandTable formatRefusal firstFault afterwards zeros answerOf
+  format-done h =
+      let f : formatFault logs slots ≡ none = answer-none (formatFault logs slots) (not (inRange logs slots)) (not (eqb 32 32 && eqb (tableSize logs slots) (tableSize logs slots))) refl (h ∙ ap answerOf fault) in
+      let t : afterwards (formatFault logs slots) image (take n l) ≡ image = ap (λ (o : Option ℕ). afterwards o image (take n l)) f in
+      let u : y ≡ image = came ∙ ap (λ (o : Option ℕ). afterwards o image lent) f in
+      let b : length y ≡ k = kept ∙ lent-size l k fits in
+      record {
+        answer = ap Plain (h ∙ ap answerOf fault);
+        size = sym (ap length (t ∙ sym u) ∙ b);
+        most = most;
+        bytes = came-back l y (afterwards (formatFault logs slots) image (take n l)) k (u ∙ sym t) b;
+      }
+
+  -- refused: the old table stays
+  some-refusal : (j : ℕ) (o : Option ℕ) → 1 ≤ j → j ≡ answerOf o → o ≡ some j
+  unfolding answerOf
+  some-refusal j none h e = absurd (omega arith)
+  some-refusal j (some i) h e = ap some (sym e)
+
+  pub format-refused : (j : ℕ) → 1 ≤ j → n ≤ length l → n ≤ 61172 → j ≡ answerOf (formatRefusal (length (take (k - 0) l)) logs slots (length (zeros 32)))
+      → Turns l n (Format logs slots keeper) (putMid 0 (k - 0) l y) (turn (Plain j) n)
+  unfolding lent image commandAnswer commandTable afterwards zeros answerOf
+  format-refused j p g m h =
+      let f : formatFault logs slots ≡ some j = some-refusal j (formatFault logs slots) p (h ∙ ap answerOf fault) in
+      let t : afterwards (formatFault logs slots) image (take n l) ≡ take n l = ap (λ (o : Option ℕ). afterwards o image (take n l)) f in
+      let z : k - 0 ≡ k = omega arith in
+      let u : y ≡ take k l = came ∙ ap (λ (o : Option ℕ). afterwards o image lent) f ∙ ap (λ (i : ℕ). take i l) z in
+      let b : length y ≡ k = kept ∙ lent-size l k fits in
+      record {
+        answer = ap Plain (h ∙ ap answerOf fault);
+        size = sym (ap length t ∙ length-take-le n l g);
+        most = m;
+        bytes = came-back l y (take k l) k u b ∙ sym (stays l k fits) ∙ stays l n g ∙ ap (splice l 0) (sym t);
+      }
+
+pub refusal-positive : (r : Refusal) → 1 ≤ numberOf r
+refusal-positive why.Torn = omega arith
+refusal-positive why.NoLog = omega arith
+refusal-positive why.Position = omega arith
+refusal-positive why.Spent = omega arith
+refusal-positive why.Full = omega arith
+refusal-positive why.NothingHeld = omega arith
+refusal-positive why.Length = omega arith
+refusal-positive why.Counts = omega arith
+refusal-positive why.NoReceipt = omega arith
+refusal-positive why.Tag = omega arith
+refusal-positive why.OtherQuestion = omega arith
+refusal-positive why.Roster = omega arith
+refusal-positive why.TooFew = omega arith
+refusal-positive why.NoRun = omega arith
+refusal-positive why.Line = omega arith

@@ -8,30 +8,40 @@ use crate::calls::lookup;
 use crate::calls::truncate;
 use layout::places::table_size;
 use line::Command;
-use table::whole::in_range;
+use refusal::Outcome;
 ghost use mathlib.Core.Path.{_≡_};
 ghost use Prim.Native.Nat.{_≤_};
 ghost use lib.ListN.{length, take};
 ghost use Rattle.line.specs.declared.Command.the-variants.{Format};
 ghost use Rattle.script.specs.Script.{Turns};
 
-// A new table, of its own size.
+// A new table, of its own size, where the buffer can hold it.
 fn format(buffer: &mut [u8], size: usize, logs: u64, slots: u64, keeper: u64) -> Turn
     requires { ⌜ (length (now buffer) ≡ 61172) × (size ≤ 61172) ⌝ }
     ensures { λ r. ⌜ Turns (now (buffer .entry)) size (Format logs slots keeper) (now (buffer .exit)) r ⌝ }
 {
-    if !in_range(logs, slots) {
-        return Turn {
-            answer: Answer::Plain(8),
-            size,
-        };
+    let counts = Turn {
+        answer: Answer::Plain(8),
+        size,
+    };
+    if 16 < logs {
+        return counts;
+    }
+    if 800 < slots {
+        return counts;
     }
     let n = table_size(logs as usize, slots as usize);
     let key = [0u8; 32];
     let outcome = table::format::format(&mut buffer[0..n], logs, slots, keeper, &key);
-    Turn {
-        answer: Answer::Plain(octets::wide(outcome.number())),
-        size: n,
+    match outcome {
+        Outcome::Done => Turn {
+            answer: Answer::Plain(0),
+            size: n,
+        },
+        Outcome::Refused(why) => Turn {
+            answer: Answer::Plain(octets::wide(why.number())),
+            size,
+        },
     }
 }
 

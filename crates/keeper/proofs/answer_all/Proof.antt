@@ -1,15 +1,12 @@
-use Prim.Native.Nat.{ℕ, _+_, _-_, _≤_}
+-- `keeper::answer_all` meets its contract.
+use Prim.Native.Nat.{_+_, _-_, _≤_}
 use lib.ListN.{length}
 use Rattle.script.proofs.Reading.{progress}
 use native.Mathlib.Omega.{arith}
-use mathlib.Core.Path.{_≡_, refl, sym, ap, ap₂, subst, _∙_}
+use mathlib.Core.Path.{_≡_}
 use borrow.Author.Needs.{needs}
 use Rattle.keeper.proofs.answer_all.Statement.{statement}
 use Rattle.keeper.proofs.answer_all.Tie as tie
-use Rattle.keeper.proofs.answer_all.Reads as reads
-use Rattle.keeper.proofs.answer_all.Lts as lts
-use Rattle.keeper.proofs.flushed.Reads as flushed-reads
-use Rattle.script.proofs.feed.Reads as feed-reads
 
 abbrev Inv-loop : tie.InvT-loop
 Inv-loop text table₀ held₀ out₀ s₀ table held out s = (length held ≡ 201) × (s .kept ≤ 201) × (length table ≡ 61172) × (s .size ≤ 61172) × (s .at ≤ length text) × (s .to ≤ length out) × (168 ≤ length out) × (length out ≡ length out₀) × (s .number + s₀ .at ≤ s₀ .number + s .at)
@@ -17,39 +14,30 @@ Inv-loop text table₀ held₀ out₀ s₀ table held out s = (length held ≡ 2
 abbrev μ-loop : tie.MeasureT-loop
 μ-loop text table₀ held₀ out₀ s₀ table held out s = length text - s .at
 
--- src/main.rt:48:5
 loop-holds : tie.Need-loop-holds Inv-loop μ-loop
 loop-holds c = search needs
 
--- src/main.rt:49:13
 flushed-requires : tie.Need-flushed-requires Inv-loop μ-loop
 flushed-requires c κs = search needs
 
--- src/main.rt:50:9
 feed-requires : tie.Need-feed-requires Inv-loop μ-loop
 feed-requires c κs = search needs
 
--- src/main.rt:48:5
 loop-less : tie.Need-loop-less Inv-loop μ-loop
 loop-less c = omega (arith, progress (c .before .before .before .before .before .before .feed .ensures) (omega arith) (omega arith))
 
--- src/main.rt:48:5
 loop-again : tie.Need-loop-again Inv-loop μ-loop
 loop-again c = search needs
 
--- src/main.rt:37:1
 same-length : tie.Need-same-length Inv-loop μ-loop
 same-length c = search needs
 
--- src/main.rt:37:1
 same-length-2 : tie.Need-same-length-2 Inv-loop μ-loop
 same-length-2 c = search needs
 
--- src/main.rt:37:1
 same-length-3 : tie.Need-same-length-3 Inv-loop μ-loop
 same-length-3 c = search needs
 
--- src/main.rt:37:1
 returns : tie.Need-returns Inv-loop μ-loop
 returns c = search needs
 

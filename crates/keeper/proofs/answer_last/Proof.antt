@@ -1,3 +1,4 @@
+-- `keeper::answer_last` meets its contract.
 use Prim.Native.Nat.{ℕ}
 use mathlib.Core.List.{List}
 use Rattle.script.specs.Script.{answerText}
@@ -6,35 +7,26 @@ use Rattle.octets.proofs.Parts.{length-splice}
 use lib.ListN.{length, take}
 use lib.Seq.{length-take-le}
 use native.Mathlib.Omega.{arith}
-use mathlib.Core.Path.{_≡_, refl, sym, ap, ap₂, subst, _∙_}
+use mathlib.Core.Path.{sym, ap}
 use borrow.Author.Needs.{needs}
 use Rattle.keeper.proofs.answer_last.Statement.{statement}
 use Rattle.keeper.proofs.answer_last.Tie as tie
-use Rattle.keeper.proofs.answer_last.Reads as reads
-use Rattle.keeper.proofs.answer_last.Lts as lts
-use Rattle.script.proofs.answer_line.Reads as answer-line-reads
 
--- src/main.rt:101:9
 returns : tie.Need-returns
 returns c = search needs
 
--- src/main.rt:103:70
 slice-aggregate-answer-line : tie.Need-slice-aggregate-answer-line
 slice-aggregate-answer-line c = sym (length-take-le (c .before .before .before .before .before .before .before .args .p .kept) (c .before .before .before .before .before .before .before .args .held .now) (omega arith))
 
--- src/main.rt:103:9
 answer-line-requires : tie.Need-answer-line-requires
 answer-line-requires c κs = search needs
 
--- src/main.rt:93:1
 same-length : tie.Need-same-length
 same-length c = search needs
 
--- src/main.rt:93:1
 same-length-2 : tie.Need-same-length-2
 same-length-2 c = search needs
 
--- src/main.rt:93:1
 returns-2 : tie.Need-returns-2
 returns-2 c = let a = c .before .before .before .before .before .before .before .before .before .before .before .before .args in
     let n = c .before .before .before .before .answer-line in

@@ -1,30 +1,23 @@
+-- `keeper::flushed` meets its contract.
 use lib.Seq.{length-take-le}
 use native.Mathlib.Omega.{arith}
-use mathlib.Core.Path.{_≡_, refl, sym, ap, ap₂, subst, _∙_}
+use mathlib.Core.Path.{sym}
 use borrow.Author.Needs.{needs}
 use Rattle.keeper.proofs.flushed.Statement.{statement}
 use Rattle.keeper.proofs.flushed.Tie as tie
-use Rattle.keeper.proofs.flushed.Reads as reads
-use Rattle.keeper.proofs.flushed.Lts as lts
-use Rattle.io.proofs.write_all.Reads as write-all-reads
 
--- src/main.rt:23:8
 sub-if1 : tie.Need-sub-if1
 sub-if1 c = search needs
 
--- src/main.rt:24:38
 slice-aggregate-write-all : tie.Need-slice-aggregate-write-all
 slice-aggregate-write-all c = sym (length-take-le (c .before .before .before .args .p .to) (c .before .before .before .args .out .now) (omega arith))
 
--- src/main.rt:24:9
 write-all-requires : tie.Need-write-all-requires
 write-all-requires c κs = search needs
 
--- src/main.rt:25:9
 returns : tie.Need-returns
 returns c = search needs
 
--- src/main.rt:18:1
 returns-2 : tie.Need-returns-2
 returns-2 c = search needs
 

@@ -1,14 +1,12 @@
-use Prim.Native.Nat.{ℕ, _+_, _*_, _≤_}
+-- `keeper::read_all` meets its contract.
+use Prim.Native.Nat.{_+_, _*_, _≤_}
 use lib.ListN.{length}
 use Rattle.keeper.specs.Bounds.{Ready}
 use native.Mathlib.Omega.{arith}
-use mathlib.Core.Path.{_≡_, refl, sym, ap, ap₂, subst, _∙_}
+use mathlib.Core.Path.{_≡_}
 use borrow.Author.Needs.{needs}
 use Rattle.keeper.proofs.read_all.Statement.{statement}
 use Rattle.keeper.proofs.read_all.Tie as tie
-use Rattle.keeper.proofs.read_all.Reads as reads
-use Rattle.keeper.proofs.read_all.Lts as lts
-use Rattle.keeper.proofs.turn.Reads as turn-reads
 
 abbrev Inv-loop : tie.InvT-loop
 Inv-loop table₀ held₀ out₀ s₀ turns₀ table held out s turns = Ready (length table) (length held) (length out) s × (s .number + turns * 65536 ≤ 1 + 140737488355328 * 65536) × (length out ≡ length out₀)
@@ -16,63 +14,48 @@ Inv-loop table₀ held₀ out₀ s₀ turns₀ table held out s turns = Ready (l
 abbrev μ-loop : tie.MeasureT-loop
 μ-loop table₀ held₀ out₀ s₀ turns₀ table held out s turns = turns
 
--- src/main.rt:82:5
 loop-holds : tie.Need-loop-holds Inv-loop μ-loop
 loop-holds c = search needs
 
--- src/main.rt:83:29
 turn-requires : tie.Need-turn-requires Inv-loop μ-loop
 turn-requires c κs = search needs
 
--- src/main.rt:83:24
 enum-known-q : tie.Need-enum-known-q Inv-loop μ-loop
 enum-known-q c = search needs
 
--- src/main.rt:84:13
 enum-told : tie.Need-enum-told Inv-loop μ-loop
 enum-told c = search needs
 
--- src/main.rt:84:13
 same-length : tie.Need-same-length Inv-loop μ-loop
 same-length c = search needs
 
--- src/main.rt:84:13
 same-length-2 : tie.Need-same-length-2 Inv-loop μ-loop
 same-length-2 c = search needs
 
--- src/main.rt:84:13
 same-length-3 : tie.Need-same-length-3 Inv-loop μ-loop
 same-length-3 c = search needs
 
--- src/main.rt:84:13
 returns : tie.Need-returns Inv-loop μ-loop
 returns c = search needs
 
--- src/main.rt:87:9
 sub-turns : tie.Need-sub-turns Inv-loop μ-loop
 sub-turns c = search needs
 
--- src/main.rt:82:5
 loop-less : tie.Need-loop-less Inv-loop μ-loop
 loop-less c = search needs
 
--- src/main.rt:82:5
 loop-again : tie.Need-loop-again Inv-loop μ-loop
 loop-again c = let a = rw (c .before .q .given .1) at (c .before .before .before .before .before .before .before .before .before .turn .ensures) in (a .ready, omega (arith, a .lines), search needs)
 
--- src/main.rt:76:1
 same-length-4 : tie.Need-same-length-4 Inv-loop μ-loop
 same-length-4 c = search needs
 
--- src/main.rt:76:1
 same-length-5 : tie.Need-same-length-5 Inv-loop μ-loop
 same-length-5 c = search needs
 
--- src/main.rt:76:1
 same-length-6 : tie.Need-same-length-6 Inv-loop μ-loop
 same-length-6 c = search needs
 
--- src/main.rt:76:1
 returns-2 : tie.Need-returns-2 Inv-loop μ-loop
 returns-2 c = search needs
 

@@ -1,4 +1,4 @@
--- `decimal::read::digits` meets its contract. Assumes nothing.
+-- `decimal::read::digits` meets its contract.
 use Rattle.decimal.proofs.Laws.{read-on, read-out, read-end}
 use mathlib.Core.Path.{_≡_, refl, sym, _∙_}
 use borrow.Author.Needs.{needs}

@@ -1,4 +1,4 @@
--- `decimal::read::more` meets its contract. Assumes nothing.
+-- `decimal::read::more` meets its contract.
 use Rattle.decimal.specs.Decimal.{moreOf}
 use Prim.Native.Nat.{_*_, _+_, _-_, _^_}
 use native.Mathlib.Omega.{arith}

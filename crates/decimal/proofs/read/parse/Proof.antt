@@ -1,4 +1,4 @@
--- `decimal::read::parse` meets its contract. Assumes nothing.
+-- `decimal::read::parse` meets its contract.
 use mathlib.Core.Logic.{⊎-elim}
 use native.Mathlib.Omega.{arith}
 use Rattle.decimal.proofs.Laws.{number-none, number-zero, number-read}

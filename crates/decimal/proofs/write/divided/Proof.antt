@@ -1,4 +1,4 @@
--- `decimal::write::divided` meets its contract. Assumes nothing.
+-- `decimal::write::divided` meets its contract.
 use Rattle.decimal.proofs.Laws.{small, quotient, remainder}
 use mathlib.Core.Path.{_≡_}
 use borrow.Author.Needs.{needs}

@@ -1,4 +1,4 @@
--- `decimal::write::power` meets its contract. Assumes nothing.
+-- `decimal::write::power` meets its contract.
 use mathlib.Core.List.{List, [], _∷_}
 use mathlib.Core.Bool.{Bool}
 use Prim.Native.Nat.{ℕ, _^_}

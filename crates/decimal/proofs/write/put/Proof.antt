@@ -1,4 +1,4 @@
--- `decimal::write::put` meets its contract. Assumes nothing.
+-- `decimal::write::put` meets its contract.
 use mathlib.Core.Path.{_≡_, sym, ap, _∙_}
 use native.Mathlib.Omega.{arith}
 use Prim.Native.Nat.{ℕ, _+_}

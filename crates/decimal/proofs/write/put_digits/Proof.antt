@@ -1,4 +1,4 @@
--- `decimal::write::put_digits` meets its contract. Assumes nothing.
+-- `decimal::write::put_digits` meets its contract.
 use mathlib.Core.Path.{ap₂, _≡_, refl, sym, ap, _∙_, subst}
 use lib.ListN.{set, length, drop, length-set}
 use Prim.Native.Nat.{_%_, _/_, ℕ, suc, _≤_, _<_, _-_, _+_, _^_}

@@ -1,4 +1,4 @@
--- `decimal::write::width` meets its contract. Assumes nothing.
+-- `decimal::write::width` meets its contract.
 use Prim.Native.Nat.{ℕ, _≤_, _<_, _-_, _+_, _^_}
 use Rattle.decimal.proofs.Laws.{of-width, below}
 use mathlib.Core.Path.{_≡_, subst}

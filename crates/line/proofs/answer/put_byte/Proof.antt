@@ -1,4 +1,4 @@
--- `line::answer::put_byte` meets its contract. Assumes nothing.
+-- `line::answer::put_byte` meets its contract.
 use Rattle.octets.proofs.Parts.{splice-byte}
 use mathlib.Core.Path.{refl}
 use borrow.Author.Needs.{needs}

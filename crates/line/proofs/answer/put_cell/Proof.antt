@@ -1,4 +1,4 @@
--- `line::answer::put_cell` meets its contract. Assumes nothing.
+-- `line::answer::put_cell` meets its contract.
 use native.Mathlib.Omega.{arith}
 use Prim.Native.Nat.{ℕ}
 use mathlib.Core.List.{List, [], _∷_}

@@ -1,4 +1,4 @@
--- `line::answer::put_text` meets its contract. Assumes nothing.
+-- `line::answer::put_text` meets its contract.
 use native.Mathlib.Omega.{arith}
 use Prim.Native.Nat.{_+_, _≤_}
 use lib.ListN.{length}

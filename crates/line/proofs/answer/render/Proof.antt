@@ -1,4 +1,4 @@
--- `line::answer::render` meets its contract. Assumes nothing.
+-- `line::answer::render` meets its contract.
 use native.Mathlib.Omega.{arith}
 use Rattle.line.proofs.AnswerLaws.{commas, commas-nil, commas-more, commas-length, cell-room, line-last}
 use Prim.Native.Nat.{ℕ, _+_, _-_, _≤_}

@@ -1,4 +1,4 @@
--- `line::commands::parse` meets its contract. Assumes nothing.
+-- `line::commands::parse` meets its contract.
 use Rattle.line.specs.Fields.{fieldsOf, numbersOf, upTo}
 use Rattle.line.specs.Command.{commandOf, ofFields, ofNumbers, wordOf, made}
 use lib.Seq.{length-take-le}

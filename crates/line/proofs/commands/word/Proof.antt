@@ -1,4 +1,4 @@
--- `line::commands::word` meets its contract. Assumes nothing.
+-- `line::commands::word` meets its contract.
 use mathlib.Core.Path.{sym, _∙_}
 use borrow.Author.Needs.{needs}
 use Rattle.line.proofs.commands.word.Statement.{statement}

@@ -1,4 +1,4 @@
--- `line::fields::find` meets its contract. Assumes nothing.
+-- `line::fields::find` meets its contract.
 use Rattle.line.specs.Fields.{upTo}
 use lib.ListN.{length, drop}
 use Prim.Native.Nat.{_+_, _-_, _≤_, max}

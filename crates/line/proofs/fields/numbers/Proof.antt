@@ -1,4 +1,4 @@
--- `line::fields::numbers` meets its contract. Assumes nothing.
+-- `line::fields::numbers` meets its contract.
 use lib.ListN.{length-append, length, drop, take, set, length-set}
 use Prim.Native.Nat.{_<_, ℕ, _+_, _-_, _≤_}
 use lib.Seq.{length-take-le}

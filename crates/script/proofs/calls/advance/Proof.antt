@@ -1,45 +1,32 @@
+-- `script::calls::advance` meets its contract.
 use native.Mathlib.Omega.{arith}
 use Rattle.script.specs.Answer.{placed}
 use Rattle.a2m.specs.Call.{advance}
 use Rattle.script.proofs.CallLaws.{advance-changes}
 use Rattle.script.proofs.AnswerLaws.{advance-sized, change-named, change-answers}
-use Rattle.a2m.specs.ImageCalls.{rowIn}
-use Rattle.layout.specs.Layout.{readTable}
-use Rattle.a2m.specs.Opened.{changeReply}
 use Rattle.a2m.specs.TableCalls.{tableStep}
 use Prim.Native.Nat.{ℕ}
 use mathlib.Core.List.{List}
-use mathlib.Core.Path.{_≡_, refl, sym, ap, ap₂, subst, _∙_}
+use mathlib.Core.Path.{ap₂, _∙_}
 use borrow.Author.Needs.{needs}
 use Rattle.script.proofs.calls.advance.Statement.{statement}
 use Rattle.script.proofs.calls.advance.Tie as tie
-use Rattle.script.proofs.calls.advance.Reads as reads
-use Rattle.script.proofs.calls.advance.Lts as lts
-use Rattle.a2m.proofs.advance.advance.Reads as advance-reads
-use Rattle.script.proofs.calls.changed.Reads as changed-reads
-use Rattle.script.proofs.calls.placed.Reads as placed-reads
 
--- src/calls.rt:133:13
 placed-requires : tie.Need-placed-requires
 placed-requires c κs = search needs
 
--- src/calls.rt:134:13
 placed-requires-2 : tie.Need-placed-requires-2
 placed-requires-2 c κs = search needs
 
--- src/calls.rt:135:62
 slice-aggregate-advance : tie.Need-slice-aggregate-advance
 slice-aggregate-advance c = search needs
 
--- src/calls.rt:135:66
 slice-aggregate-advance-2 : tie.Need-slice-aggregate-advance-2
 slice-aggregate-advance-2 c = search needs
 
--- src/calls.rt:135:9
 advance-requires : tie.Need-advance-requires
 advance-requires c κs = search needs
 
--- src/calls.rt:136:5
 changed-requires : tie.Need-changed-requires
 changed-requires c κs = let a = c .before .before .before .before .before .before .before .before .before .before .args in
     let r = c .before .before .before .advance in
@@ -50,11 +37,9 @@ changed-requires c κs = let a = c .before .before .before .before .before .befo
     (r .ensures .0 ∙ ap₂ (λ (d x : List ℕ). tableStep b (advance (a .log) (a .position) d x) .reply) p q)
     (r .ensures .1 ∙ ap₂ (λ (d x : List ℕ). tableStep b (advance (a .log) (a .position) d x) .state) p q)
 
--- src/calls.rt:129:1
 same-length : tie.Need-same-length
 same-length c = search needs
 
--- src/calls.rt:129:1
 returns : tie.Need-returns
 returns c = let a = c .before .before .before .before .before .before .before .before .before .before .before .args in
     let r = c .before .before .before .before .advance in

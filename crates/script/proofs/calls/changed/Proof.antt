@@ -1,32 +1,25 @@
+-- `script::calls::changed` meets its contract.
 use Rattle.layout.specs.Layout.{readTable}
 use Rattle.a2m.specs.ImageCalls.{rowIn}
 use Rattle.script.specs.Named.{ChangeNamed, changeAnswer}
 use Rattle.a2m.specs.declared.Change.{Change}
-use mathlib.Core.Path.{_≡_, refl, sym, ap, ap₂, subst, _∙_}
+use mathlib.Core.Path.{sym, ap, subst, _∙_}
 use borrow.Author.Needs.{needs}
 use Rattle.script.proofs.calls.changed.Statement.{statement}
 use Rattle.script.proofs.calls.changed.Tie as tie
-use Rattle.script.proofs.calls.changed.Reads as reads
-use Rattle.script.proofs.calls.changed.Lts as lts
-use Rattle.script.proofs.calls.refused.Reads as refused-reads
 
--- src/calls.rt:74:24
 enum-known-change : tie.Need-enum-known-change
 enum-known-change c = search needs
 
--- src/calls.rt:79:25
 enum-known-change-2 : tie.Need-enum-known-change-2
 enum-known-change-2 c = search needs
 
--- src/calls.rt:79:33
 refused-requires : tie.Need-refused-requires
 refused-requires c κs = subst (λ (x : Change). ChangeNamed (c .before .before .before .before .args .table .now) (c .before .before .before .before .args .log) x) (c .before .change2 .given .1) (c .before .before .before .before .pre)
 
--- src/calls.rt:69:1
 returns : tie.Need-returns
 returns c = ap (λ (x : Change). changeAnswer x (rowIn (readTable (c .before .before .before .before .args .table .now)) (c .before .before .before .before .args .log))) (sym (c .before .change .given .1))
 
--- src/calls.rt:69:1
 returns-2 : tie.Need-returns-2
 returns-2 c = c .refused .ensures ∙ ap (λ (x : Change). changeAnswer x (rowIn (readTable (c .before .before .before .before .before .args .table .now)) (c .before .before .before .before .before .args .log))) (sym (c .before .before .change2 .given .1))
 

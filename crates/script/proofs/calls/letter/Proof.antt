@@ -1,23 +1,17 @@
+-- `script::calls::letter` meets its contract.
 use Rattle.script.proofs.AnswerLaws.{letter-u, letter-a, letter-s, letter-f}
-use borrow.Author.Needs.{needs}
 use Rattle.script.proofs.calls.letter.Statement.{statement}
 use Rattle.script.proofs.calls.letter.Tie as tie
-use Rattle.script.proofs.calls.letter.Reads as reads
-use Rattle.script.proofs.calls.letter.Lts as lts
 
--- src/calls.rt:88:9
 returns : tie.Need-returns
 returns c = letter-u (c .before .args .kind) (c .if1 .taken)
 
--- src/calls.rt:91:9
 returns-2 : tie.Need-returns-2
 returns-2 c = letter-a (c .before .before .args .kind) (c .before .if1 .left) (c .if2 .taken)
 
--- src/calls.rt:94:9
 returns-3 : tie.Need-returns-3
 returns-3 c = letter-s (c .before .before .before .args .kind) (c .before .before .if1 .left) (c .before .if2 .left) (c .if3 .taken)
 
--- src/calls.rt:84:1
 returns-4 : tie.Need-returns-4
 returns-4 c = letter-f (c .before .before .before .args .kind) (c .before .before .if1 .left) (c .before .if2 .left) (c .if3 .left)
 

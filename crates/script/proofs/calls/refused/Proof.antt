@@ -1,3 +1,4 @@
+-- `script::calls::refused` meets its contract.
 use Prim.Native.Nat.{ℕ}
 use Rattle.script.specs.declared.Answer.the-variants.{Bounded}
 use Rattle.script.specs.Answer.{replyAnswer}
@@ -6,44 +7,32 @@ use Rattle.layout.specs.Layout.{readTable}
 use Rattle.a2m.specs.ImageCalls.{rowIn}
 use Rattle.a2m.specs.Call.{refused}
 use Rattle.refusal.specs.Number.{numberOf}
-use native.Mathlib.Omega.{arith}
 use Rattle.script.proofs.AnswerLaws.{plain-torn, plain-no-log, bounded}
-use mathlib.Core.Path.{_≡_, refl, sym, ap, ap₂, subst, _∙_}
+use mathlib.Core.Path.{_≡_, ap, _∙_}
 use borrow.Author.Needs.{needs}
 use Rattle.script.proofs.calls.refused.Statement.{statement}
 use Rattle.script.proofs.calls.refused.Tie as tie
-use Rattle.script.proofs.calls.refused.Reads as reads
-use Rattle.script.proofs.calls.refused.Lts as lts
-use Rattle.octets.proofs.wide.Reads as wide-reads
-use Rattle.refusal.proofs.Refusal.number.Reads as number-reads
-use Rattle.script.proofs.calls.row_of.Reads as row-of-reads
 
--- src/calls.rt:53:31
 number-requires : tie.Need-number-requires
 number-requires c κs = search needs
 
--- src/calls.rt:53:9
 wide-requires : tie.Need-wide-requires
 wide-requires c κs = search needs
 
--- src/calls.rt:55:9
 returns : tie.Need-returns
 returns c = let e : c .before .wide .result ≡ numberOf (c .before .before .before .before .args .why) = c .before .wide .ensures .0 ∙ c .before .before .number .ensures in
     let row = rowIn (readTable (c .before .before .before .before .args .table .now)) (c .before .before .before .before .args .log) in
     plain-torn (c .before .wide .result) row (c .if1 .taken) ∙ ap (λ (k : ℕ). replyAnswer (refused k) row) e
 
--- src/calls.rt:58:9
 returns-2 : tie.Need-returns-2
 returns-2 c = let e : c .before .before .wide .result ≡ numberOf (c .before .before .before .before .before .args .why) = c .before .before .wide .ensures .0 ∙ c .before .before .before .number .ensures in
     let row = rowIn (readTable (c .before .before .before .before .before .args .table .now)) (c .before .before .before .before .before .args .log) in
     plain-no-log (c .before .before .wide .result) row (c .before .if1 .left) (c .if2 .taken) ∙ ap (λ (k : ℕ). replyAnswer (refused k) row) e
 
--- src/calls.rt:60:9
 row-of-requires : tie.Need-row-of-requires
 row-of-requires c κs = let e : c .before .before .wide .result ≡ numberOf (c .before .before .before .before .before .args .why) = c .before .before .wide .ensures .0 ∙ c .before .before .before .number .ensures in
     c .before .before .before .before .before .pre (λ h. c .before .if1 .left (e ∙ h)) (λ h. c .if2 .left (e ∙ h))
 
--- src/calls.rt:49:1
 returns-3 : tie.Need-returns-3
 returns-3 c = let e : c .before .before .before .wide .result ≡ numberOf (c .before .before .before .before .before .before .args .why) = c .before .before .before .wide .ensures .0 ∙ c .before .before .before .before .number .ensures in
     let row = rowIn (readTable (c .before .before .before .before .before .before .args .table .now)) (c .before .before .before .before .before .before .args .log) in

@@ -1,33 +1,26 @@
+-- `script::lines::cells` meets its contract.
 use Rattle.script.specs.Script.{cellsOf}
 use Rattle.script.specs.declared.Answer.{Answer}
-use mathlib.Core.Path.{_≡_, refl, sym, ap, ap₂, subst, _∙_}
+use mathlib.Core.Path.{sym, ap}
 use borrow.Author.Needs.{needs}
 use Rattle.script.proofs.lines.cells.Statement.{statement}
 use Rattle.script.proofs.lines.cells.Tie as tie
-use Rattle.script.proofs.lines.cells.Reads as reads
-use Rattle.script.proofs.lines.cells.Lts as lts
 
--- src/lines.rt:19:23
 enum-known-answer : tie.Need-enum-known-answer
 enum-known-answer c = search needs
 
--- src/lines.rt:21:21
 enum-known-answer-2 : tie.Need-enum-known-answer-2
 enum-known-answer-2 c = search needs
 
--- src/lines.rt:26:13
 enum-known-answer-3 : tie.Need-enum-known-answer-3
 enum-known-answer-3 c = search needs
 
--- src/lines.rt:13:1
 returns : tie.Need-returns
 returns c = ap (λ (x : Answer). cellsOf (c .before .before .before .args .line) x) (sym (c .before .answer .given .1))
 
--- src/lines.rt:13:1
 returns-2 : tie.Need-returns-2
 returns-2 c = ap (λ (x : Answer). cellsOf (c .before .before .before .args .line) x) (sym (c .before .answer2 .given .1))
 
--- src/lines.rt:13:1
 returns-3 : tie.Need-returns-3
 returns-3 c = ap (λ (x : Answer). cellsOf (c .before .before .before .args .line) x) (sym (c .before .answer3 .given .1))
 

@@ -1,21 +1,15 @@
-use Prim.Native.Nat.{_<_}
-use mathlib.Core.Logic.{_≢_}
-use Prim.Native.Nat.{ℕ, _+_, _-_, _≤_}
+-- `script::pieces::feed` meets its contract.
+use Prim.Native.Nat.{_<_, _-_}
+use mathlib.Core.Logic.{_≢_, inl, inr}
 use lib.ListN.{length}
-use Rattle.script.specs.Stream.{Reading, Feeds}
-use Rattle.script.proofs.Reading.{state, reading-none, reading-part, reading-line}
-use mathlib.Core.Logic.{inl, inr}
+use Rattle.script.specs.Stream.{Reading}
+use Rattle.script.proofs.Reading.{reading-none, reading-part, reading-line}
 use lib.Seq.{length-take-le}
 use native.Mathlib.Omega.{arith}
-use mathlib.Core.Path.{_≡_, refl, sym, ap, ap₂, subst, _∙_}
+use mathlib.Core.Path.{sym}
 use borrow.Author.Needs.{needs}
 use Rattle.script.proofs.pieces.feed.Statement.{statement}
 use Rattle.script.proofs.pieces.feed.Tie as tie
-use Rattle.script.proofs.pieces.feed.Reads as reads
-use Rattle.script.proofs.pieces.feed.Lts as lts
-use Rattle.line.proofs.find.Reads as find-reads
-use Rattle.script.proofs.lines.answer_line.Reads as answer-line-reads
-use Rattle.script.proofs.pieces.keep.Reads as keep-reads
 
 abbrev Inv-loop : tie.InvT-loop
 Inv-loop text buffer₀ held₀ out₀ s₀ buffer held out s = Reading text buffer₀ held₀ out₀ s₀ buffer held out s
@@ -23,63 +17,48 @@ Inv-loop text buffer₀ held₀ out₀ s₀ buffer held out s = Reading text buf
 abbrev μ-loop : tie.MeasureT-loop
 μ-loop text buffer₀ held₀ out₀ s₀ buffer held out s = length text - s .at
 
--- src/pieces.rt:38:5
 loop-holds : tie.Need-loop-holds Inv-loop μ-loop
 loop-holds c = let a = c .before .before .before .before .args in reading-none (a .text .now) (a .buffer .now) (a .held .now) (a .out .now) (a .p) (omega arith) (omega arith) (omega arith) (omega arith) (omega arith) (omega arith)
 
--- src/pieces.rt:39:12
 sub-if2 : tie.Need-sub-if2 Inv-loop μ-loop
 sub-if2 c = search needs
 
--- src/pieces.rt:40:13
 same-length : tie.Need-same-length Inv-loop μ-loop
 same-length c = search needs
 
--- src/pieces.rt:40:13
 same-length-2 : tie.Need-same-length-2 Inv-loop μ-loop
 same-length-2 c = search needs
 
--- src/pieces.rt:40:13
 same-length-3 : tie.Need-same-length-3 Inv-loop μ-loop
 same-length-3 c = search needs
 
--- src/pieces.rt:40:13
 returns : tie.Need-returns Inv-loop μ-loop
 returns c = record { read = c .before .before .before .before .loop .inv; done = inr (omega arith) }
 
--- src/pieces.rt:43:13
 find-requires : tie.Need-find-requires Inv-loop μ-loop
 find-requires c κs = search needs
 
--- src/pieces.rt:44:39
 sub-keep : tie.Need-sub-keep Inv-loop μ-loop
 sub-keep c = search needs
 
--- src/pieces.rt:44:39
 part-keep-start : tie.Need-part-keep-start Inv-loop μ-loop
 part-keep-start c = search needs
 
--- src/pieces.rt:44:39
 part-keep-end : tie.Need-part-keep-end Inv-loop μ-loop
 part-keep-end c = search needs
 
--- src/pieces.rt:44:13
 keep-requires : tie.Need-keep-requires Inv-loop μ-loop
 keep-requires c κs = search needs
 
--- src/pieces.rt:46:13
 same-length-4 : tie.Need-same-length-4 Inv-loop μ-loop
 same-length-4 c = search needs
 
--- src/pieces.rt:46:13
 same-length-5 : tie.Need-same-length-5 Inv-loop μ-loop
 same-length-5 c = search needs
 
--- src/pieces.rt:46:13
 same-length-6 : tie.Need-same-length-6 Inv-loop μ-loop
 same-length-6 c = search needs
 
--- src/pieces.rt:46:13
 returns-2 : tie.Need-returns-2 Inv-loop μ-loop
 returns-2 c = let a = c .before .before .before .before .before .before .before .before .before .before .before .before .before .before .before .before .args in
     let l = c .before .before .before .before .before .before .before .before .before .before .before .loop in
@@ -89,31 +68,24 @@ returns-2 c = let a = c .before .before .before .before .before .before .before 
       done = inl (c .if3 .taken);
     }
 
--- src/pieces.rt:54:69
 slice-reshare-prefix-answer-line : tie.Need-slice-reshare-prefix-answer-line Inv-loop μ-loop
 slice-reshare-prefix-answer-line c = search needs
 
--- src/pieces.rt:54:69
 slice-aggregate-answer-line : tie.Need-slice-aggregate-answer-line Inv-loop μ-loop
 slice-aggregate-answer-line c = sym (length-take-le (c .before .before .before .before .before .before .keep .result) (c .before .before .before .before .before .before .keep .last .0) (omega arith))
 
--- src/pieces.rt:54:13
 answer-line-requires : tie.Need-answer-line-requires Inv-loop μ-loop
 answer-line-requires c κs = search needs
 
--- src/pieces.rt:56:17
 add-t11 : tie.Need-add-t11 Inv-loop μ-loop
 add-t11 c = search needs
 
--- src/pieces.rt:58:21
 add-t25 : tie.Need-add-t25 Inv-loop μ-loop
 add-t25 c = record { fits = omega (arith, c .before .before .before .before .before .before .before .before .before .before .before .before .before .before .before .before .before .before .before .before .loop .inv .few, c .before .before .before .before .before .before .before .before .before .before .before .before .before .before .before .before .before .before .before .before .before .before .before .before .before .pre .1, c .before .before .before .before .before .before .before .before .before .before .before .before .before .before .before .before .before .before .if1 .taken) }
 
--- src/pieces.rt:38:5
 loop-less : tie.Need-loop-less Inv-loop μ-loop
 loop-less c = search needs
 
--- src/pieces.rt:38:5
 loop-again : tie.Need-loop-again Inv-loop μ-loop
 loop-again c = let a = c .before .before .before .before .before .before .before .before .before .before .before .before .before .before .before .before .before .before .before .before .before .before .before .before .before .args in
     let l = c .before .before .before .before .before .before .before .before .before .before .before .before .before .before .before .before .before .before .before .before .loop in
@@ -125,19 +97,15 @@ loop-again c = let a = c .before .before .before .before .before .before .before
     reading-line (a .text .now) (a .buffer .now) (a .held .now) (a .out .now) (a .p) (l .buffer) (l .held) (l .out) (l .s) (l .inv) (f .result) (f .ensures .0) (k .last .0) (k .result) (k .ensures) more
     (n .last .0) (n .last .1 .1 .0) (n .result .size) (n .result .to) (omega (arith, c .before .before .before .before .before .before .before .before .before .before .before .before .before .before .before .before .if2 .left)) (n .ensures .1 .0) (n .ensures .1 .1 .1) (n .ensures .0 .0) (n .ensures .0 .1) (n .ensures .1 .1 .0)
 
--- src/pieces.rt:32:1
 same-length-7 : tie.Need-same-length-7 Inv-loop μ-loop
 same-length-7 c = search needs
 
--- src/pieces.rt:32:1
 same-length-8 : tie.Need-same-length-8 Inv-loop μ-loop
 same-length-8 c = search needs
 
--- src/pieces.rt:32:1
 same-length-9 : tie.Need-same-length-9 Inv-loop μ-loop
 same-length-9 c = search needs
 
--- src/pieces.rt:32:1
 returns-3 : tie.Need-returns-3 Inv-loop μ-loop
 returns-3 c = record { read = c .before .before .loop .inv; done = inl (omega arith) }
 

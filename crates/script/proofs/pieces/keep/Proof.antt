@@ -1,17 +1,15 @@
+-- `script::pieces::keep` meets its contract.
 use Rattle.script.proofs.StreamLaws.{kept-bytes}
 use native.Mathlib.Numerals.{add-one}
 use lib.Seq.{paste, paste-zero, paste-suc, take-paste, length-take-le}
 use lib.ListN.{length, take, set, length-set, getD}
-use mathlib.Core.List.{List, _++_}
-use Prim.Native.Nat.{ℕ, suc, _+_, _-_, _≤_}
+use mathlib.Core.List.{List}
+use Prim.Native.Nat.{ℕ, _+_, _-_, _≤_}
 use native.Mathlib.Omega.{arith}
-use mathlib.Core.Path.{_≡_, refl, sym, ap, ap₂, _∙_, subst}
+use mathlib.Core.Path.{_≡_, refl, sym, ap, _∙_}
 use borrow.Author.Needs.{needs}
 use Rattle.script.proofs.pieces.keep.Statement.{statement}
 use Rattle.script.proofs.pieces.keep.Tie as tie
-use Rattle.script.proofs.pieces.keep.Reads as reads
-use Rattle.script.proofs.pieces.keep.Lts as lts
-use Rattle.script.proofs.pieces.least.Reads as least-reads
 
 abbrev Inv-loop : tie.InvT-loop
 Inv-loop held₀ kept part n i₀ held i = (i ≤ n) × (held ≡ paste held₀ kept part i) × (length held ≡ length held₀)
@@ -19,39 +17,30 @@ Inv-loop held₀ kept part n i₀ held i = (i ≤ n) × (held ≡ paste held₀ 
 abbrev μ-loop : tie.MeasureT-loop
 μ-loop held₀ kept part n i₀ held i = n - i
 
--- src/pieces.rt:24:31
 sub-least : tie.Need-sub-least Inv-loop μ-loop
 sub-least c = search needs
 
--- src/pieces.rt:24:9
 least-requires : tie.Need-least-requires Inv-loop μ-loop
 least-requires c κs = search needs
 
--- src/pieces.rt:26:5
 loop-holds : tie.Need-loop-holds Inv-loop μ-loop
 loop-holds c = (omega arith, paste-zero (c .before .before .before .args .held .now) (c .before .before .before .args .kept) (c .before .before .before .args .part .now), refl)
 
--- src/pieces.rt:27:26
 shared-slice-read-held : tie.Need-shared-slice-read-held Inv-loop μ-loop
 shared-slice-read-held c = search needs
 
--- src/pieces.rt:27:14
 add-held : tie.Need-add-held Inv-loop μ-loop
 add-held c = search needs
 
--- src/pieces.rt:27:9
 slice-write-held : tie.Need-slice-write-held Inv-loop μ-loop
 slice-write-held c = search needs
 
--- src/pieces.rt:28:9
 add-i : tie.Need-add-i Inv-loop μ-loop
 add-i c = search needs
 
--- src/pieces.rt:26:5
 loop-less : tie.Need-loop-less Inv-loop μ-loop
 loop-less c = search needs
 
--- src/pieces.rt:26:5
 loop-again : tie.Need-loop-again Inv-loop μ-loop
 loop-again c =
     let a = c .before .before .before .before .before .before .args in
@@ -63,15 +52,12 @@ loop-again c =
       simp length-set (l .inv .2),
     )
 
--- src/pieces.rt:30:5
 add-result : tie.Need-add-result Inv-loop μ-loop
 add-result c = search needs
 
--- src/pieces.rt:20:1
 same-length : tie.Need-same-length Inv-loop μ-loop
 same-length c = search needs
 
--- src/pieces.rt:20:1
 returns : tie.Need-returns Inv-loop μ-loop
 returns c =
     let a = c .before .before .before .before .before .args in

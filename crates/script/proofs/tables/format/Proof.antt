@@ -1,95 +1,92 @@
-use Prim.Native.Nat.{ℕ}
-use Rattle.layout.specs.Layout.{tableSize}
-use lib.Seq.{length-take-le}
-use borrow.Author.Tests.{not-false}
+-- `script::tables::format` meets its contract.
+use Rattle.refusal.specs.Number.{numberOf, outcomeNumber}
 use Rattle.octets.specs.Octets.{zeros}
 use Prim.Native.Nat.{_≤_}
-use lib.ListN.{length}
-use Rattle.script.proofs.TurnLaws.{counts-most, format-counts, format-refused, format-done, lent-size}
+use Rattle.script.proofs.TurnLaws.{many-logs, many-slots, format-counts, format-done, format-refused, refusal-positive}
 use native.Mathlib.Omega.{arith}
-use mathlib.Core.Path.{_≡_, refl, sym, ap, ap₂, subst, _∙_}
+use mathlib.Core.Path.{_≡_, sym, ap, _∙_}
 use borrow.Author.Needs.{needs}
 use Rattle.script.proofs.tables.format.Statement.{statement}
 use Rattle.script.proofs.tables.format.Tie as tie
-use Rattle.script.proofs.tables.format.Reads as reads
-use Rattle.script.proofs.tables.format.Lts as lts
-use Rattle.layout.proofs.places.table_size.Reads as table-size-reads
-use Rattle.octets.proofs.wide.Reads as wide-reads
-use Rattle.refusal.proofs.Outcome.number.Reads as number-reads
-use Rattle.table.proofs.format.format.Reads as format-reads
-use Rattle.table.proofs.whole.in_range.Reads as in-range-reads
 
--- src/tables.rt:23:9
-in-range-requires : tie.Need-in-range-requires
-in-range-requires c κs = search needs
-
--- src/tables.rt:24:9
 returns : tie.Need-returns
-returns c = let a = c .before .before .before .args in format-refused (a .buffer .now) (a .size) (a .logs) (a .slots) (a .keeper) (omega arith) (omega arith) (format-counts (c .before .in-range .result) (a .logs) (a .slots) (c .before .in-range .ensures) (c .if1 .taken))
+returns c = let a = c .before .before .args in format-counts (a .buffer .now) (a .size) (a .logs) (a .slots) (a .keeper) (omega arith) (omega arith) (many-logs (a .logs) (a .slots) (omega arith))
 
--- src/tables.rt:29:9
+returns-2 : tie.Need-returns-2
+returns-2 c = let a = c .before .before .before .args in format-counts (a .buffer .now) (a .size) (a .logs) (a .slots) (a .keeper) (omega arith) (omega arith) (many-slots (a .logs) (a .slots) (omega arith))
+
 table-size-requires : tie.Need-table-size-requires
-table-size-requires c κs = counts-most (c .before .in-range .result) (c .before .before .before .args .logs) (c .before .before .before .args .slots) (c .before .in-range .ensures) (c .if1 .left)
+table-size-requires c κs = search needs
 
--- src/tables.rt:31:41
 sub-format : tie.Need-sub-format
 sub-format c = search needs
 
--- src/tables.rt:31:41
 part-format-start : tie.Need-part-format-start
 part-format-start c = search needs
 
--- src/tables.rt:31:41
 part-format-end : tie.Need-part-format-end
-part-format-end c = let m = counts-most (c .before .before .in-range .result) (c .before .before .before .before .args .logs) (c .before .before .before .before .args .slots) (c .before .before .in-range .ensures) (c .before .if1 .left) in
-    let h : c .table-size .result ≤ length (c .before .before .before .before .args .buffer .now) = omega (arith, c .table-size .ensures, m .0, m .1) in
-    search needs
+part-format-end c = search needs
 
--- src/tables.rt:31:81
 slice-aggregate-format : tie.Need-slice-aggregate-format
 slice-aggregate-format c = search needs
 
--- src/tables.rt:31:9
 format-requires : tie.Need-format-requires
 format-requires c κs = search needs
 
--- src/tables.rt:33:44
+enum-told : tie.Need-enum-told
+enum-told c = search needs
+
+enum-known-outcome : tie.Need-enum-known-outcome
+enum-known-outcome c = search needs
+
 number-requires : tie.Need-number-requires
 number-requires c κs = search needs
 
--- src/tables.rt:33:31
 wide-requires : tie.Need-wide-requires
 wide-requires c κs = search needs
 
--- src/tables.rt:19:1
 same-length : tie.Need-same-length
 same-length c = search needs
 
--- src/tables.rt:19:1
-returns-2 : tie.Need-returns-2
+returns-3 : tie.Need-returns-3
 unfolding zeros
-returns-2 c = let a = c .before .before .before .before .before .before .before .before .before .before .before .args in
+returns-3 c = let a = c .before .before .before .before .before .before .before .before .before .before .before .args in
     let n = c .before .before .before .before .before .before .before .table-size .result in
     let f = c .before .before .before .before .format in
-    let m = counts-most (c .before .before .before .before .before .before .before .before .before .in-range .result) (a .logs) (a .slots) (c .before .before .before .before .before .before .before .before .before .in-range .ensures) (c .before .before .before .before .before .before .before .before .if1 .left) in
-    let k : n ≤ 61172 = omega (arith, c .before .before .before .before .before .before .before .table-size .ensures, m .0, m .1) in
-    let b = lent-size (a .buffer .now) n (omega arith) in
-    format-done (a .buffer .now) _ (f .last .0) (a .size) n (a .logs) (a .slots) (a .keeper) (c .wide .result) (sym (c .before .before .before .before .before .before .before .before .before .in-range .ensures) ∙ not-false (c .before .before .before .before .before .before .before .before .before .in-range .result) (c .before .before .before .before .before .before .before .before .if1 .left)) (c .before .before .before .before .before .before .before .table-size .ensures) k b (f .kept .0 ∙ b)
-    (c .wide .ensures .0 ∙ c .before .number .ensures ∙ f .ensures .0) (f .ensures .1)
+    let k : n ≤ 61172 = omega (arith, c .before .before .before .before .before .before .before .table-size .ensures) in
+    format-done (a .buffer .now) (f .last .0) (a .size) n (a .logs) (a .slots) (a .keeper) (c .before .before .before .before .before .before .before .table-size .ensures) (omega arith) k (f .kept .0) (f .ensures .1)
+    (ap outcomeNumber (sym (c .enum-told .given .1)) ∙ f .ensures .0)
+
+same-length-2 : tie.Need-same-length-2
+same-length-2 c = search needs
+
+returns-4 : tie.Need-returns-4
+unfolding zeros
+returns-4 c = let a = c .before .before .before .before .before .before .before .before .before .before .before .before .before .before .args in
+    let n = c .before .before .before .before .before .before .before .before .before .before .table-size .result in
+    let f = c .before .before .before .before .before .before .before .format in
+    let k : n ≤ 61172 = omega (arith, c .before .before .before .before .before .before .before .before .before .before .table-size .ensures) in
+    let e : c .wide .result ≡ numberOf (c .before .before .before .outcome .given .0 .0) = c .wide .ensures .0 ∙ c .before .number .ensures in
+    format-refused (a .buffer .now) (f .last .0) (a .size) n (a .logs) (a .slots) (a .keeper) (c .before .before .before .before .before .before .before .before .before .before .table-size .ensures) (omega arith) k (f .kept .0) (f .ensures .1)
+    (c .wide .result) (omega (arith, refusal-positive (c .before .before .before .outcome .given .0 .0))) (omega arith) (omega arith) (e ∙ ap outcomeNumber (sym (c .before .before .before .outcome .given .1)) ∙ f .ensures .0)
 
 pub format-spec : {M : Type 1} → statement M
 format-spec =
     tie.close
     (tie.spec
-    in-range-requires
     returns
+    returns-2
     table-size-requires
     sub-format
     part-format-start
     part-format-end
     slice-aggregate-format
     format-requires
+    enum-told
+    enum-known-outcome
     number-requires
     wide-requires
     same-length
-    returns-2)
+    returns-3
+    same-length-2
+    returns-4)
