@@ -24,6 +24,7 @@ decimalOf n = decimalFrom 19 n
 abbrev pub isDigit : ℕ → Bool
 isDigit b = leb 48 b && leb b 57
 
+-- nothing else
 unfoldable pub allDigits : List ℕ → Bool
 allDigits [] = true
 allDigits (b ∷ l) = isDigit b && allDigits l
@@ -33,6 +34,7 @@ unfoldable pub valueAfter : ℕ → List ℕ → ℕ
 valueAfter v [] = v
 valueAfter v (b ∷ l) = valueAfter (v * 10 + (b - 48)) l
 
+-- the number that digits make
 abbrev pub valueOf : List ℕ → ℕ
 valueOf l = valueAfter 0 l
 

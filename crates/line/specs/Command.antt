@@ -38,10 +38,12 @@ made word.Lookup ns = taking 2 ns (Lookup (getD ns 0 0) (getD ns 1 0))
 made word.End ns = taking 1 ns (End (getD ns 0 0))
 made word.Unknown ns = Malformed
 
+-- the command of a word and of numbers, if they are
 abbrev pub ofNumbers : Word → Option (List ℕ) → Command
 ofNumbers w none = Malformed
 ofNumbers w (some ns) = made w ns
 
+-- the first field is the word, the others are its numbers
 abbrev pub ofFields : List (List ℕ) → Command
 ofFields [] = Malformed
 ofFields (w ∷ fs) = ofNumbers (wordOf w) (numbersOf fs)

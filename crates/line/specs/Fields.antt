@@ -22,6 +22,7 @@ partsOf mark (b ∷ l) = cond (eqb b mark) ([] ∷ partsOf mark l) (onFirst b (p
 abbrev pub fieldsOf : List ℕ → List (List ℕ)
 fieldsOf l = partsOf 44 l
 
+-- a number before others, if all are numbers
 abbrev pub before : Number → Option (List ℕ) → Option (List ℕ)
 before (Value v) (some ns) = some (v ∷ ns)
 before (Value v) none = none

@@ -19,6 +19,7 @@ use Rattle.script.specs.Answer.{replyAnswer}
 abbrev pub Named : List ℕ → ℕ → ℕ → Type 0
 Named b g k = k ≢ 1 → k ≢ 2 → (whole b ≡ true) × (g < logsOf b)
 
+-- the same of a change that was refused
 abbrev pub ChangeNamed : List ℕ → ℕ → Change → Type 0
 ChangeNamed b g (change.Done low high) = Unit {0}
 ChangeNamed b g (change.Refused why) = Named b g (numberOf why)

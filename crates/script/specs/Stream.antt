@@ -18,6 +18,7 @@ abbrev pub lastLine : List ℕ → List (List ℕ)
 lastLine [] = []
 lastLine (b ∷ l) = (b ∷ l) ∷ []
 
+-- the parts that newlines end, and the last line
 abbrev pub endedLines : List (List ℕ) → List (List ℕ)
 endedLines [] = []
 endedLines (p ∷ []) = lastLine p
@@ -34,6 +35,7 @@ answersOf table n (l ∷ ls) = answerText table n l ++ answersOf (tableAfter tab
 
 -- ---- in pieces: of an unfinished line the first 201 bytes are held, since a line of more than 200 is no command
 
+-- the bytes of a line that are held
 abbrev pub cut : List ℕ → List ℕ
 cut l = take 201 l
 
