@@ -1,0 +1,145 @@
+/* The keeper: an attested append-only memory. Link with libkeeper's archive, libcapi.a (see README.md, "From C").
+ *
+ * What every function keeps:
+ * - It returns a number of document 01: 0 done, or one of the KEEPER_ refusals below. Where several fit, the order given at
+ *   the function decides.
+ * - A refusal changes nothing: no byte of a lent buffer and no result. Results are written when 0 is returned, and only then.
+ * - It keeps no pointer, allocates nothing and has no state of its own: all that goes from call to call is the table.
+ *
+ * What every function asks:
+ * - A pointer is not null, also where the length beside it is 0; the bytes from it on, as many as the length says, can be
+ *   read, and written unless they are const; the length is below 2^63.
+ * - Buffers and results that are written overlap nothing else that is lent to the same call, and nobody else touches them
+ *   meanwhile.
+ */
+#ifndef KEEPER_H
+#define KEEPER_H
+
+#include <stddef.h>
+#include <stdint.h>
+
+#ifdef __cplusplus
+extern "C" {
+#endif
+
+/* Numbers returned. */
+enum {
+    KEEPER_DONE = 0,            /* none below applies */
+    KEEPER_TORN = 1,            /* the table is not whole */
+    KEEPER_NO_LOG = 2,          /* the table has no such log */
+    KEEPER_POSITION = 3,        /* lookup of 0; advance to H or below; truncate outside L < n <= H */
+    KEEPER_SPENT = 4,           /* append to a log whose H is 2^64 - 1 */
+    KEEPER_FULL = 5,            /* append or advance, and no slot is free */
+    KEEPER_NOTHING_HELD = 6,    /* end of a fresh log */
+    KEEPER_LENGTH = 7,          /* a buffer of another length than its own, or a message longer than FIPS 180-4 allows */
+    KEEPER_COUNTS = 8,          /* format with a log or slot count out of range */
+    KEEPER_NO_RECEIPT = 9,      /* not 160 bytes or no possible entry; a certificate that is not 0 to 32 whole receipts */
+    KEEPER_TAG = 10,            /* the tag is wrong */
+    KEEPER_OTHER_QUESTION = 11, /* the receipt answers another question */
+    KEEPER_ROSTER = 12,         /* no roster */
+    KEEPER_TOO_FEW = 13,        /* no pair of value and digest is certified */
+    KEEPER_NO_RUN = 14          /* no values, not a multiple of 32 bytes, first position 0, or last beyond 2^64 - 1 */
+};
+
+/* Lengths of buffers, in bytes. */
+enum {
+    KEEPER_KEY_BYTES = 32,
+    KEEPER_VALUE_BYTES = 32,
+    KEEPER_DIGEST_BYTES = 32,
+    KEEPER_NONCE_BYTES = 32,
+    KEEPER_RECEIPT_BYTES = 160,
+    KEEPER_COLLISION_BYTES = 144,
+    KEEPER_MEMBER_BYTES = 40 /* an item of a roster: keeper number, big-endian, and key */
+};
+
+/* The bytes of a table of so many logs (1 to 16) and slots (1 to 800). */
+#define KEEPER_TABLE_BYTES(logs, slots) ((size_t)52 + (size_t)20 * (logs) + (size_t)76 * (slots))
+
+/* A receipt's kind. */
+enum { KEEPER_UNASSIGNED = 0, KEEPER_ASSIGNED = 1, KEEPER_SKIPPED = 2, KEEPER_FORGOTTEN = 3 };
+
+/* What a comparison of runs finds. */
+enum { KEEPER_DIFFER = 0, KEEPER_AGREE = 1, KEEPER_COLLISION = 2 };
+
+/* What an accepted receipt says. */
+typedef struct {
+    uint64_t keeper;
+    uint64_t log;
+    uint64_t position;
+    uint64_t kind;
+    uint64_t reference;
+} keeper_verdict;
+
+/* SHA-256 of a message, into 32 bytes. Refused: 7 for another length of digest, or a message of 2^61 bytes or more. */
+uint8_t keeper_hash(const uint8_t *message, size_t message_bytes, uint8_t *digest, size_t digest_bytes);
+
+/* HMAC-SHA-256 of a text under a key of any length, into 32 bytes. Refused: 7 for another length of tag, or a key or text
+ * that is too long to hash (the text with HMAC's pad block of 64 bytes before it). */
+uint8_t keeper_tag(const uint8_t *key, size_t key_bytes, const uint8_t *text, size_t text_bytes, uint8_t *tag,
+                   size_t tag_bytes);
+
+/* Writes a table of fresh logs and free slots over all of the buffer, which has KEEPER_TABLE_BYTES(logs, slots) bytes.
+ * Refused, in this order: 8 unless 1 <= logs <= 16 and 1 <= slots <= 800; 7 for another length of table, or a key of
+ * another length than 32. */
+uint8_t keeper_format(uint8_t *table, size_t table_bytes, uint64_t logs, uint64_t slots, uint64_t keeper,
+                      const uint8_t *key, size_t key_bytes);
+
+/* Whether the table is whole: 0, or refused with 1. */
+uint8_t keeper_check(const uint8_t *table, size_t table_bytes);
+
+/* Puts a value of 32 bytes at the log's next position; low and high become the log's lowest and highest position after it.
+ * Refused, in this order: 7 the value's length; 1; 2; 4; 5. */
+uint8_t keeper_append(uint8_t *table, size_t table_bytes, uint64_t log, const uint8_t *value, size_t value_bytes,
+                      uint64_t *low, uint64_t *high);
+
+/* Puts a value at a position above the log's highest, chained to the given digest; positions between become skipped.
+ * Refused, in this order: 7 the digest's or value's length; 1; 2; 3 unless position > H; 5. */
+uint8_t keeper_advance(uint8_t *table, size_t table_bytes, uint64_t log, uint64_t position, const uint8_t *digest,
+                       size_t digest_bytes, const uint8_t *value, size_t value_bytes, uint64_t *low, uint64_t *high);
+
+/* Forgets the log's entries below a position, and frees their slots. Refused, in this order: 1; 2; 3 unless
+ * L < position <= H. */
+uint8_t keeper_truncate(uint8_t *table, size_t table_bytes, uint64_t log, uint64_t position, uint64_t *low,
+                        uint64_t *high);
+
+/* Writes a receipt of 160 bytes on what stands at a position; examined becomes the number of held entries looked at.
+ * Refused, in this order: 7 the nonce's or receipt's length; 1; 2; 3 for position 0. */
+uint8_t keeper_lookup(const uint8_t *table, size_t table_bytes, uint64_t log, uint64_t position, const uint8_t *nonce,
+                      size_t nonce_bytes, uint8_t *receipt, size_t receipt_bytes, uint64_t *examined);
+
+/* Writes a receipt of 160 bytes on the log's last entry. Refused, in this order: 7 the nonce's or receipt's length; 1; 2;
+ * 6 for a log without an entry. */
+uint8_t keeper_end(const uint8_t *table, size_t table_bytes, uint64_t log, const uint8_t *nonce, size_t nonce_bytes,
+                   uint8_t *receipt, size_t receipt_bytes);
+
+/* Whether a receipt answers the question for a position of a keeper's log, with this nonce, under this key; verdict becomes
+ * what it says. Refused, in this order: 7 the key's or nonce's length; 9 also for another length of receipt; 10; 11. */
+uint8_t keeper_verify_lookup(const uint8_t *key, size_t key_bytes, const uint8_t *receipt, size_t receipt_bytes,
+                             const uint8_t *nonce, size_t nonce_bytes, uint64_t keeper, uint64_t log, uint64_t position,
+                             keeper_verdict *verdict);
+
+/* The same for the question for a log's end, which names no position. */
+uint8_t keeper_verify_end(const uint8_t *key, size_t key_bytes, const uint8_t *receipt, size_t receipt_bytes,
+                          const uint8_t *nonce, size_t nonce_bytes, uint64_t keeper, uint64_t log,
+                          keeper_verdict *verdict);
+
+/* Whether a certificate, 0 to 32 receipts on end, certifies a value and digest at a position of a log for a roster. place
+ * becomes the place, from 0, of the first good receipt that shows the certified pair, and mask the members whose good
+ * receipts show it, the lowest bit for the roster's first. Refused, in this order: 7 the nonce's length; 12; 9; 13. */
+uint8_t keeper_certify(const uint8_t *roster, size_t roster_bytes, const uint8_t *nonce, size_t nonce_bytes, uint64_t log,
+                       uint64_t position, const uint8_t *certificate, size_t certificate_bytes, uint64_t *place,
+                       uint32_t *mask);
+
+/* Compares two runs, each a start digest, a first position and values of 32 bytes; verdict becomes what it finds. Only a
+ * collision writes the buffer of 144 bytes: the first run's block of the unequal pair nearest the ends, then the second's.
+ * Refused, in this order: 7 for another length of a start digest or the buffer; 14. */
+uint8_t keeper_compare(const uint8_t *start1, size_t start1_bytes, uint64_t first1, const uint8_t *values1,
+                       size_t values1_bytes, const uint8_t *start2, size_t start2_bytes, uint64_t first2,
+                       const uint8_t *values2, size_t values2_bytes, uint8_t *collision, size_t collision_bytes,
+                       uint8_t *verdict);
+
+#ifdef __cplusplus
+}
+#endif
+
+#endif
