@@ -10,46 +10,24 @@ use a2m::end::end;
 use a2m::lookup::lookup;
 use a2m::truncate::truncate;
 use bigendian::put_u64;
-use libc::STDOUT_FILENO;
-use octets::wide;
+use printing::hex;
+use printing::text;
 use refusal::Outcome;
 use table::format::format;
 
 const LAST: u64 = 0xffff_ffff_ffff_ffff;
 
-fn say(text: &[u8]) {
-    io::write_all(STDOUT_FILENO, text);
-}
-
-// The hexadecimal digit of a number below 16.
-fn digit(n: u64) -> u8 {
-    if n < 10 {
-        return (48 + n) as u8;
-    }
-    ((87 + n % 16) % 256) as u8
-}
-
-fn hex(bytes: &[u8]) {
-    let mut i = 0;
-    while i < bytes.len() {
-        let b = wide(bytes[i]);
-        let text = [digit(b / 16), digit(b % 16)];
-        io::write_all(STDOUT_FILENO, &text);
-        i += 1;
-    }
-}
-
 fn number(n: u64) {
     let mut bytes = [0u8; 8];
     put_u64(&mut bytes, 0, n);
-    say(b" ");
+    text(b" ");
     hex(&bytes);
 }
 
 // The answer's number: 0 for done.
 fn answered(n: u8) {
     let bytes = [n];
-    say(b" ");
+    text(b" ");
     hex(&bytes);
 }
 
@@ -57,13 +35,13 @@ fn answered(n: u8) {
 fn table_after(table: &[u8]) {
     let mut digest = [0u8; 32];
     sha256::hash(table, &mut digest);
-    say(b" table ");
+    text(b" table ");
     hex(&digest);
-    say(b"\n");
+    text(b"\n");
 }
 
 fn changed(name: &[u8], answer: Change, table: &[u8]) {
-    say(name);
+    text(name);
     match answer {
         Change::Done { low, high } => {
             answered(0);
@@ -79,21 +57,21 @@ fn changed(name: &[u8], answer: Change, table: &[u8]) {
 fn receipt_fields(receipt: &[u8])
     requires { ⌜ length (now receipt) ≡ 160 ⌝ }
 {
-    say(b"\n  ");
+    text(b"\n  ");
     hex(&receipt[0..8]);
-    say(b" ");
+    text(b" ");
     hex(&receipt[8..16]);
-    say(b" ");
+    text(b" ");
     hex(&receipt[16..24]);
-    say(b" ");
+    text(b" ");
     hex(&receipt[24..32]);
-    say(b"\n  ");
+    text(b"\n  ");
     hex(&receipt[64..96]);
-    say(b"\n  ");
+    text(b"\n  ");
     hex(&receipt[96..128]);
-    say(b"\n  ");
+    text(b"\n  ");
     hex(&receipt[128..160]);
-    say(b"\n ");
+    text(b"\n ");
 }
 
 fn value_of(n: u64) -> [u8; 32] {
@@ -124,7 +102,7 @@ fn looks_up(table: &[u8], log: u64, position: u64) {
     let nonce = value_of(position);
     let mut receipt = [0u8; 160];
     let answer = lookup(table, log, position, &nonce, &mut receipt);
-    say(b"lookup");
+    text(b"lookup");
     match answer {
         Finding::Found { examined } => {
             answered(0);
@@ -140,7 +118,7 @@ fn ends(table: &[u8], log: u64) {
     let nonce = value_of(log);
     let mut receipt = [0u8; 160];
     let answer = end(table, log, &nonce, &mut receipt);
-    say(b"end");
+    text(b"end");
     match answer {
         Outcome::Done => {
             answered(0);
@@ -154,7 +132,7 @@ fn ends(table: &[u8], log: u64) {
 fn formats(table: &mut [u8], logs: u64, slots: u64) {
     let key = value_of(7);
     let answer = format(table, logs, slots, 7, &key);
-    say(b"format");
+    text(b"format");
     answered(answer.number());
     table_after(table);
 }
@@ -162,7 +140,7 @@ fn formats(table: &mut [u8], logs: u64, slots: u64) {
 // One log, one slot: a log of one entry, a full pool, the slot at n that stays.
 fn one_slot() {
     let mut table = [0u8; 148];
-    say(b"-- one log, one slot\n");
+    text(b"-- one log, one slot\n");
     appends(&mut table, 0, 1);
     formats(&mut table, 1, 1);
     looks_up(&table, 0, 1);
@@ -184,7 +162,7 @@ fn one_slot() {
 // A gap, truncate to a skipped position, slots taken again, and the last position.
 fn gaps() {
     let mut table = [0u8; 396];
-    say(b"-- two logs, four slots\n");
+    text(b"-- two logs, four slots\n");
     formats(&mut table, 2, 4);
     advances(&mut table, 0, 1, 9, 41);
     appends(&mut table, 0, 42);
@@ -213,7 +191,7 @@ fn gaps() {
 // The largest table.
 fn largest() {
     let mut table = [0u8; 61172];
-    say(b"-- sixteen logs, eight hundred slots\n");
+    text(b"-- sixteen logs, eight hundred slots\n");
     formats(&mut table, 16, 800);
     appends(&mut table, 15, 1);
     appends(&mut table, 15, 2);
@@ -232,7 +210,7 @@ fn lengths() {
     let mut short = [0u8; 159];
     let wide = [0u8; 33];
     let nonce = [0u8; 32];
-    say(b"-- lengths\n");
+    text(b"-- lengths\n");
     let a = append(&mut table, 0, &wide);
     changed(b"append", a, &table);
     let b = advance(&mut table, 0, 1, &wide, &nonce);

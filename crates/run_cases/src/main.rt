@@ -1,59 +1,31 @@
-// Comparisons of runs: a line for each, with the answer and whether the lent buffer is as it was.
+// Comparisons of runs: for each a line with the answer and one with the lent buffer as it is after. Buffers are lent full of
+// bytes ab, and no answer here may change one: a collision of SHA-256 is not to be had.
 use entry::entry_digest;
-use libc::STDOUT_FILENO;
 use octets::put;
+use octets::wide;
+use printing::hex;
+use printing::number;
+use printing::text;
 use runs::Comparison;
 use runs::compare;
 ghost use Prim.Native.Nat.{_<_};
 ghost use mathlib.Core.Path.{_≡_};
 ghost use lib.ListN.{length};
 
-fn say(text: &[u8]) {
-    io::write_all(STDOUT_FILENO, text);
-}
-
-fn say_number(n: u8) {
-    let tens = [48 + n / 10 % 10];
-    let ones = [48 + n % 10];
-    if 10 <= n {
-        say(&tens);
-    }
-    say(&ones);
-}
-
-fn say_answer(answer: Comparison) {
-    match answer {
-        Comparison::Differ => say(b"digests differ"),
-        Comparison::Agree => say(b"agree"),
-        Comparison::Collision => say(b"collision"),
-        Comparison::Refused(why) => {
-            say(b"refused with ");
-            say_number(why.number());
-        }
-    }
-}
-
-// Whether every byte of the buffer is still what it was lent with.
-fn untouched(buffer: &[u8]) -> bool {
-    let mut i = 0;
-    while i < buffer.len() {
-        if buffer[i] != 0xab {
-            return false;
-        }
-        i += 1;
-    }
-    true
-}
-
 fn line(name: &[u8], answer: Comparison, buffer: &[u8]) {
-    say(name);
-    say(b": ");
-    say_answer(answer);
-    if untouched(buffer) {
-        say(b", buffer untouched\n");
-    } else {
-        say(b", buffer written\n");
+    text(name);
+    match answer {
+        Comparison::Differ => text(b": digests differ"),
+        Comparison::Agree => text(b": agree"),
+        Comparison::Collision => text(b": collision"),
+        Comparison::Refused(why) => {
+            text(b": refused with ");
+            number(wide(why.number()));
+        }
     }
+    text(b"\n  ");
+    hex(buffer);
+    text(b"\n");
 }
 
 fn case(

@@ -1,29 +1,23 @@
 // What the check says of good tables, and of tables spoiled in one place, a line for each clause of document 01's "A table is whole if ..".
 ghost use Prim.Native.Nat.{_≤_, _<_};
-use libc::STDOUT_FILENO;
+use printing::number;
+use printing::text;
 use table::Check;
 
 // The length of a table of 2 logs and 4 slots: header 0, rows 52 and 72, slots 92, 168, 244 and 320.
 const SIZE: usize = 396;
 
-fn digit(n: usize) -> u8 {
-    48 + (n % 10) as u8
-}
-
 // A line: the name, and what the check says.
 fn say(name: &[u8], t: &[u8]) {
-    io::write_all(STDOUT_FILENO, name);
+    text(name);
     match table::whole::check(t) {
-        Check::Torn => {
-            io::write_all(STDOUT_FILENO, b": torn\n");
-        }
+        Check::Torn => text(b": torn\n"),
         Check::Whole { free, last } => {
-            let text = [digit(free / 100), digit(free / 10), digit(free)];
-            io::write_all(STDOUT_FILENO, b": whole, free ");
-            io::write_all(STDOUT_FILENO, &text);
-            let end = [digit(last / 100), digit(last / 10), digit(last), 10];
-            io::write_all(STDOUT_FILENO, b", the last of them ");
-            io::write_all(STDOUT_FILENO, &end);
+            text(b": whole, free ");
+            number(free as u64);
+            text(b", the last of them ");
+            number(last as u64);
+            text(b"\n");
         }
     }
 }

@@ -2,10 +2,10 @@
 ghost use Prim.Native.Nat.{_≤_, _<_};
 ghost use lib.ListN.{length};
 use super::report::station;
-use super::report::text;
 use bigendian::put_u64;
 use octets::put;
 use octets::wide;
+use printing::text;
 use quorum::certify;
 use receipt::Facts;
 use receipt::Name;

@@ -1,9 +1,9 @@
 // The verifier's cases.
 ghost use Prim.Native.Nat.{_≤_};
 use super::report::number;
-use super::report::text;
 use super::report::verdict;
 use octets::put;
+use printing::text;
 use receipt::Ask;
 use receipt::Facts;
 use receipt::Name;

@@ -1,16 +1,14 @@
 // What is written of a case.
-use libc::STDOUT_FILENO;
+use bigendian::put_u32;
 use octets::wide;
+use printing::hex;
+use printing::text;
 use quorum::Station;
 use receipt::Verdict;
 
-pub fn text(t: &[u8]) {
-    io::write_all(STDOUT_FILENO, t);
-}
-
 pub fn number(name: &[u8], n: u64) {
     text(name);
-    io::print_decimal(STDOUT_FILENO, n);
+    printing::number(n);
 }
 
 // A receipt's verdict.
@@ -40,7 +38,9 @@ pub fn station(s: Station) {
         Station::Certified { place, mask } => {
             number(b"certified: place ", place as u64);
             text(b", members ");
-            io::print_hex(STDOUT_FILENO, mask as u64, 8);
+            let mut members = [0u8; 4];
+            put_u32(&mut members, 0, mask);
+            hex(&members);
         }
         Station::Refused(why) => number(b"refused: ", wide(why.number())),
     }
