@@ -2,11 +2,12 @@
 --
 use mathlib.Core.Path.{_≡_, refl, sym, ap, ap₂, _∙_}
 use Prim.Native.Nat.{ℕ, zero, suc, _+_, _-_, _*_, _/_, _%_, _^_, _<_}
-use native.Mathlib.Nat.{div-add-mod', not-suc-le-zero, le-of-suc-le-suc}
+use native.Mathlib.Nat.{div-add-mod'}
 use native.Mathlib.Omega.{arith}
 use lib.Arith.{lt-one}
 use lib.Bits.{bitAnd, bitXor, and-shr, xor-shr, and-mod, xor-mod}
 use Rattle.sha256.specs.Words.{Ch}
+use Rattle.sha256.proofs.Bitwise.{triples}
 
 abbrev short : ℕ → ℕ → ℕ → ℕ
 short x y z = bitXor z (bitAnd x (bitXor y z))
@@ -28,21 +29,8 @@ long-step n x y z =
     (xor-shr (bitAnd x y) (bitAnd n z) 1 ∙ ap₂ bitXor (and-shr x y 1) (and-shr n z 1))
     (xor-mod (bitAnd x y) (bitAnd n z) 1 ∙ ap₂ bitXor (and-mod x y 1) (and-mod n z 1))
 
--- what holds of 0 and of 1 holds of a bit
-bit : (P : ℕ → Type 0) → P 0 → P 1 → (a : ℕ) → a < 2 → P a
-bit P p q zero h = p
-bit P p q (suc zero) h = q
-bit P p q (suc (suc a)) h = absurd (not-suc-le-zero (le-of-suc-le-suc (le-of-suc-le-suc h)))
-
 bits : (a b c : ℕ) → a < 2 → b < 2 → c < 2 → short a b c ≡ long (1 - a) a b c
-bits a b c ha hb hc =
-    bit (λ (a : ℕ). short a b c ≡ long (1 - a) a b c)
-    (bit (λ (b : ℕ). short 0 b c ≡ long 1 0 b c)
-    (bit (λ (c : ℕ). short 0 0 c ≡ long 1 0 0 c) refl refl c hc)
-    (bit (λ (c : ℕ). short 0 1 c ≡ long 1 0 1 c) refl refl c hc) b hb)
-    (bit (λ (b : ℕ). short 1 b c ≡ long 0 1 b c)
-    (bit (λ (c : ℕ). short 1 0 c ≡ long 0 1 0 c) refl refl c hc)
-    (bit (λ (c : ℕ). short 1 1 c ≡ long 0 1 1 c) refl refl c hc) b hb) a ha
+bits = triples (λ (a b c : ℕ). short a b c ≡ long (1 - a) a b c) (refl, refl, refl, refl, refl, refl, refl, refl)
 
 same : (k x y z : ℕ) → x < 2 ^ k → y < 2 ^ k → z < 2 ^ k → short x y z ≡ long (2 ^ k - 1 - x) x y z
 same zero x y z hx hy hz =

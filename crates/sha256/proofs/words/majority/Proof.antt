@@ -1,12 +1,10 @@
 -- `sha256::words::majority` meets its contract.
-use mathlib.Core.Path.{refl}
-use Rattle.sha256.specs.Words.{Maj}
+use Rattle.sha256.proofs.Majority.{majority-is}
 use Rattle.sha256.proofs.words.majority.Statement.{statement}
 use Rattle.sha256.proofs.words.majority.Tie as tie
 
 returns : tie.Need-returns
-unfolding Maj
-returns c = refl
+returns c = majority-is (c .args .x) (c .args .y) (c .args .z) (c .fits .x .fits) (c .fits .y .fits) (c .fits .z .fits)
 
 pub majority-spec : {M : Type 1} → statement M
 majority-spec = tie.close (tie.spec returns)
