@@ -13,7 +13,6 @@ use Rattle.receipt.specs.Answer.{Answer}
 use Rattle.receipt.specs.declared.Ask.the-variants.{Lookup, End}
 use Rattle.receipt.specs.declared.Question.{Question}
 use Rattle.runs.specs.Compare.{Verdict, differ, agree, collision}
-use Rattle.runs.specs.Call.{Answer as Compared}
 
 -- the check's one fault: 1 "torn"
 unfoldable pub checkRefusal : List ℕ → Option ℕ
@@ -76,9 +75,7 @@ verdictCode differ = 0
 verdictCode agree = 1
 verdictCode collision = 2
 
-verdictOr : Option Verdict → ℕ → ℕ
-verdictOr none old = old
-verdictOr (some v) old = verdictCode v
-
-unfoldable pub codeAfter : Compared → ℕ → ℕ
-codeAfter a old = verdictOr (a .verdict) old
+-- the code of a verdict, if there is one
+unfoldable pub codeAfter : Option Verdict → ℕ → ℕ
+codeAfter none old = old
+codeAfter (some v) old = verdictCode v
