@@ -22,11 +22,7 @@ fn judged(judgement: Verdict, verdict: &mut [u64; 5]) -> u8
             kind,
             reference,
         } => {
-            verdict[0] = keeper;
-            verdict[1] = wide(log);
-            verdict[2] = position;
-            verdict[3] = wide(kind);
-            verdict[4] = reference;
+            *verdict = [keeper, wide(log), position, wide(kind), reference];
             0
         }
         Verdict::Refused(why) => why.number(),

@@ -1,26 +1,24 @@
+-- `capi::calls::keeper_advance` meets its contract. Assumes nothing.
+use Rattle.capi.proofs.Answers.{Changed}
+use mathlib.Core.Path.{subst}
 use borrow.Author.Needs.{needs}
 use Rattle.capi.proofs.calls.keeper_advance.Statement.{statement}
 use Rattle.capi.proofs.calls.keeper_advance.Tie as tie
-use Rattle.capi.proofs.calls.keeper_advance.Reads as reads
-use Rattle.capi.proofs.calls.keeper_advance.Lts as lts
-use Rattle.a2m.proofs.advance.advance.Reads as advance-reads
-use Rattle.capi.proofs.calls.changed.Reads as changed-reads
 
--- src/calls.rt:59:9
 advance-requires : tie.Need-advance-requires
 advance-requires c κs = search needs
 
--- src/calls.rt:60:5
 changed-requires : tie.Need-changed-requires
 changed-requires c κs = search needs
 
--- src/calls.rt:44:1
 same-length : tie.Need-same-length
 same-length c = search needs
 
--- src/calls.rt:44:1
 returns : tie.Need-returns
-returns c = ?
+returns c = let a = c .before .before .before .before .before .before .before .before .before .before .args in
+    let r = c .before .before .before .before .before .advance in
+    let e = subst (Changed _ _ _ (a .low .now) (a .high .now)) (r .ensures .0) (c .changed .ensures) in
+    (e .0, (r .ensures .1, e .1))
 
 pub keeper-advance-spec : {M : Type 1} → statement M
 keeper-advance-spec = tie.close (tie.spec advance-requires changed-requires same-length returns)

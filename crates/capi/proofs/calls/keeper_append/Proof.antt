@@ -1,26 +1,24 @@
+-- `capi::calls::keeper_append` meets its contract. Assumes nothing.
+use Rattle.capi.proofs.Answers.{Changed}
+use mathlib.Core.Path.{subst}
 use borrow.Author.Needs.{needs}
 use Rattle.capi.proofs.calls.keeper_append.Statement.{statement}
 use Rattle.capi.proofs.calls.keeper_append.Tie as tie
-use Rattle.capi.proofs.calls.keeper_append.Reads as reads
-use Rattle.capi.proofs.calls.keeper_append.Lts as lts
-use Rattle.a2m.proofs.append.append.Reads as append-reads
-use Rattle.capi.proofs.calls.changed.Reads as changed-reads
 
--- src/calls.rt:40:9
 append-requires : tie.Need-append-requires
 append-requires c κs = search needs
 
--- src/calls.rt:41:5
 changed-requires : tie.Need-changed-requires
 changed-requires c κs = search needs
 
--- src/calls.rt:27:1
 same-length : tie.Need-same-length
 same-length c = search needs
 
--- src/calls.rt:27:1
 returns : tie.Need-returns
-returns c = ?
+returns c = let a = c .before .before .before .before .before .before .before .before .before .args in
+    let r = c .before .before .before .before .before .append in
+    let e = subst (Changed _ _ _ (a .low .now) (a .high .now)) (r .ensures .0) (c .changed .ensures) in
+    (e .0, (r .ensures .1, e .1))
 
 pub keeper-append-spec : {M : Type 1} → statement M
 keeper-append-spec = tie.close (tie.spec append-requires changed-requires same-length returns)

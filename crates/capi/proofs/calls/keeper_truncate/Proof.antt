@@ -1,26 +1,24 @@
+-- `capi::calls::keeper_truncate` meets its contract. Assumes nothing.
+use Rattle.capi.proofs.Answers.{Changed}
+use mathlib.Core.Path.{subst}
 use borrow.Author.Needs.{needs}
 use Rattle.capi.proofs.calls.keeper_truncate.Statement.{statement}
 use Rattle.capi.proofs.calls.keeper_truncate.Tie as tie
-use Rattle.capi.proofs.calls.keeper_truncate.Reads as reads
-use Rattle.capi.proofs.calls.keeper_truncate.Lts as lts
-use Rattle.a2m.proofs.truncate.truncate.Reads as truncate-reads
-use Rattle.capi.proofs.calls.changed.Reads as changed-reads
 
--- src/calls.rt:76:9
 truncate-requires : tie.Need-truncate-requires
 truncate-requires c κs = search needs
 
--- src/calls.rt:77:5
 changed-requires : tie.Need-changed-requires
 changed-requires c κs = search needs
 
--- src/calls.rt:63:1
 same-length : tie.Need-same-length
 same-length c = search needs
 
--- src/calls.rt:63:1
 returns : tie.Need-returns
-returns c = ?
+returns c = let a = c .before .before .before .before .before .before .before .before .args in
+    let r = c .before .before .before .before .before .truncate in
+    let e = subst (Changed _ _ _ (a .low .now) (a .high .now)) (r .ensures .0) (c .changed .ensures) in
+    (e .0, (r .ensures .1, e .1))
 
 pub keeper-truncate-spec : {M : Type 1} → statement M
 keeper-truncate-spec = tie.close (tie.spec truncate-requires changed-requires same-length returns)
