@@ -1,4 +1,5 @@
-/* The keeper: an attested append-only memory. Link with libkeeper's archive, libcapi.a (see README.md, "From C").
+/* The keeper: an attested append-only memory. `rt staticlib capi` writes the archive to link with, target/staticlib/libcapi.a
+ * (README.md, "From C").
  *
  * What every function keeps:
  * - It returns a number of document 01: 0 done, or one of the KEEPER_ refusals below. Where several fit, the order given at
