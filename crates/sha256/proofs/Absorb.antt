@@ -126,6 +126,11 @@ short s part n size k e =
     (ap (λ (i : ℕ). take i (splice (s .block) f part)) q ∙ ap (take (f + length part)) (splice-nested (s .block) f part) ∙ take-at (r ++ part) (drop (f + length part) (s .block)) (f + length part) lj ∙ ap (λ (i : ℕ). drop (i * 64) (r ++ part)) (sym none))
     e
 
+-- one block
+pub one-block : (h m : List ℕ) → length m ≡ 64 → blocks 1 h m ≡ compress h m
+unfolding blocks
+one-block h m size = ap (compress h) (take-all 64 m (omega arith))
+
 -- a part that fills the block, with the blocks after that
 abbrev pub room : Running → ℕ
 room s = 64 - s .count % 64

@@ -12,7 +12,6 @@ ghost use Rattle.sha256.specs.Running.{stateOf, start, absorbed, paddedW
 ghost use Rattle.sha256.specs.Hash.{hashRefusal};
 use bigendian::put_u32;
 use bigendian::put_u64;
-use block::compress;
 use block::compress_blocks;
 use block::constants;
 use octets::put;
@@ -73,7 +72,7 @@ impl Running {
         }
         let k = constants();
         put(&mut block, fill, &part[..room]);
-        let first = compress(chain, &block, &k);
+        let first = compress_blocks(chain, &block, 1, &k);
         let whole = (n - room) / 64;
         let last = compress_blocks(first, &part[room..], whole, &k);
         let at = room + whole * 64;

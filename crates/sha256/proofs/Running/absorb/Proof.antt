@@ -1,14 +1,15 @@
 -- `sha256::Running::absorb` meets its contract: the part leaves the block unfilled (`short`), or fills it (`long`).
 use lib.ListN.{length-map, length, take, drop, length-take}
-use Rattle.sha256.proofs.Absorb.{room, more, short, long}
+use Rattle.sha256.proofs.Absorb.{room, more, full, short, one-block, long}
 use Rattle.sha256.specs.declared.Running.{Running}
 use Rattle.sha256.specs.Running.{stateOf}
-use Rattle.sha256.specs.Sha256.{compress, blocks}
+use Rattle.sha256.specs.Sha256.{blocks}
 use Rattle.octets.specs.Octets.{splice}
+use Rattle.octets.proofs.Parts.{length-splice}
 use native.Mathlib.Omega.{arith}
 use mathlib.Core.List.{List}
 use mathlib.Core.Path.{_≡_, refl, ap, _∙_}
-use Prim.Native.Nat.{ℕ, _+_, _-_, _*_}
+use Prim.Native.Nat.{ℕ, _+_, _-_, _*_, _%_}
 use borrow.Author.Needs.{needs}
 use Rattle.sha256.proofs.Running.absorb.Statement.{statement}
 use Rattle.sha256.proofs.Running.absorb.Tie as tie
@@ -53,11 +54,11 @@ put-requires-2 c κs =
     let size : length (c .before .before .before .before .before .before .before .before .before .before .args .self .block) ≡ 64 = simp length-map at (c .before .before .before .before .before .before .before .before .before .before .good .0 .1 .1 .1 .0 .1 .0 .1) in
     simp length-take (omega arith)
 
-slice-aggregate-compress : tie.Need-slice-aggregate-compress
-slice-aggregate-compress c = search needs
+slice-aggregate-compress-blocks : tie.Need-slice-aggregate-compress-blocks
+slice-aggregate-compress-blocks c = search needs
 
-compress-requires : tie.Need-compress-requires
-compress-requires c κs = search needs
+compress-blocks-requires : tie.Need-compress-blocks-requires
+compress-blocks-requires c κs = search needs
 
 sub-compress-blocks : tie.Need-sub-compress-blocks
 sub-compress-blocks c = search needs
@@ -68,8 +69,8 @@ part-compress-blocks-start c = search needs
 part-compress-blocks-end : tie.Need-part-compress-blocks-end
 part-compress-blocks-end c = search needs
 
-compress-blocks-requires : tie.Need-compress-blocks-requires
-compress-blocks-requires c κs = search needs
+compress-blocks-requires-2 : tie.Need-compress-blocks-requires-2
+compress-blocks-requires-2 c κs = search needs
 
 mul-at : tie.Need-mul-at
 mul-at c = search needs
@@ -100,8 +101,8 @@ returns-2 c =
     let size : length (s .block) ≡ 64 = simp length-map at (x .good .0 .1 .1 .1 .0 .1 .0 .1) in
     let f = c .before .before .before .before .before .before .before .before .before .before .before .put2 .ensures in
     long s p size (omega (arith, c .before .before .before .before .before .before .before .before .before .before .before .before .before .before .before .if1 .left)) (s .count + c .before .before .before .before .before .before .before .before .before .before .before .before .before .before .before .before .before .before .before .wide .result) (room s + more s p * 64)
-    (c .before .before .before .before .compress-blocks .ensures
-    ∙ ap (λ (h : List ℕ). blocks (more s p) h (take (length p - room s) (drop (room s) p))) (c .before .before .before .before .before .before .before .compress .ensures ∙ ap (compress (s .chain)) f))
+    (c .before .before .before .before .compress-blocks2 .ensures
+    ∙ ap (λ (h : List ℕ). blocks (more s p) h (take (length p - room s) (drop (room s) p))) (c .before .before .before .before .before .before .before .compress-blocks .ensures ∙ ap (blocks 1 (s .chain)) f ∙ one-block (s .chain) (full s p) (length-splice (s .block) (take (room s) p) (s .count % 64) (simp length-take (omega arith)) ∙ size)))
     (c .before .put3 .ensures ∙ ap (λ (h : List ℕ). splice h 0 (take (length p - (room s + more s p * 64)) (drop (room s + more s p * 64) p))) f)
     refl
     (omega (arith, c .before .before .before .before .before .before .before .before .before .before .before .before .before .before .before .before .before .before .before .wide .ensures))
@@ -120,12 +121,12 @@ absorb-spec =
     slice-aggregate-put-2
     slice-aggregate-put-3
     put-requires-2
-    slice-aggregate-compress
-    compress-requires
+    slice-aggregate-compress-blocks
+    compress-blocks-requires
     sub-compress-blocks
     part-compress-blocks-start
     part-compress-blocks-end
-    compress-blocks-requires
+    compress-blocks-requires-2
     mul-at
     add-at
     slice-aggregate-put-4
