@@ -6,12 +6,14 @@ use Prim.Native.Nat.{ℕ, zero, suc, _+_, _-_, _*_, _/_, _%_, _≤_, _<_}
 use native.Mathlib.Nat.{add-zero, add-suc, zero-add}
 use native.Mathlib.Omega.{arith}
 use mathlib.Core.List.{List, [], _∷_, _++_, append-assoc, append-nil}
-use lib.ListN.{length, take, drop, length-append, length-take, length-drop, drop-of-length-le}
+use lib.ListN.{length, take, drop, set, replicate, length-append, length-take, length-drop, take-append-drop, drop-of-length-le}
 use lib.Seq.{take-at, take-all, take-append-le, drop-append-le, take-append-add, drop-append-add, drop-drop, length-take-le}
 use Rattle.octets.specs.Octets.{splice}
 use Rattle.octets.proofs.Parts.{splice-nested}
 use Rattle.sha256.specs.Sha256.{H0, compress, blocks, padding, pad, bytes, blockCount, sha256}
-use Rattle.sha256.specs.Running.{State, stateOf, start, absorbed, finished}
+use Rattle.sha256.specs.Running.{State, stateOf, after, start, absorbed, finished}
+use Rattle.bigendian.specs.BigEndian.{be}
+use Rattle.sha256.proofs.Padding.{lastBlocks, tail, length-tail, tail-is as tail-padded}
 use Rattle.sha256.specs.declared.Running.{Running}
 
 abbrev state : List ℕ → List ℕ → ℕ → State
@@ -65,6 +67,47 @@ module _ (v j b : List ℕ) where
       let k : ℕ = length left / 64 in
       let e : whole * 64 + k * 64 ≡ length (j ++ b) / 64 * 64 = omega (arith, count-is) in
       ap (drop (k * 64)) left-is ∙ drop-drop (k * 64) (whole * 64) (j ++ b) ∙ ap (λ (n : ℕ). drop n (j ++ b)) e
+
+blocks-take : (n : ℕ) (h m : List ℕ) → n * 64 ≤ length m → blocks n h m ≡ blocks n h (take (n * 64) m)
+blocks-take n h m k =
+    ap (blocks n h) (sym (take-append-drop (n * 64) m))
+    ∙ blocks-prefix n h (take (n * 64) m) (drop (n * 64) m) (simp length-take (omega arith))
+
+-- what `digest_from` computes, with f bytes after the whole blocks of p: v after those blocks, t the array of two blocks that
+-- was l, and d after its blocks
+pub closing : (h p l v t d : List ℕ) (before f : ℕ) → before % 64 ≡ 0 → f ≡ length p % 64 → l ≡ replicate (length l) 0 → length l ≡ 128
+    → v ≡ blocks (length p / 64) h p
+    → t ≡ splice (set (splice l 0 (drop (length p / 64 * 64) p)) f 128) (lastBlocks f * 64 - 8) (be 8 ((before + length p) * 8))
+    → d ≡ blocks (lastBlocks f) v t
+    → bytes d ≡ finished (absorbed (after h before) p)
+unfolding finished absorbed after
+closing h p l v t d before f whole ef blank long ev et ed =
+    let n : ℕ = before + length p in
+    let r : List ℕ = drop (length p / 64 * 64) p in
+    let e : f ≡ n % 64 = omega arith in
+    let lr : length r ≡ n % 64 = rw length-drop (omega arith) in
+    let tail-eq : t ≡ tail l r n = et ∙ ap (λ (g : ℕ). splice (set (splice l 0 r) g 128) (lastBlocks g * 64 - 8) (be 8 (n * 8))) e in
+    let fits : lastBlocks f * 64 ≤ length t = omega (arith, ap length tail-eq, length-tail l r n blank long lr) in
+    let front : take (lastBlocks f * 64) t ≡ r ++ padding n = ap₂ (λ (g : ℕ) (u : List ℕ). take (lastBlocks g * 64) u) e tail-eq ∙ tail-padded l r n blank long lr in
+    let size : length (r ++ padding n) ≡ lastBlocks f * 64 = sym (ap length front) ∙ length-take-le (lastBlocks f * 64) t fits in
+    let count : lastBlocks f ≡ length (r ++ padding n) / 64 = omega arith in
+    ap bytes
+    (ed
+    ∙ blocks-take (lastBlocks f) v t fits
+    ∙ ap (blocks (lastBlocks f) v) front
+    ∙ ap₂ (λ (i : ℕ) (u : List ℕ). blocks i u (r ++ padding n)) count ev)
+
+-- bytes that leave the block unfilled, after whole blocks
+pub unfilled : (s : Running) → length (s .block) ≡ 64 → absorbed (after (s .chain) (s .count - s .count % 64)) (take (s .count % 64) (s .block)) ≡ stateOf s
+unfolding absorbed after stateOf blocks
+unfilled s size =
+    let f : ℕ = s .count % 64 in
+    let lr : length (take f (s .block)) ≡ f = length-take-le f (s .block) (omega arith) in
+    let none : length (take f (s .block)) / 64 ≡ 0 = omega arith in
+    state-eq
+    (ap (λ (i : ℕ). blocks i (s .chain) (take f (s .block))) none)
+    (ap (λ (i : ℕ). drop (i * 64) (take f (s .block))) none)
+    (omega arith)
 
 -- absorbing one part and then another is absorbing both
 pub absorbed-append : (s : State) (a b : List ℕ) → absorbed (absorbed s a) b ≡ absorbed s (a ++ b)

@@ -2,9 +2,7 @@
 --
 use Prim.Native.Nat.{ℕ, _+_, _*_, _/_, _%_}
 use mathlib.Core.List.{List, [], _∷_, _++_}
-use lib.ListN.{length, take, drop, replicate}
-use Rattle.bigendian.specs.BigEndian.{be}
-use Rattle.octets.specs.Octets.{splice}
+use lib.ListN.{length, take, drop}
 use Rattle.sha256.specs.Sha256.{H0, blocks, padding, bytes}
 use Rattle.sha256.specs.declared.Running.{Running}
 
@@ -18,6 +16,10 @@ pub record State : Type 0 where
 unfoldable pub stateOf : Running → State
 stateOf s = record { value = s .chain; rest = take (s .count % 64) (s .block); size = s .count }
 
+-- whole blocks, n bytes of them, made the hash value h
+unfoldable pub after : List ℕ → ℕ → State
+after h n = record { value = h; rest = []; size = n }
+
 unfoldable pub start : State
 start = record { value = H0; rest = []; size = 0 }
 
@@ -30,7 +32,3 @@ absorbed s m = record {
 
 unfoldable pub finished : State → List ℕ
 finished s = bytes (absorbed s (padding (s .size)) .value)
-
--- the padding with so many zeros and the length in bits, in the first bytes of an array of 72
-unfoldable pub paddedWith : ℕ → ℕ → List ℕ
-paddedWith zeros bits = splice (128 ∷ replicate 71 0) (zeros + 1) (be 8 bits)

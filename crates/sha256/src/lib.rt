@@ -3,12 +3,12 @@ mod block;
 mod words;
 
 ghost use mathlib.Core.Path.{_≡_};
-ghost use Prim.Native.Nat.{_+_, _^_, _≤_, _<_};
+ghost use Prim.Native.Nat.{_+_, _^_, _≤_, _<_, _%_};
 ghost use lib.ListN.{length};
 ghost use Rattle.refusal.specs.Number.{outcomeNumber};
 ghost use Rattle.refusal.specs.Order.{answerOf, afterwards};
 ghost use Rattle.sha256.specs.Sha256.{bytes, sha256};
-ghost use Rattle.sha256.specs.Running.{stateOf, start, absorbed, paddedWith, finished};
+ghost use Rattle.sha256.specs.Running.{stateOf, start, after, absorbed, finished};
 ghost use Rattle.sha256.specs.Hash.{hashRefusal};
 use bigendian::put_u32;
 use bigendian::put_u64;
@@ -84,30 +84,36 @@ impl Running {
         }
     }
 
-    // The digest of all that was absorbed: the padding is absorbed, and the hash value written out.
+    // The digest of all that was absorbed.
     pub fn finish(self) -> [u8; 32]
         requires { ⌜ self .count < 2 ^ 61 ⌝ }
         ensures { λ r. ⌜ r ≡ finished (stateOf self) ⌝ }
     {
-        let count = self.count;
-        let zeros = ((119 - count % 64) % 64) as usize;
-        let pad = padded(zeros, count * 8);
-        let end = zeros + 9;
-        let last = self.absorb(&pad[..end]);
-        let chain = last.chain;
-        digest(chain)
+        let chain = self.chain;
+        let block = self.block;
+        let fill = (self.count % 64) as usize;
+        digest_from(chain, self.count - wide(fill), &block[..fill])
     }
 }
 
-// The padding in an array's first zeros + 9 bytes.
-fn padded(zeros: usize, bits: u64) -> [u8; 72]
-    requires { ⌜ zeros < 64 ⌝ }
-    ensures { λ r. ⌜ r ≡ paddedWith zeros bits ⌝ }
+// The digest of a message of which whole blocks, before bytes of them, made the hash value h, and part is the rest. Its last
+// bytes and the padding make one block more, or two.
+fn digest_from(h: [u32; 8], before: u64, part: &[u8]) -> [u8; 32]
+    requires { ⌜ (before % 64 ≡ 0) × (before + length (now part) < 2 ^ 61) ⌝ }
+    ensures { λ r. ⌜ r ≡ finished (absorbed (after h before) (now (part .entry))) ⌝ }
 {
-    let mut pad = [0u8; 72];
-    pad[0] = 128;
-    put_u64(&mut pad, zeros + 1, bits);
-    pad
+    let k = constants();
+    let n = part.len();
+    let whole = n / 64;
+    let value = compress_blocks(h, part, whole, &k);
+    let mut tail = [0u8; 128];
+    put(&mut tail, 0, &part[whole * 64..]);
+    let fill = n % 64;
+    tail[fill] = 128;
+    let count = (fill + 72) / 64;
+    put_u64(&mut tail, count * 64 - 8, (before + wide(n)) * 8);
+    let last = compress_blocks(value, &tail, count, &k);
+    digest(last)
 }
 
 // The bytes of a hash value.
@@ -129,8 +135,8 @@ pub fn digest_of(message: &[u8]) -> [u8; 32]
     ensures { λ r. ⌜ r ≡ sha256 (now (message .entry)) ⌝ }
 {
     let s = Running::new();
-    let t = s.absorb(message);
-    t.finish()
+    let chain = s.chain;
+    digest_from(chain, 0, message)
 }
 
 // Writes the digest of a message into a buffer of 32 bytes. Refused with 7, the buffer as it was: a buffer of another

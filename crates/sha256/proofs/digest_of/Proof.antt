@@ -1,10 +1,9 @@
 -- `sha256::digest_of` meets its contract.
-use Rattle.sha256.proofs.Absorb.{finished-is}
-use Rattle.sha256.specs.Running.{State, stateOf, start, absorbed, finished}
-use native.Mathlib.Omega.{arith}
-use mathlib.Core.List.{List}
 use mathlib.Core.Path.{ap, _∙_}
+use mathlib.Core.List.{List}
 use Prim.Native.Nat.{ℕ}
+use Rattle.sha256.specs.Running.{State, stateOf, after, start, absorbed, finished}
+use Rattle.sha256.proofs.Absorb.{finished-is}
 use borrow.Author.Needs.{needs}
 use Rattle.sha256.proofs.digest_of.Statement.{statement}
 use Rattle.sha256.proofs.digest_of.Tie as tie
@@ -12,18 +11,16 @@ use Rattle.sha256.proofs.digest_of.Tie as tie
 new-requires : tie.Need-new-requires
 new-requires c κs = search needs
 
-absorb-requires : tie.Need-absorb-requires
-unfolding stateOf start
-absorb-requires c κs = omega (arith, ap (λ (s : State). s .size) (c .new .ensures))
-
-finish-requires : tie.Need-finish-requires
-unfolding stateOf start absorbed
-finish-requires c κs = omega (arith, ap (λ (s : State). s .size) (c .absorb .ensures), ap (λ (s : State). s .size) (c .before .new .ensures))
+digest-from-requires : tie.Need-digest-from-requires
+digest-from-requires c κs = search needs
 
 returns : tie.Need-returns
+unfolding after start stateOf
 returns c =
     let m : List ℕ = c .before .before .before .before .args .message .now in
-    c .finish .ensures ∙ ap finished (c .before .absorb .ensures ∙ ap (λ (s : State). absorbed s m) (c .before .before .new .ensures)) ∙ finished-is m
+    c .digest-from .ensures
+    ∙ ap (λ (h : List ℕ). finished (absorbed (after h 0) m)) (ap (λ (s : State). s .value) (c .before .before .new .ensures))
+    ∙ finished-is m
 
 pub digest-of-spec : {M : Type 1} → statement M
-digest-of-spec = tie.close (tie.spec new-requires absorb-requires finish-requires returns)
+digest-of-spec = tie.close (tie.spec new-requires digest-from-requires returns)

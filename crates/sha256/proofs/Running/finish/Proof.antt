@@ -1,68 +1,53 @@
--- `sha256::Running::finish` meets its contract.
-use Rattle.sha256.proofs.Padding.{length-padded, padding-is}
-use Rattle.sha256.specs.Sha256.{bytes}
-use Rattle.sha256.specs.Running.{State, stateOf, absorbed, finished}
-use lib.ListN.{length, take}
-use native.Mathlib.Omega.{arith}
-use mathlib.Core.List.{List}
+-- `sha256::Running::finish` meets its contract (`unfilled`).
 use mathlib.Core.Path.{_≡_, sym, ap, _∙_}
-use Prim.Native.Nat.{ℕ, _+_, _-_, _*_, _%_}
+use Prim.Native.Nat.{ℕ, _-_, _%_}
+use native.Mathlib.Omega.{arith}
+use lib.ListN.{length, take, length-map}
+use lib.Seq.{length-take-le}
+use Rattle.sha256.specs.Running.{after, absorbed, finished}
+use Rattle.sha256.proofs.Absorb.{unfilled}
 use borrow.Author.Needs.{needs}
 use Rattle.sha256.proofs.Running.finish.Statement.{statement}
 use Rattle.sha256.proofs.Running.finish.Tie as tie
 
-sub-zeros : tie.Need-sub-zeros
-sub-zeros c = search needs
+wide-requires : tie.Need-wide-requires
+wide-requires c κs = search needs
 
-mul-padded : tie.Need-mul-padded
-mul-padded c = search needs
+sub-digest-from : tie.Need-sub-digest-from
+sub-digest-from c = search needs
 
-padded-requires : tie.Need-padded-requires
-padded-requires c κs = search needs
-
-add-end : tie.Need-add-end
-add-end c = search needs
-
-array-share-prefix-pad : tie.Need-array-share-prefix-pad
-array-share-prefix-pad c = search needs
-
-slice-aggregate-absorb : tie.Need-slice-aggregate-absorb
-slice-aggregate-absorb c =
-    let n = c .before .before .args .self .count in
-    let z : ℕ = (119 - n % 64) % 64 in
-    let e : length (take (z + 9) (c .before .padded .result)) ≡ z + 9 = ap (λ (l : List ℕ). length (take (z + 9) l)) (c .before .padded .ensures) ∙ length-padded z (n * 8) (omega arith) in
-    sym e
-
-absorb-requires : tie.Need-absorb-requires
-absorb-requires c κs =
-    let n = c .before .before .args .self .count in
-    let z : ℕ = (119 - n % 64) % 64 in
-    let e : length (take (z + 9) (c .before .padded .result)) ≡ z + 9 = ap (λ (l : List ℕ). length (take (z + 9) l)) (c .before .padded .ensures) ∙ length-padded z (n * 8) (omega arith) in
+array-share-prefix-block : tie.Need-array-share-prefix-block
+array-share-prefix-block c =
+    let s = c .before .before .before .before .before .args .self in
+    let size : length (s .block) ≡ 64 = simp length-map at (c .before .before .before .before .before .good .0 .1 .1 .1 .0 .1 .0 .1) in
     omega arith
 
-digest-requires : tie.Need-digest-requires
-digest-requires c κs = search needs
+slice-aggregate-digest-from : tie.Need-slice-aggregate-digest-from
+slice-aggregate-digest-from c =
+    let s = c .before .before .before .before .before .before .args .self in
+    let size : length (s .block) ≡ 64 = simp length-map at (c .before .before .before .before .before .before .good .0 .1 .1 .1 .0 .1 .0 .1) in
+    sym (length-take-le (s .count % 64) (s .block) (omega arith))
+
+digest-from-requires : tie.Need-digest-from-requires
+digest-from-requires c κs =
+    let s = c .before .before .before .before .before .before .args .self in
+    let size : length (s .block) ≡ 64 = simp length-map at (c .before .before .before .before .before .before .good .0 .1 .1 .1 .0 .1 .0 .1) in
+    (omega (arith, c .before .before .wide .ensures), omega (arith, c .before .before .wide .ensures, length-take-le (s .count % 64) (s .block) (omega arith)))
 
 returns : tie.Need-returns
-unfolding finished stateOf
 returns c =
-    let s = c .before .before .before .before .before .args .self in
-    let z : ℕ = (119 - s .count % 64) % 64 in
-    c .digest .ensures
-    ∙ ap bytes
-    (ap (λ (t : State). t .value) (c .before .before .absorb .ensures)
-    ∙ ap (λ (p : List ℕ). absorbed (stateOf s) p .value) (ap (take (z + 9)) (c .before .before .before .before .padded .ensures) ∙ padding-is (s .count)))
+    let s = c .before .before .before .before .before .before .before .args .self in
+    let size : length (s .block) ≡ 64 = simp length-map at (c .before .before .before .before .before .before .before .good .0 .1 .1 .1 .0 .1 .0 .1) in
+    c .digest-from .ensures
+    ∙ ap finished (ap (λ (n : ℕ). absorbed (after (s .chain) (s .count - n)) (take (s .count % 64) (s .block))) (c .before .before .before .wide .ensures) ∙ unfilled s size)
 
 pub finish-spec : {M : Type 1} → statement M
 finish-spec =
     tie.close
     (tie.spec
-    sub-zeros
-    mul-padded
-    padded-requires
-    add-end
-    array-share-prefix-pad
-    slice-aggregate-absorb
-    absorb-requires
-    digest-requires
+    wide-requires
+    sub-digest-from
+    array-share-prefix-block
+    slice-aggregate-digest-from
+    digest-from-requires
     returns)
