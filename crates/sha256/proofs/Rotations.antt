@@ -109,13 +109,18 @@ rotr-lt k x few h =
     (subst (λ (u : ℕ). x % 2 ^ k * 2 ^ (32 - k) + x / 2 ^ k < u) (sym (pow-add 2 k (32 - k)) ∙ ap (λ (n : ℕ). 2 ^ n) (places k few))
     (digits-lt (mod-lt x (pow-pos k)) (high-lt k x few h)))
 
+-- two rotations of a word, the second made from the first
+pub paired : (i j x : ℕ) → i + j ≤ 32 → x < 2 ^ 32 → rotr i (bitXor x (rotr j x)) ≡ bitXor (rotr i x) (rotr (j + i) x)
+paired i j x few h =
+    rotr-xor i x (rotr j x) (omega arith) h (rotr-lt j x (omega arith) h) ∙ ap (bitXor (rotr i x)) (rotr-rotr j i x (omega arith) h)
+
 -- three rotations of a word, each made from the last
 pub chained : (i j k x : ℕ) → i + j + k ≤ 32 → x < 2 ^ 32
     → rotr i (bitXor x (rotr j (bitXor x (rotr k x)))) ≡ bitXor (bitXor (rotr i x) (rotr (j + i) x)) (rotr (k + j + i) x)
 chained i j k x few h =
     rotr-xor i x (rotr j (bitXor x (rotr k x))) (omega arith) h (rotr-lt j (bitXor x (rotr k x)) (omega arith) (xor-lt 32 x (rotr k x) h (rotr-lt k x (omega arith) h)))
     ∙ ap (bitXor (rotr i x))
-    (ap (rotr i) (rotr-xor j x (rotr k x) (omega arith) h (rotr-lt k x (omega arith) h) ∙ ap (bitXor (rotr j x)) (rotr-rotr k j x (omega arith) h))
+    (ap (rotr i) (paired j k x (omega arith) h)
     ∙ rotr-xor i (rotr j x) (rotr (k + j) x) (omega arith) (rotr-lt j x (omega arith) h) (rotr-lt (k + j) x (omega arith) h)
     ∙ ap₂ bitXor (rotr-rotr j i x (omega arith) h) (rotr-rotr (k + j) i x (omega arith) h))
     ∙ sym (xor-assoc 32 (rotr i x) (rotr (j + i) x) (rotr (k + j + i) x) (rotr-lt i x (omega arith) h) (rotr-lt (j + i) x (omega arith) h) (rotr-lt (k + j + i) x (omega arith) h))

@@ -1,5 +1,10 @@
 -- `sha256::words::small0` meets its contract.
-use Rattle.sha256.specs.Words.{σ0}
+use mathlib.Core.Path.{ap, _∙_}
+use Prim.Native.Nat.{ℕ, _/_, _^_}
+use native.Mathlib.Omega.{arith}
+use lib.Bits.{bitXor}
+use Rattle.sha256.specs.Words.{rotr, σ0}
+use Rattle.sha256.proofs.Rotations.{paired}
 use borrow.Author.Needs.{needs}
 use Rattle.sha256.proofs.words.small0.Statement.{statement}
 use Rattle.sha256.proofs.words.small0.Tie as tie
@@ -12,7 +17,11 @@ rotated-requires-2 c κs = search needs
 
 returns : tie.Need-returns
 unfolding σ0
-returns c = rw (c .before .rotated .ensures, c .rotated2 .ensures)
+returns c =
+    let start = c .before .before in
+    let x = start .args .x in
+    ap (λ (u : ℕ). bitXor u (x / 2 ^ 3))
+    (c .rotated2 .ensures ∙ ap (λ (u : ℕ). rotr 7 (bitXor x u)) (c .before .rotated .ensures) ∙ paired 7 11 x (omega arith) (start .fits .x .fits))
 
 pub small0-spec : {M : Type 1} → statement M
 small0-spec = tie.close (tie.spec rotated-requires rotated-requires-2 returns)
