@@ -128,6 +128,15 @@ finished-is m =
     (ap (λ (n : ℕ). absorbed (absorbed start m) (padding n) .value) (zero-add (length m))
     ∙ ap (λ (s : State). s .value) (absorbed-append start m (padding (length m))))
 
+-- a block, and a text after it
+pub after-block : (b m : List ℕ) → length b ≡ 64 → finished (absorbed (after (blocks 1 H0 b) 64) m) ≡ sha256 (b ++ m)
+unfolding absorbed after start
+after-block b m size =
+    let one : length b / 64 ≡ 1 = omega arith in
+    let none : drop (length b / 64 * 64) b ≡ [] = drop-of-length-le b {i = length b / 64 * 64} (omega arith) in
+    let e : after (blocks 1 H0 b) 64 ≡ absorbed start b = state-eq (ap (λ (i : ℕ). blocks i H0 b) (sym one)) (sym none) (omega arith) in
+    ap (λ (s : State). finished (absorbed s m)) e ∙ ap finished (absorbed-append start b m) ∙ finished-is (b ++ m)
+
 -- for a caller: a part counts its bytes
 pub absorb-counts : (s t : Running) (x : List ℕ) → stateOf t ≡ absorbed (stateOf s) x → t .count ≡ s .count + length x
 unfolding stateOf absorbed

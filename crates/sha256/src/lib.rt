@@ -4,10 +4,11 @@ mod words;
 
 ghost use mathlib.Core.Path.{_≡_};
 ghost use Prim.Native.Nat.{_+_, _^_, _≤_, _<_, _%_};
+ghost use mathlib.Core.List.{_++_};
 ghost use lib.ListN.{length};
 ghost use Rattle.refusal.specs.Number.{outcomeNumber};
 ghost use Rattle.refusal.specs.Order.{answerOf, afterwards};
-ghost use Rattle.sha256.specs.Sha256.{bytes, sha256};
+ghost use Rattle.sha256.specs.Sha256.{K as Ks, bytes, sha256};
 ghost use Rattle.sha256.specs.Running.{stateOf, start, after, absorbed, finished};
 ghost use Rattle.sha256.specs.Hash.{hashRefusal};
 use bigendian::put_u32;
@@ -92,27 +93,28 @@ impl Running {
         let chain = self.chain;
         let block = self.block;
         let fill = (self.count % 64) as usize;
-        digest_from(chain, self.count - wide(fill), &block[..fill])
+        let k = constants();
+        digest_from(chain, self.count - wide(fill), &block[..fill], &k)
     }
 }
 
 // The digest of a message of which whole blocks, before bytes of them, made the hash value h, and part is the rest. Its last
 // bytes and the padding make one block more, or two.
-fn digest_from(h: [u32; 8], before: u64, part: &[u8]) -> [u8; 32]
+fn digest_from(h: [u32; 8], before: u64, part: &[u8], k: &[u32; 64]) -> [u8; 32]
     requires { ⌜ (before % 64 ≡ 0) × (before + length (now part) < 2 ^ 61) ⌝ }
+    requires { ⌜ now k ≡ Ks ⌝ }
     ensures { λ r. ⌜ r ≡ finished (absorbed (after h before) (now (part .entry))) ⌝ }
 {
-    let k = constants();
     let n = part.len();
     let whole = n / 64;
-    let value = compress_blocks(h, part, whole, &k);
+    let value = compress_blocks(h, part, whole, k);
     let mut tail = [0u8; 128];
     put(&mut tail, 0, &part[whole * 64..]);
     let fill = n % 64;
     tail[fill] = 128;
     let count = (fill + 72) / 64;
     put_u64(&mut tail, count * 64 - 8, (before + wide(n)) * 8);
-    let last = compress_blocks(value, &tail, count, &k);
+    let last = compress_blocks(value, &tail, count, k);
     digest(last)
 }
 
@@ -136,7 +138,20 @@ pub fn digest_of(message: &[u8]) -> [u8; 32]
 {
     let s = Running::new();
     let chain = s.chain;
-    digest_from(chain, 0, message)
+    let k = constants();
+    digest_from(chain, 0, message, &k)
+}
+
+// The digest of a block and a text after it, of which nothing is copied but the last bytes.
+pub fn digest_after(block: &[u8], text: &[u8]) -> [u8; 32]
+    requires { ⌜ (length (now block) ≡ 64) × (64 + length (now text) < 2 ^ 61) ⌝ }
+    ensures { λ r. ⌜ r ≡ sha256 (now (block .entry) ++ now (text .entry)) ⌝ }
+{
+    let s = Running::new();
+    let chain = s.chain;
+    let k = constants();
+    let first = compress_blocks(chain, block, 1, &k);
+    digest_from(first, 64, text, &k)
 }
 
 // Writes the digest of a message into a buffer of 32 bytes. Refused with 7, the buffer as it was: a buffer of another

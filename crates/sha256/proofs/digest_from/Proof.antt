@@ -12,9 +12,6 @@ use borrow.Author.Needs.{needs}
 use Rattle.sha256.proofs.digest_from.Statement.{statement}
 use Rattle.sha256.proofs.digest_from.Tie as tie
 
-constants-requires : tie.Need-constants-requires
-constants-requires c κs = search needs
-
 compress-blocks-requires : tie.Need-compress-blocks-requires
 compress-blocks-requires c κs = search needs
 
@@ -74,25 +71,24 @@ digest-requires c κs = search needs
 
 returns : tie.Need-returns
 returns c =
-    let a = c .before .before .before .before .before .before .before .before .before .before .before .before .before .before .before .before .args in
+    let a = c .before .before .before .before .before .before .before .before .before .before .before .before .before .args in
     let p : List ℕ = a .part .now in
     let at : ℕ = length p / 64 * 64 in
     let chop : take (length p - at) (drop at p) ≡ drop at p = take-all (length p - at) (drop at p) (rw length-drop (omega arith)) in
     let f : ℕ = length p % 64 in
     c .digest .ensures
-    ∙ closing (a .h) p (replicate 128 0) (c .before .before .before .before .before .before .before .before .before .before .before .before .compress-blocks .result) (c .before .before .before .before .before .put-u64 .last .0) (c .before .compress-blocks2 .result) (a .before) f
-    (c .before .before .before .before .before .before .before .before .before .before .before .before .before .before .before .before .pre .0) refl refl refl
-    (c .before .before .before .before .before .before .before .before .before .before .before .before .compress-blocks .ensures)
-    (c .before .before .before .before .before .put-u64 .ensures
+    ∙ closing (a .h) p (replicate 128 0) (c .before .before .before .before .before .before .before .before .before .before .before .compress-blocks .result) (c .before .before .before .before .put-u64 .last .0) (c .before .compress-blocks2 .result) (a .before) f
+    (c .before .before .before .before .before .before .before .before .before .before .before .before .before .pre .0 .0) refl refl refl
+    (c .before .before .before .before .before .before .before .before .before .before .before .compress-blocks .ensures)
+    (c .before .before .before .before .put-u64 .ensures
     ∙ ap₂ (λ (t : List ℕ) (n : ℕ). splice (set t f 128) ((f + 72) / 64 * 64 - 8) (be 8 ((a .before + n) * 8)))
-    (c .before .before .before .before .before .before .before .before .before .put .ensures ∙ ap (splice (replicate 128 0) 0) chop) (c .before .before .before .before .before .before .wide .ensures))
+    (c .before .before .before .before .before .before .before .before .put .ensures ∙ ap (splice (replicate 128 0) 0) chop) (c .before .before .before .before .before .wide .ensures))
     (c .before .compress-blocks2 .ensures)
 
 pub digest-from-spec : {M : Type 1} → statement M
 digest-from-spec =
     tie.close
     (tie.spec
-    constants-requires
     compress-blocks-requires
     slice-aggregate-put
     mul-put
