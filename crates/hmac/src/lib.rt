@@ -10,7 +10,7 @@ ghost use Rattle.hmac.specs.Hmac.{shortKey, padded, masked, hmac, tagRef
 use octets::put;
 use refusal::Outcome;
 use refusal::Refusal;
-use sha256::Running;
+use sha256::digest_after;
 use sha256::digest_of;
 
 // The key as a block: hashed if it is longer than a block, and zero bytes after it.
@@ -40,25 +40,16 @@ fn mask(mut block: [u8; 64], x: u8) -> [u8; 64]
     block
 }
 
-// The digest of a block and a text after it.
-fn digest_after(block: [u8; 64], text: &[u8]) -> [u8; 32]
-    requires { ⌜ 64 + length (now text) < 2 ^ 61 ⌝ }
-    ensures { λ r. ⌜ r ≡ sha256 (block ++ now (text .entry)) ⌝ }
-{
-    let s = Running::new();
-    let t = s.absorb(&block);
-    let u = t.absorb(text);
-    u.finish()
-}
-
 // The tag of a text.
 pub fn tag_of(key: &[u8], text: &[u8]) -> [u8; 32]
     requires { ⌜ (length (now key) < 2 ^ 61) × (64 + length (now text) < 2 ^ 61) ⌝ }
     ensures { λ r. ⌜ r ≡ hmac (now (key .entry)) (now (text .entry)) ⌝ }
 {
     let block = key_block(key);
-    let inner = digest_after(mask(block, 0x36), text);
-    digest_after(mask(block, 0x5c), &inner)
+    let inner_block = mask(block, 0x36);
+    let inner = digest_after(&inner_block, text);
+    let outer_block = mask(block, 0x5c);
+    digest_after(&outer_block, &inner)
 }
 
 // Writes the tag of a text into a buffer of 32 bytes. Refused with 7, the buffer as it was: a buffer of another length, or

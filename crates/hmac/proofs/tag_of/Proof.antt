@@ -14,14 +14,20 @@ key-block-requires c κs = search needs
 mask-requires : tie.Need-mask-requires
 mask-requires c κs = search needs
 
+slice-aggregate-digest-after : tie.Need-slice-aggregate-digest-after
+slice-aggregate-digest-after c = search needs
+
 digest-after-requires : tie.Need-digest-after-requires
 digest-after-requires c κs = search needs
 
 mask-requires-2 : tie.Need-mask-requires-2
 mask-requires-2 c κs = search needs
 
-slice-aggregate-digest-after : tie.Need-slice-aggregate-digest-after
-slice-aggregate-digest-after c = search needs
+slice-aggregate-digest-after-2 : tie.Need-slice-aggregate-digest-after-2
+slice-aggregate-digest-after-2 c = search needs
+
+slice-aggregate-digest-after-3 : tie.Need-slice-aggregate-digest-after-3
+slice-aggregate-digest-after-3 c = search needs
 
 digest-after-requires-2 : tie.Need-digest-after-requires-2
 digest-after-requires-2 c κs = search needs
@@ -29,10 +35,10 @@ digest-after-requires-2 c κs = search needs
 returns : tie.Need-returns
 unfolding hmac
 returns c =
-    let block = c .before .before .before .before .before .key-block .ensures in
+    let block = c .before .before .before .before .before .before .before .key-block .ensures in
     c .digest-after2 .ensures
-    ∙ ap₂ (λ (p q : List ℕ). sha256 (p ++ q)) (c .before .before .mask2 .ensures ∙ ap (masked 0x5c) block)
-    (c .before .before .before .digest-after .ensures ∙ ap (λ (p : List ℕ). sha256 (p ++ c .before .before .before .before .before .before .before .before .args .text .now)) (c .before .before .before .before .mask .ensures ∙ ap (masked 0x36) block))
+    ∙ ap₂ (λ (p q : List ℕ). sha256 (p ++ q)) (c .before .before .before .mask2 .ensures ∙ ap (masked 0x5c) block)
+    (c .before .before .before .before .digest-after .ensures ∙ ap (λ (p : List ℕ). sha256 (p ++ c .before .before .before .before .before .before .before .before .before .before .args .text .now)) (c .before .before .before .before .before .before .mask .ensures ∙ ap (masked 0x36) block))
 
 pub tag-of-spec : {M : Type 1} → statement M
 tag-of-spec =
@@ -40,8 +46,10 @@ tag-of-spec =
     (tie.spec
     key-block-requires
     mask-requires
+    slice-aggregate-digest-after
     digest-after-requires
     mask-requires-2
-    slice-aggregate-digest-after
+    slice-aggregate-digest-after-2
+    slice-aggregate-digest-after-3
     digest-after-requires-2
     returns)
