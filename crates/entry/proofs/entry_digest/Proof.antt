@@ -1,6 +1,6 @@
--- `entry::entry_digest` meets its contract: a walk of its MIR, by hand. The state is made in a local and lent to `feed` three times, each for a lifetime of the call; the position's bytes are lent with it the first time.
--- All that the proof knows of `number`, `new`, `feed` and `finish` is that each meets its contract. Of the two slices, which are Copy, one copy goes to `feed` and one is kept for the exit.
--- Assumes nothing.
+-- `entry::entry_digest` meets its contract: a walk of its code, by hand. The state is made in a local and lent to `feed` three times, each for a
+-- lifetime of the call; the position's bytes are lent with it the first time.
+-- Of `number`, `new`, `feed` and `finish` the proof knows their contracts alone. Of the two slices, one copy goes to `feed` and one is kept for the exit.
 mod Fed
 mod Lent
 use mathlib.Core.Path.{_≡_, refl, sym, _∙_, ap, subst}
@@ -21,7 +21,7 @@ use prog.Wp.{Heap, Calls, Loops, WpFn, Tables}
 use ghost.Atoms.{Atoms, sem}
 use contract.Monad.{Fun, fact}
 use contract.Running.{givenOf, tables, tablesOf}
-use types.Kit.{Given, ‵, raw, some, later, given, _⊛_, ⋆, _$_, _∵_, !, qed, by, move, keep, drop, group, use0, use1, use2, split, split3, join, pick, learn, fsplit, fjoin, suffices, frame, await, done}
+use types.Kit.{Given, ‵, raw, some, later, _⊛_, ⋆, _$_, _∵_, !, qed, by, move, keep, drop, use0, use1, use2, split, split3, join, pick, fsplit, fjoin, suffices, frame, await, done}
 use types.Run.{look, init, forget, stop, from, load, lit, addr, of-opd, and-then, no-more, assigns, land, returns, enter, alloc1, alloc0, params1, pass1, pass0, free1, free0}
 use types.Part.{agg}
 use types.Tokens.{lft-new, lft-end}

@@ -1,6 +1,6 @@
--- `entry::feed` meets its contract: a walk of its MIR, by hand. The borrow is opened, the record in it is copied and passed to `absorb` with the slice, what `absorb` returns is stored, and the borrow is closed at it.
--- All that the proof knows of `absorb` is that it meets its contract. Of the slice, which is Copy, one copy goes to the callee and one is kept for the exit.
--- Assumes nothing.
+-- `entry::feed` meets its contract: a walk of its code, by hand. The borrow is opened, the state in it is copied and passed to `absorb` with
+-- the slice, what `absorb` returns is stored, and the borrow is closed at it.
+-- Of `absorb` the proof knows its contract alone. Of the slice, one copy goes to the callee and one is kept for the exit.
 use mathlib.Core.Path.{_≡_, refl}
 use Prim.Native.Nat.{ℕ, _<_, _^_, _+_}
 use mathlib.Core.List.{[], _∷_, List}
@@ -20,7 +20,7 @@ use contract.Running.{givenOf, tables, tablesOf}
 use contract.Lifetimes.{AllOutlive}
 use types.Kit.{Given, ‵, raw, some, later, _⊛_, ⋆, _$_, _∵_, !, qed, by, move, keep, drop, use1, use3, split, join, pick, fsplit, fsplit3, fjoin, fjoin3, feqI, suffices, frame, await, done}
 use types.Run.{look, init, forget, stop, hop, from, load, unit-lit, of-opd, and-then, no-more, assigns, land, returns, enter, alloc1, alloc0, params1, pass1, pass0, free1, free0}
-use types.Part.{whole, look-in, store-in}
+use types.Part.{whole, store-in}
 use types.SemTy.{Body}
 use sound.WpLaws.{FmC, fmOf, WpFn-mono}
 use denote.RattleType.{RattleType, owns}

@@ -20,7 +20,7 @@ use denote.Array.{Array}
 use denote.ArrayMemory.{array-apart, array-whole}
 use denote.Builtin.{u8}
 use denote.Slice.{sliceVal, ShrSlice, Room}
-use denote.Lend.{LentRef, lends-ref, ref-back, LentShrs, lends-shr-slice}
+use denote.Lend.{LentRef, lends-ref, ref-back, lends-shr-slice}
 use borrow.Table.OneValue.{One, part-in, part-out}
 
 -- n bytes at the local b, at the value xs
