@@ -8,10 +8,9 @@ use lib.Dec.{eqb}
 use lib.ListN.{length, take, drop, length-append}
 use lib.Seq.{take-at, drop-at}
 use borrow.Author.Tests.{eqb-true, eq-eqb}
-use Rattle.octets.specs.Octets.{Bytes, same, splice}
+use Rattle.octets.specs.Octets.{Bytes, same}
 use Rattle.octets.proofs.Tests.{and-left, and-right, and-both}
 use Rattle.octets.proofs.Same.{same-eq, eq-same}
-use Rattle.octets.proofs.Parts.{splice-whole}
 use Rattle.bigendian.specs.BigEndian.{be, unbe}
 use Rattle.bigendian.proofs.Laws.{length-be, unbe-be}
 use Rattle.sha256.specs.Sha256.{sha256}
@@ -73,9 +72,6 @@ same-block p q v w d e hp hq nv nw = go (same (block p v d) (block q w e)) (eqb 
     go false false h k = h ∙ sym k
 
 -- what the running digest is fed, part after part
-pub fed-is : (n : ℕ) (zero8 number x previous d : List ℕ) → length zero8 ≡ 8 → number ≡ splice zero8 0 (be 8 n) → d ≡ sha256 ((([] ++ number) ++ x) ++ previous)
-    → d ≡ entryDigest n x previous
+pub fed-is : (n : ℕ) (number x previous d : List ℕ) → number ≡ be 8 n → d ≡ sha256 ((([] ++ number) ++ x) ++ previous) → d ≡ entryDigest n x previous
 unfolding entryDigest block
-fed-is n zero8 number x previous d nz h e =
-    let k : number ≡ be 8 n = h ∙ splice-whole zero8 (be 8 n) (length-be 8 n ∙ sym nz) in
-    e ∙ ap sha256 (append-assoc number x previous ∙ ap (λ (l : List ℕ). l ++ (x ++ previous)) k)
+fed-is n number x previous d h e = e ∙ ap sha256 (append-assoc number x previous ∙ ap (λ (l : List ℕ). l ++ (x ++ previous)) h)
