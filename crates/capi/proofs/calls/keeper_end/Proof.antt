@@ -1,0 +1,23 @@
+-- `capi::calls::keeper_end` meets its contract. Assumes nothing.
+use Rattle.capi.proofs.Answers.{end-number}
+use Rattle.capi.specs.Results.{replyNumber}
+use mathlib.Core.Path.{ap, _∙_}
+use borrow.Author.Needs.{needs}
+use Rattle.capi.proofs.calls.keeper_end.Statement.{statement}
+use Rattle.capi.proofs.calls.keeper_end.Tie as tie
+
+end-requires : tie.Need-end-requires
+end-requires c κs = search needs
+
+number-requires : tie.Need-number-requires
+number-requires c κs = search needs
+
+same-length : tie.Need-same-length
+same-length c = search needs
+
+returns : tie.Need-returns
+returns c = let r = c .before .before .before .end in
+    (c .number .ensures ∙ end-number (r .result) (r .last .1 .1 .1 .0) ∙ ap replyNumber (r .ensures .0), r .ensures .1)
+
+pub keeper-end-spec : {M : Type 1} → statement M
+keeper-end-spec = tie.close (tie.spec end-requires number-requires same-length returns)

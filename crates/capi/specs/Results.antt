@@ -1,0 +1,81 @@
+-- What C gets of each answer: the number returned, and each result after the call. Document 01: "A refusal .. returns its
+-- number alone", so that a refusal leaves every result as it was.
+use Prim.Native.Nat.{ℕ}
+use mathlib.Core.Bool.{not, cond}
+use mathlib.Core.List.{List, [], _∷_}
+use mathlib.Core.Option.{Option, none, some}
+use lib.Dec.{eqb}
+use lib.ListN.{getD}
+use Rattle.refusal.specs.Order.{fault, firstFault}
+use Rattle.table.specs.Whole.{whole}
+use Rattle.a2m.specs.Call.{Reply, refused, done, found, ended}
+use Rattle.receipt.specs.Answer.{Answer}
+use Rattle.receipt.specs.declared.Ask.the-variants.{Lookup, End}
+use Rattle.receipt.specs.declared.Question.{Question}
+use Rattle.runs.specs.Compare.{Verdict, differ, agree, collision}
+
+-- the check's one fault: 1 "torn"
+unfoldable pub checkRefusal : List ℕ → Option ℕ
+checkRefusal b = firstFault (fault 1 (not (whole b)) ∷ [])
+
+-- ---- the calls on a table
+
+-- a reply's number: 0 "done", or the refusal's
+unfoldable pub replyNumber : Reply → ℕ
+replyNumber (refused k) = k
+replyNumber (done l h) = 0
+replyNumber (found receipt k) = 0
+replyNumber (ended receipt) = 0
+
+-- "0 with the L and H of that row"
+unfoldable pub lowAfter : Reply → ℕ → ℕ
+lowAfter (refused k) old = old
+lowAfter (done l h) old = l
+lowAfter (found receipt k) old = old
+lowAfter (ended receipt) old = old
+
+unfoldable pub highAfter : Reply → ℕ → ℕ
+highAfter (refused k) old = old
+highAfter (done l h) old = h
+highAfter (found receipt k) old = old
+highAfter (ended receipt) old = old
+
+-- the number of held entries that a lookup examined
+unfoldable pub examinedAfter : Reply → ℕ → ℕ
+examinedAfter (refused k) old = old
+examinedAfter (done l h) old = old
+examinedAfter (found receipt k) old = k
+examinedAfter (ended receipt) old = old
+
+-- ---- the verifier and certificates
+
+-- "A question names keeper, log, LOOKUP or END, nonce, and for LOOKUP the position"
+abbrev pub lookupOf : ℕ → ℕ → ℕ → Question
+lookupOf keeper log position = record { keeper = keeper; log = log; ask = Lookup position }
+
+abbrev pub endOf : ℕ → ℕ → Question
+endOf keeper log = record { keeper = keeper; log = log; ask = End }
+
+-- a verdict's five numbers: keeper, log, position, kind and reference
+unfoldable pub verdictAfter : Answer → List ℕ → List ℕ
+verdictAfter a old = cond (eqb (a .number) 0) (a .values) old
+
+-- a certificate's two: the place of "the first good receipt", and "the members"
+unfoldable pub placeAfter : Answer → ℕ → ℕ
+placeAfter a old = cond (eqb (a .number) 0) (getD (a .values) 0 0) old
+
+unfoldable pub maskAfter : Answer → ℕ → ℕ
+maskAfter a old = cond (eqb (a .number) 0) (getD (a .values) 1 0) old
+
+-- ---- runs
+
+-- the header's KEEPER_DIFFER, KEEPER_AGREE and KEEPER_COLLISION
+unfoldable pub verdictCode : Verdict → ℕ
+verdictCode differ = 0
+verdictCode agree = 1
+verdictCode collision = 2
+
+-- the code of a verdict, if there is one
+unfoldable pub codeAfter : Option Verdict → ℕ → ℕ
+codeAfter none old = old
+codeAfter (some v) old = verdictCode v

@@ -1,0 +1,97 @@
+// The verifier and certificates.
+use octets::wide;
+use quorum::Station;
+use receipt::Ask;
+use receipt::Question;
+use receipt::Verdict;
+ghost use mathlib.Core.Path.{_≡_};
+ghost use Rattle.receipt.specs.Verdict.{verdictAnswer, verdict as verdictOn};
+ghost use Rattle.quorum.specs.Certificate.{certificate as certificateFor};
+ghost use Rattle.capi.specs.Results.{lookupOf, endOf, verdictAfter, placeAfter, maskAfter};
+
+// The number of a verdict, and what an accepted one says: C's keeper_verdict is its five numbers in a row.
+fn judged(judgement: Verdict, verdict: &mut [u64; 5]) -> u8
+    ensures answer { λ r. ⌜ r ≡ verdictAnswer judgement .number ⌝ }
+    ensures verdict { λ _. ⌜ now (verdict .exit) ≡ verdictAfter (verdictAnswer judgement) (now (verdict .entry)) ⌝ }
+{
+    match judgement {
+        Verdict::Accepted {
+            keeper,
+            log,
+            position,
+            kind,
+            reference,
+        } => {
+            *verdict = [keeper, wide(log), position, wide(kind), reference];
+            0
+        }
+        Verdict::Refused(why) => why.number(),
+    }
+}
+
+#[no_mangle]
+pub extern "C" fn keeper_verify_lookup(
+    key: &[u8],
+    receipt: &[u8],
+    nonce: &[u8],
+    keeper: u64,
+    log: u64,
+    position: u64,
+    verdict: &mut [u64; 5],
+) -> u8
+    ensures answer { λ r. ⌜ r ≡ verdictOn (now (key .entry)) (now (receipt .entry)) (now (nonce .entry)) (lookupOf keeper log position) .number ⌝ }
+    ensures verdict { λ _. ⌜ now (verdict .exit) ≡ verdictAfter (verdictOn (now (key .entry)) (now (receipt .entry)) (now (nonce .entry)) (lookupOf keeper log position)) (now (verdict .entry)) ⌝ }
+{
+    let question = Question {
+        keeper,
+        log,
+        ask: Ask::Lookup(position),
+    };
+    let judgement = receipt::verify(key, receipt, nonce, question);
+    judged(judgement, verdict)
+}
+
+#[no_mangle]
+pub extern "C" fn keeper_verify_end(
+    key: &[u8],
+    receipt: &[u8],
+    nonce: &[u8],
+    keeper: u64,
+    log: u64,
+    verdict: &mut [u64; 5],
+) -> u8
+    ensures answer { λ r. ⌜ r ≡ verdictOn (now (key .entry)) (now (receipt .entry)) (now (nonce .entry)) (endOf keeper log) .number ⌝ }
+    ensures verdict { λ _. ⌜ now (verdict .exit) ≡ verdictAfter (verdictOn (now (key .entry)) (now (receipt .entry)) (now (nonce .entry)) (endOf keeper log)) (now (verdict .entry)) ⌝ }
+{
+    let question = Question {
+        keeper,
+        log,
+        ask: Ask::End,
+    };
+    let judgement = receipt::verify(key, receipt, nonce, question);
+    judged(judgement, verdict)
+}
+
+#[no_mangle]
+pub extern "C" fn keeper_certify(
+    roster: &[u8],
+    nonce: &[u8],
+    log: u64,
+    position: u64,
+    certificate: &[u8],
+    place: &mut u64,
+    mask: &mut u32,
+) -> u8
+    ensures answer { λ r. ⌜ r ≡ certificateFor (now (roster .entry)) (now (nonce .entry)) log position (now (certificate .entry)) .number ⌝ }
+    ensures place { λ _. ⌜ now (place .exit) ≡ placeAfter (certificateFor (now (roster .entry)) (now (nonce .entry)) log position (now (certificate .entry))) (now (place .entry)) ⌝ }
+    ensures mask { λ _. ⌜ now (mask .exit) ≡ maskAfter (certificateFor (now (roster .entry)) (now (nonce .entry)) log position (now (certificate .entry))) (now (mask .entry)) ⌝ }
+{
+    match quorum::certify(roster, nonce, log, position, certificate) {
+        Station::Certified { place: p, mask: m } => {
+            *place = p as u64;
+            *mask = m;
+            0
+        }
+        Station::Refused(why) => why.number(),
+    }
+}
