@@ -380,8 +380,8 @@ impl Check {
     fn tags(&mut self, times: u64) -> Checked<()> {
         // RFC 4231, cases 1, 2, 4, 6 and 7.
         let counted: Vec<u8> = (1..=25).collect();
-        let long: &[u8] = b"This is a test using a larger than block-size key and a larger than block-size data. The key \
-            needs to be hashed before being used by the HMAC algorithm.";
+        let long: &[u8] = b"This is a test using a larger than block-size key and a larger than block-size data. \
+            The key needs to be hashed before being used by the HMAC algorithm.";
         for (key, text, tag) in [
             (&[0x0b; 20][..], &b"Hi There"[..], "b0344c61d8db38535ca8afceaf0bf12b881dc200c9833da726e9376c2e32cff7"),
             (

@@ -9,7 +9,12 @@ use std::time::Instant;
 extern "C" {
     fn openssl_sha256(message: *const u8, bytes: usize, digest: *mut u8);
     fn openssl_version() -> *const c_char;
+    /// plain.c's hash with the standard's own formulas.
+    fn book_hash(message: *const u8, bytes: usize, digest: *mut u8, digest_bytes: usize) -> u8;
 }
+
+/// Columns of a row's label.
+const WIDTH: usize = 56;
 
 /// Ratios this little above an aim are taken for noise.
 const NOISE: f64 = 0.03;
@@ -40,7 +45,8 @@ struct Times {
 impl Timer {
     /// The calls' times in ns (medians over batches), and the median of the ratios of neighbouring batches.
     fn pair(&self, mut one: impl FnMut(), mut two: impl FnMut()) -> Times {
-        let aim = if self.quick { 5e5 } else { 3e6 };
+        // Short batches: one that another process cuts into is then one of many, and the median passes it over.
+        let aim = if self.quick { 2e5 } else { 4e5 };
         let mut n = 1;
         loop {
             let took = batch(n, &mut one).min(batch(n, &mut two));
@@ -52,9 +58,9 @@ impl Timer {
         let long = batch(1, &mut one) > 1e7;
         let batches = match (self.quick, long) {
             (true, true) => 5,
-            (true, false) => 11,
-            (false, true) => 11,
-            (false, false) => 41,
+            (true, false) => 31,
+            (false, true) => 15,
+            (false, false) => 201,
         };
         let (mut ones, mut twos, mut ratios) = (Vec::new(), Vec::new(), Vec::new());
         for _ in 0..batches {
@@ -85,7 +91,7 @@ struct Table {
 
 impl Table {
     fn head(&self, title: &str, other: &str) {
-        println!("\n{title:<50}{:>12}{other:>14}{:>8}{:>7}", "keeper", "ratio", "aim");
+        println!("\n{title:<WIDTH$}{:>12}{other:>14}{:>8}{:>7}", "keeper", "ratio", "aim");
     }
 
     fn row(&mut self, label: &str, times: &Times, aim: Option<f64>, note: &str) {
@@ -93,7 +99,7 @@ impl Table {
         let aim = aim.map_or(String::new(), |aim| format!("{aim:.1}"));
         let (one, two, ratio) = (shown(times.one), shown(times.two), times.ratio);
         let mark = if missed { "  over" } else { "" };
-        println!("{label:<50}{one:>12}{two:>14}{ratio:>8.2}{aim:>7}{mark}{note}");
+        println!("{label:<WIDTH$}{one:>12}{two:>14}{ratio:>8.2}{aim:>7}{mark}{note}");
         if missed {
             self.over.push(format!("{label}: {ratio:.2}, aim {aim}"));
         }
@@ -101,7 +107,7 @@ impl Table {
     }
 
     fn hashes(&mut self) {
-        self.head("SHA-256", "plain C");
+        self.head("SHA-256, against plain C", "plain C");
         for (bytes, label) in SIZES {
             let message = Random(1).bytes(bytes);
             let (mut d1, mut d2) = ([0; 32], [0; 32]);
@@ -112,6 +118,18 @@ impl Table {
             assert_eq!(d1, d2);
             self.row(label, &times, Some(1.0), "");
         }
+        self.head("SHA-256, against plain C with the standard's formulas", "plain C");
+        for (bytes, label) in SIZES {
+            let message = Random(1).bytes(bytes);
+            let (mut d1, mut d2) = ([0u8; 32], [0u8; 32]);
+            let times = self.timer.pair(
+                || { KEEPER.hash(black_box(&message), &mut d1); },
+                || unsafe { black_box(book_hash(black_box(&message).as_ptr(), bytes, d2.as_mut_ptr(), 32)); },
+            );
+            assert_eq!(d1, d2);
+            self.row(label, &times, None, "");
+        }
+        self.head("HMAC", "plain C");
         let key = Random(2).bytes(32);
         let text = Random(3).bytes(128);
         let (mut t1, mut t2) = ([0; 32], [0; 32]);
@@ -122,8 +140,8 @@ impl Table {
         self.row("HMAC of 128 bytes, key of 32", &times, None, "");
     }
 
-    /// OpenSSL chooses its code when it is loaded, by the processor's features as the environment leaves them: a process
-    /// for each choice.
+    /// OpenSSL chooses its code when it is loaded, by the processor's features as the environment leaves them: hence a
+    /// process for each choice.
     fn openssl(&mut self) -> bool {
         let mut speeds = Vec::new();
         for (label, mask) in MASKS {
@@ -332,14 +350,19 @@ impl Table {
     }
 }
 
-const SIZES: [(usize, &str); 4] = [(64, "64 B"), (1 << 10, "1 KB"), (1 << 16, "64 KB"), (1 << 24, "16 MB")];
+const SIZES: [(usize, &str); 4] = [
+    (64, "SHA-256 of 64 B"),
+    (1 << 10, "SHA-256 of 1 KB"),
+    (1 << 16, "SHA-256 of 64 KB"),
+    (1 << 24, "SHA-256 of 16 MB"),
+];
 
-/// Bits of OPENSSL_ia32cap: SHA is bit 29, AVX2, BMI1 and BMI2 are bits 5, 3 and 8 of the second word; AVX and SSSE3 are
-/// bits 60 and 41 of the first.
+/// Bits of OPENSSL_ia32cap: of the second word SHA is bit 29, AVX2, BMI1 and BMI2 are bits 5, 3 and 8; of the first AVX
+/// and SSSE3 are bits 60 and 41.
 const MASKS: [(&str, &str); 3] = [
     ("with SHA extensions", ""),
-    ("without SHA extensions (AVX2)", ":~0x20000000"),
-    ("without SHA extensions, AVX2, AVX, SSSE3 (scalar)", "~0x1000020000000000:~0x20000128"),
+    ("by AVX2, no SHA extensions", ":~0x20000000"),
+    ("scalar (no SHA, AVX, SSSE3)", "~0x1000020000000000:~0x20000128"),
 ];
 
 /// The child's part: the keeper's hash and OpenSSL's in turn, a line for each size.
@@ -362,12 +385,13 @@ pub fn run(quick: bool) -> bool {
     let version = unsafe { std::ffi::CStr::from_ptr(openssl_version()) };
     println!("libcrypto:  {}", version.to_string_lossy());
     println!(
-        "Times are those of one call: the median over batches, keeper and other side in turn. The ratio is keeper / other\n\
-         (below 1: the keeper is faster), the median over neighbouring batches. Where a call changes the table, the bytes\n\
-         that it changed are put back after each call within the timed part, by the same code on both sides; what that\n\
-         takes by itself stands in the row and is not taken off. Half of (1,1) is empty. Lookup asks for the middle of log\n\
-         0, truncate frees half of its entries. Shuffled: the same chains over slots at random. \"over\": above the aim by\n\
-         more than {NOISE}."
+        "Times are those of one call: the median over batches, keeper and other side in turn. The ratio is keeper /\n\
+         other (below 1: the keeper is faster), the median over neighbouring batches. Where a call changes the table,\n\
+         the bytes that it changed are put back after each call within the timed part, by the same code on both\n\
+         sides; what that takes by itself stands in the row and is not taken off. Half of (1,1) is empty. Lookup asks\n\
+         for the middle of log 0, truncate frees half of its entries. Shuffled: the same chains over slots at random.\n\
+         The place of the code in memory alone moves a ratio by some percent. \"over\": above the aim by more than\n\
+         {NOISE}."
     );
     let mut table = Table { timer: Timer { quick }, over: Vec::new(), rows: 0 };
     table.hashes();
