@@ -365,8 +365,10 @@ impl Check {
         for n in 0..=300 {
             let message = self.random.bytes(n);
             self.hash(&message, 32)?;
-            let n = self.length(32);
-            self.hash(&message, n)?;
+            if n % 10 == 0 {
+                let wrong = self.random.pick(&[0, 1, 31, 33, 64]);
+                self.hash(&message, wrong)?;
+            }
         }
         for i in 0..60 * times {
             let most = if i % 20 == 0 { 1 << 20 } else { 1 << 13 };
@@ -788,7 +790,9 @@ impl Check {
                 certificate.resize(n, 0);
             }
             if self.random.once_in(20) {
-                nonce = self.value();
+                // Several faults at once: the first in order counts.
+                let wrong = self.random.pick(&[0, 31, 33, 64]);
+                nonce = self.random.bytes(wrong);
             }
             let (log, position) = match self.random.below(30) {
                 0 => (log as u64 + 256, position),
@@ -853,6 +857,83 @@ impl Check {
         Ok(())
     }
 
+    /// Every value of every byte of small tables, and of a receipt with its tag made anew.
+    fn every_byte(&mut self) -> Checked<()> {
+        for (g, s, steps) in [(1, 1, 0), (1, 2, 3), (2, 3, 6), (2, 4, 30)] {
+            let key = self.random.bytes(32);
+            let before = vec![0; table_bytes(g, s)];
+            let mut t = self.format(&before, g, s, 7, &key)?.lent.swap_remove(0);
+            for _ in 0..steps {
+                t = self.step(&t)?.0;
+            }
+            for at in 0..t.len() {
+                for x in 0..=255 {
+                    let mut edited = t.clone();
+                    edited[at] = x;
+                    self.check(&edited)?;
+                }
+            }
+        }
+        let (key, nonce, pair) = (self.random.bytes(32), self.random.bytes(32), self.random.bytes(64));
+        for (kind, reference) in [(0, 4), (1, 5), (2, 6), (3, 9)] {
+            let mut fields = Receipt::assigned(7, 3, 5, &nonce, &pair);
+            fields.kind = kind;
+            fields.reference = reference;
+            if kind != 1 {
+                fields.pair.fill(0);
+            }
+            let receipt = fields.write(&key);
+            for at in (0..32).chain([32, 63, 64, 95, 96, 127]) {
+                for x in 0..=255 {
+                    let mut edited = receipt.clone();
+                    edited[at] = x;
+                    retag(&mut edited, &key);
+                    self.verify(&key, &edited, &nonce, 7, 3, Some(5))?;
+                    self.verify(&key, &edited, &nonce, 7, 3, None)?;
+                }
+            }
+        }
+        Ok(())
+    }
+
+    /// Every way to link three slots of one log or none, with positions at random.
+    fn every_link(&mut self) -> Checked<()> {
+        let nothing = vec![0; table_bytes(1, 3)];
+        let key = self.random.bytes(32);
+        let fresh = self.format(&nothing, 1, 3, 7, &key)?.lent.swap_remove(0);
+        for links in 0..4u64.pow(6) {
+            let link = |i: u32| links / 4u64.pow(i) % 4;
+            for held in 0..8u64 {
+                let mut t = fresh.clone();
+                put(&mut t, 16, 2, link(0));
+                let row = row_at(0);
+                put(&mut t, row, 8, 1 + self.random.once_in(4) as u64);
+                put(&mut t, row + 16, 2, link(1));
+                put(&mut t, row + 18, 2, link(2));
+                for i in 0..3 {
+                    let at = slot_at(&t, i + 1);
+                    put(&mut t, at + 2, 2, link(3 + i as u32));
+                    if held >> i & 1 == 1 {
+                        t[at] = 1;
+                        put(&mut t, at + 4, 8, 1 + self.random.below(4));
+                    }
+                }
+                let last = if link(2) == 0 { 0 } else { get(&t, slot_at(&t, link(2)) + 4, 8) };
+                put(&mut t, row + 8, 8, last);
+                if held == 0 && link(1) == 0 {
+                    t[row..row + 20].copy_from_slice(&fresh[row..row + 20]);
+                    put(&mut t, row + 18, 2, link(2));
+                }
+                if self.check(&t)?.number == 0 {
+                    for _ in 0..10 {
+                        self.all_calls(&t, 1, &t)?;
+                    }
+                }
+            }
+        }
+        Ok(())
+    }
+
     /// All of it; more times, more inputs.
     pub fn all(&mut self, times: u64) -> Checked<()> {
         self.hashes(times)?;
@@ -860,7 +941,9 @@ impl Check {
         self.formats(times)?;
         self.tables(times)?;
         self.certificates(times)?;
-        self.runs(times)
+        self.runs(times)?;
+        self.every_byte()?;
+        self.every_link()
     }
 }
 
