@@ -1,4 +1,4 @@
--- `capi::calls::changed` meets its contract. Assumes nothing.
+-- `capi::calls::changed` meets its contract.
 use Rattle.capi.proofs.Answers.{done-changed, refused-changed}
 use borrow.Author.Needs.{needs}
 use Rattle.capi.proofs.calls.changed.Statement.{statement}

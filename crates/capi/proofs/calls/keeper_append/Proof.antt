@@ -1,4 +1,4 @@
--- `capi::calls::keeper_append` meets its contract. Assumes nothing.
+-- `capi::calls::keeper_append` meets its contract.
 use Rattle.capi.proofs.Answers.{Changed}
 use mathlib.Core.Path.{subst}
 use borrow.Author.Needs.{needs}

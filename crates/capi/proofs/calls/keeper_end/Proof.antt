@@ -1,4 +1,4 @@
--- `capi::calls::keeper_end` meets its contract. Assumes nothing.
+-- `capi::calls::keeper_end` meets its contract.
 use Rattle.capi.proofs.Answers.{end-number}
 use Rattle.capi.specs.Results.{replyNumber}
 use mathlib.Core.Path.{ap, _∙_}

@@ -1,4 +1,4 @@
--- `capi::calls::keeper_lookup` meets its contract. Assumes nothing.
+-- `capi::calls::keeper_lookup` meets its contract.
 use Rattle.capi.proofs.Answers.{Looked}
 use Rattle.a2m.specs.Opened.{findingReply}
 use Rattle.a2m.specs.declared.Finding.{Finding}

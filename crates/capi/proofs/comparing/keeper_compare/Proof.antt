@@ -1,4 +1,4 @@
--- `capi::comparing::keeper_compare` meets its contract. Assumes nothing.
+-- `capi::comparing::keeper_compare` meets its contract.
 use Rattle.runs.specs.Call.{Answer, comparisonAnswer}
 use Rattle.capi.specs.Results.{verdictCode, codeAfter}
 use mathlib.Core.Path.{sym, ap, _∙_}

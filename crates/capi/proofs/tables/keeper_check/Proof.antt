@@ -1,4 +1,4 @@
--- `capi::tables::keeper_check` meets its contract. Assumes nothing.
+-- `capi::tables::keeper_check` meets its contract.
 use Rattle.capi.proofs.Answers.{checkNumber, check-number}
 use mathlib.Core.Path.{sym, ap, _∙_}
 use borrow.Author.Needs.{needs}

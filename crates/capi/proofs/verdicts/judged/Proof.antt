@@ -1,4 +1,4 @@
--- `capi::verdicts::judged` meets its contract. Assumes nothing.
+-- `capi::verdicts::judged` meets its contract.
 use Rattle.capi.proofs.Answers.{accepted-verdict, refused-verdict}
 use borrow.Author.Needs.{needs}
 use Rattle.capi.proofs.verdicts.judged.Statement.{statement}

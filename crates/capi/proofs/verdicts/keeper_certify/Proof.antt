@@ -1,4 +1,4 @@
--- `capi::verdicts::keeper_certify` meets its contract. Assumes nothing.
+-- `capi::verdicts::keeper_certify` meets its contract.
 use Rattle.capi.proofs.Answers.{Certifies, certified, not-certified}
 use Rattle.refusal.specs.Number.{numberOf}
 use Rattle.quorum.specs.Certificate.{stationAnswer}

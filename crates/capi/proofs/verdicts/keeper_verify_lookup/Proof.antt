@@ -1,4 +1,4 @@
--- `capi::verdicts::keeper_verify_lookup` meets its contract. Assumes nothing.
+-- `capi::verdicts::keeper_verify_lookup` meets its contract.
 use Rattle.receipt.specs.Answer.{Answer}
 use Rattle.capi.specs.Results.{verdictAfter}
 use mathlib.Core.Path.{_≡_, subst}
