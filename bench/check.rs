@@ -31,22 +31,24 @@ pub enum Part {
 
 /// Results stand at this before a call, and after a refused one. It is other than 0 in every byte.
 const UNTOUCHED: u64 = 0xa9b8_c7d6_e5f4_a3b2;
-const GUARD: u8 = 0xc3;
-const GUARDS: usize = 32;
+/// Guard bytes around a lent buffer, more than a slot has. Zero bytes look like a free slot to who reads too far.
+const GUARDS: usize = 96;
+const GUARD: [u8; 2] = [0, 0xc3];
 
 /// A lent buffer between guard bytes, at an alignment of its own.
 pub struct Lent {
     bytes: Vec<u8>,
     at: usize,
     len: usize,
+    guard: u8,
 }
 
 impl Lent {
     fn new(content: &[u8], shift: usize) -> Lent {
-        let at = GUARDS + shift;
-        let mut bytes = vec![GUARD; at + content.len() + GUARDS];
+        let (at, guard) = (GUARDS + shift, GUARD[shift % 2]);
+        let mut bytes = vec![guard; at + content.len() + GUARDS];
         bytes[at..at + content.len()].copy_from_slice(content);
-        Lent { bytes, at, len: content.len() }
+        Lent { bytes, at, len: content.len(), guard }
     }
 
     fn get(&self) -> &[u8] {
@@ -58,7 +60,7 @@ impl Lent {
     }
 
     fn guarded(&self) -> bool {
-        let outside = |b: &[u8]| b.iter().all(|x| *x == GUARD);
+        let outside = |b: &[u8]| b.iter().all(|x| *x == self.guard);
         outside(&self.bytes[..self.at]) && outside(&self.bytes[self.at + self.len..])
     }
 }
@@ -108,7 +110,7 @@ impl Check {
         &mut self, call: usize, lent: &[&[u8]], run: impl Fn(&Side, &mut [Lent], &mut [u64; 5]) -> u8,
         says: impl Fn() -> String,
     ) -> Checked<Answer> {
-        let shifts: Vec<usize> = lent.iter().map(|_| self.random.below(16) as usize).collect();
+        let shifts: Vec<usize> = lent.iter().map(|_| self.random.below(32) as usize).collect();
         let mut both = Vec::new();
         for side in [&KEEPER, &PLAIN] {
             let mut own: Vec<Lent> = lent.iter().zip(&shifts).map(|(b, s)| Lent::new(b, *s)).collect();

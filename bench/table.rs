@@ -4,9 +4,9 @@ use crate::tables::*;
 use std::hint::black_box;
 use std::os::raw::c_char;
 use std::process::Command;
-use std::time::Instant;
 
 extern "C" {
+    fn clock_gettime(clock: i32, time: *mut [i64; 2]) -> i32;
     fn openssl_sha256(message: *const u8, bytes: usize, digest: *mut u8);
     fn openssl_version() -> *const c_char;
     /// plain.c's hash with the standard's own formulas.
@@ -24,12 +24,20 @@ fn median(mut times: Vec<f64>) -> f64 {
     times[times.len() / 2]
 }
 
+/// The thread's processor time in ns, which stands still while another process has the processor.
+fn now() -> f64 {
+    const CLOCK_THREAD_CPUTIME_ID: i32 = 3;
+    let mut time = [0; 2];
+    assert_eq!(unsafe { clock_gettime(CLOCK_THREAD_CPUTIME_ID, &mut time) }, 0);
+    time[0] as f64 * 1e9 + time[1] as f64
+}
+
 fn batch(n: u64, call: &mut impl FnMut()) -> f64 {
-    let start = Instant::now();
+    let start = now();
     for _ in 0..n {
         call();
     }
-    start.elapsed().as_secs_f64() * 1e9
+    now() - start
 }
 
 struct Timer {
@@ -385,13 +393,13 @@ pub fn run(quick: bool) -> bool {
     let version = unsafe { std::ffi::CStr::from_ptr(openssl_version()) };
     println!("libcrypto:  {}", version.to_string_lossy());
     println!(
-        "Times are those of one call: the median over batches, keeper and other side in turn. The ratio is keeper /\n\
-         other (below 1: the keeper is faster), the median over neighbouring batches. Where a call changes the table,\n\
-         the bytes that it changed are put back after each call within the timed part, by the same code on both\n\
-         sides; what that takes by itself stands in the row and is not taken off. Half of (1,1) is empty. Lookup asks\n\
-         for the middle of log 0, truncate frees half of its entries. Shuffled: the same chains over slots at random.\n\
-         The place of the code in memory alone moves a ratio by some percent. \"over\": above the aim by more than\n\
-         {NOISE}."
+        "Times are processor times of one call: the median over batches, keeper and other side in turn. The ratio is\n\
+         keeper / other (below 1: the keeper is faster), the median over neighbouring batches. Where a call changes\n\
+         the table, the bytes that it changed are put back after each call within the timed part, by the same code on\n\
+         both sides; what that takes by itself stands in the row and is not taken off. Half of (1,1) is empty. Lookup\n\
+         asks for the middle of log 0, truncate frees half of its entries. Shuffled: the same chains over slots at\n\
+         random. The place of the code in memory alone moves a ratio by some percent. \"over\": above the aim by more\n\
+         than {NOISE}."
     );
     let mut table = Table { timer: Timer { quick }, over: Vec::new(), rows: 0 };
     table.hashes();
