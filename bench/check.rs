@@ -1,0 +1,1032 @@
+//! The differential check: the same calls on both sides, and every number, result and lent byte compared.
+use crate::sides::{Random, Run, Side, Verdict, KEEPER, PLAIN};
+use crate::tables::*;
+
+pub const CALLS: [&str; 13] = [
+    "hash", "tag", "format", "check", "append", "advance", "truncate", "lookup", "end", "verify", "verify end",
+    "certify", "compare",
+];
+const HASH: usize = 0;
+const TAG: usize = 1;
+const FORMAT: usize = 2;
+const CHECK: usize = 3;
+const APPEND: usize = 4;
+const ADVANCE: usize = 5;
+const TRUNCATE: usize = 6;
+const LOOKUP: usize = 7;
+const END: usize = 8;
+const VERIFY: usize = 9;
+const VERIFY_END: usize = 10;
+const CERTIFY: usize = 11;
+const COMPARE: usize = 12;
+
+/// What is spoiled of plain C's first accepted answer to a call, to see that the check finds it.
+#[derive(Clone, Copy, PartialEq, Debug)]
+pub enum Part {
+    Number,
+    Result,
+    Byte,
+    BehindTheBuffer,
+}
+
+/// Results stand at this before a call, and after a refused one. It is other than 0 in every byte.
+const UNTOUCHED: u64 = 0xa9b8_c7d6_e5f4_a3b2;
+/// Guard bytes around a lent buffer, more than a slot has. Zero bytes look like a free slot to who reads too far.
+const GUARDS: usize = 96;
+const GUARD: [u8; 2] = [0, 0xc3];
+
+/// A lent buffer between guard bytes, at an alignment of its own.
+pub struct Lent {
+    bytes: Vec<u8>,
+    at: usize,
+    len: usize,
+    guard: u8,
+}
+
+impl Lent {
+    fn new(content: &[u8], shift: usize) -> Lent {
+        let (at, guard) = (GUARDS + shift, GUARD[shift % 2]);
+        let mut bytes = vec![guard; at + content.len() + GUARDS];
+        bytes[at..at + content.len()].copy_from_slice(content);
+        Lent { bytes, at, len: content.len(), guard }
+    }
+
+    fn get(&self) -> &[u8] {
+        &self.bytes[self.at..self.at + self.len]
+    }
+
+    fn get_mut(&mut self) -> &mut [u8] {
+        &mut self.bytes[self.at..self.at + self.len]
+    }
+
+    fn guarded(&self) -> bool {
+        let outside = |b: &[u8]| b.iter().all(|x| *x == self.guard);
+        outside(&self.bytes[..self.at]) && outside(&self.bytes[self.at + self.len..])
+    }
+}
+
+/// What both sides answered.
+struct Answer {
+    number: u8,
+    results: [u64; 5],
+    lent: Vec<Vec<u8>>,
+}
+
+pub struct Check {
+    random: Random,
+    /// Answers by call and number.
+    pub counts: [[u64; 15]; CALLS.len()],
+    /// Accepted comparisons of runs by verdict, and accepted lookups by kind.
+    pub verdicts: [u64; 3],
+    pub kinds: [u64; 4],
+    pub longest: usize,
+    spoil: Option<(usize, Part)>,
+}
+
+type Checked<T> = Result<T, String>;
+
+fn hex(bytes: &[u8]) -> String {
+    bytes.iter().map(|b| format!("{b:02x}")).collect()
+}
+
+impl Check {
+    pub fn new(seed: u64, spoil: Option<(usize, Part)>) -> Check {
+        Check {
+            random: Random(seed),
+            counts: [[0; 15]; CALLS.len()],
+            verdicts: [0; 3],
+            kinds: [0; 4],
+            longest: 0,
+            spoil,
+        }
+    }
+
+    pub fn cases(&self) -> u64 {
+        self.counts.iter().flatten().sum()
+    }
+
+    /// Runs one call on both sides, each on its own copy of what is lent.
+    fn case(
+        &mut self, call: usize, lent: &[&[u8]], run: impl Fn(&Side, &mut [Lent], &mut [u64; 5]) -> u8,
+        says: impl Fn() -> String,
+    ) -> Checked<Answer> {
+        let shifts: Vec<usize> = lent.iter().map(|_| self.random.below(32) as usize).collect();
+        let mut both = Vec::new();
+        for side in [&KEEPER, &PLAIN] {
+            let mut own: Vec<Lent> = lent.iter().zip(&shifts).map(|(b, s)| Lent::new(b, *s)).collect();
+            let mut results = [UNTOUCHED; 5];
+            let number = run(side, &mut own, &mut results);
+            both.push((number, results, own));
+        }
+        let (mut plain, keeper) = (both.pop().unwrap(), both.pop().unwrap());
+        if let Some((at, part)) = self.spoil {
+            if at == call && plain.0 == 0 {
+                self.spoil = None;
+                match part {
+                    Part::Number => plain.0 = 1,
+                    Part::Result => plain.1[0] ^= 1,
+                    Part::Byte => *plain.2[0].get_mut().last_mut().unwrap() ^= 1,
+                    Part::BehindTheBuffer => *plain.2[0].bytes.last_mut().unwrap() ^= 1,
+                }
+            }
+        }
+        let mut wrong = Vec::new();
+        if keeper.0 != plain.0 {
+            wrong.push("the numbers differ".to_string());
+        }
+        if keeper.1 != plain.1 {
+            wrong.push("the results differ".to_string());
+        }
+        for (i, (k, p)) in keeper.2.iter().zip(&plain.2).enumerate() {
+            if k.get() != p.get() {
+                let at = k.get().iter().zip(p.get()).position(|(x, y)| x != y).unwrap();
+                wrong.push(format!("the bytes of buffer {i} differ, first at {at}"));
+            }
+        }
+        for (side, (number, results, own)) in [(&KEEPER, &keeper), (&PLAIN, &plain)] {
+            if *number > 14 {
+                wrong.push(format!("{}: no number of a call", side.name));
+            }
+            if own.iter().any(|b| !b.guarded()) {
+                wrong.push(format!("{}: wrote outside a buffer", side.name));
+            }
+            let same = own.iter().zip(lent).all(|(now, before)| now.get() == *before) && *results == [UNTOUCHED; 5];
+            if *number != 0 && !same {
+                wrong.push(format!("{}: refused, and changed something", side.name));
+            }
+        }
+        if !wrong.is_empty() {
+            let mut text = format!("{}: {}\n  {}\n", CALLS[call], wrong.join("; "), says());
+            for (i, b) in lent.iter().enumerate() {
+                text += &format!("  buffer {i} before, {} bytes at alignment {}: {}\n", b.len(), shifts[i], hex(b));
+            }
+            for (side, (number, results, own)) in [(&KEEPER, &keeper), (&PLAIN, &plain)] {
+                text += &format!("  {}: number {number}, results {results:x?}\n", side.name);
+                for (i, b) in own.iter().enumerate() {
+                    if b.get() != lent[i] {
+                        text += &format!("    buffer {i} after: {}\n", hex(b.get()));
+                    }
+                }
+            }
+            return Err(text);
+        }
+        self.counts[call][keeper.0 as usize] += 1;
+        let lent = keeper.2.iter().map(|b| b.get().to_vec()).collect();
+        Ok(Answer { number: keeper.0, results: keeper.1, lent })
+    }
+
+    // ---- one function for each call; the first lent buffer is the one that it writes ----
+
+    fn hash(&mut self, message: &[u8], digest_bytes: usize) -> Checked<Answer> {
+        let digest = self.random.bytes(digest_bytes);
+        self.longest = self.longest.max(message.len());
+        let run = |side: &Side, b: &mut [Lent], _: &mut [u64; 5]| {
+            let (digest, message) = b.split_at_mut(1);
+            side.hash(message[0].get(), digest[0].get_mut())
+        };
+        self.case(HASH, &[&digest, message], run, || format!("digest {digest_bytes}, message {}", message.len()))
+    }
+
+    fn tag(&mut self, key: &[u8], text: &[u8], tag_bytes: usize) -> Checked<Answer> {
+        let tag = self.random.bytes(tag_bytes);
+        let run = |side: &Side, b: &mut [Lent], _: &mut [u64; 5]| {
+            let (tag, rest) = b.split_at_mut(1);
+            side.tag(rest[0].get(), rest[1].get(), tag[0].get_mut())
+        };
+        self.case(TAG, &[&tag, key, text], run, || "tag, key, text".to_string())
+    }
+
+    fn format(&mut self, table: &[u8], g: u64, s: u64, keeper: u64, key: &[u8]) -> Checked<Answer> {
+        let run =
+            |side: &Side, b: &mut [Lent], _: &mut [u64; 5]| side.format(b[0].get_mut(), g, s, keeper, key);
+        self.case(FORMAT, &[table], run, || format!("logs {g}, slots {s}, keeper {keeper}, key {}", hex(key)))
+    }
+
+    fn check(&mut self, table: &[u8]) -> Checked<Answer> {
+        let run = |side: &Side, b: &mut [Lent], _: &mut [u64; 5]| side.check(b[0].get());
+        self.case(CHECK, &[table], run, String::new)
+    }
+
+    fn append(&mut self, table: &[u8], log: u64, value: &[u8]) -> Checked<Answer> {
+        let run = |side: &Side, b: &mut [Lent], r: &mut [u64; 5]| {
+            let (low, high) = r.split_at_mut(1);
+            side.append(b[0].get_mut(), log, value, &mut low[0], &mut high[0])
+        };
+        self.case(APPEND, &[table], run, || format!("log {log}, value {}", hex(value)))
+    }
+
+    fn advance(&mut self, table: &[u8], log: u64, n: u64, digest: &[u8], value: &[u8]) -> Checked<Answer> {
+        let run = |side: &Side, b: &mut [Lent], r: &mut [u64; 5]| {
+            let (low, high) = r.split_at_mut(1);
+            side.advance(b[0].get_mut(), log, n, digest, value, &mut low[0], &mut high[0])
+        };
+        let says = || format!("log {log}, position {n}, digest {}, value {}", hex(digest), hex(value));
+        self.case(ADVANCE, &[table], run, says)
+    }
+
+    fn truncate(&mut self, table: &[u8], log: u64, n: u64) -> Checked<Answer> {
+        let run = |side: &Side, b: &mut [Lent], r: &mut [u64; 5]| {
+            let (low, high) = r.split_at_mut(1);
+            side.truncate(b[0].get_mut(), log, n, &mut low[0], &mut high[0])
+        };
+        self.case(TRUNCATE, &[table], run, || format!("log {log}, position {n}"))
+    }
+
+    fn lookup(&mut self, table: &[u8], log: u64, n: u64, nonce: &[u8], receipt_bytes: usize) -> Checked<Answer> {
+        let receipt = self.random.bytes(receipt_bytes);
+        let run = |side: &Side, b: &mut [Lent], r: &mut [u64; 5]| {
+            let (receipt, table) = b.split_at_mut(1);
+            side.lookup(table[0].get(), log, n, nonce, receipt[0].get_mut(), &mut r[0])
+        };
+        let says = || format!("receipt, table; log {log}, position {n}, nonce {}", hex(nonce));
+        let answer = self.case(LOOKUP, &[&receipt, table], run, says)?;
+        if answer.number == 0 {
+            self.kinds[answer.lent[0][6] as usize] += 1;
+        }
+        Ok(answer)
+    }
+
+    fn end(&mut self, table: &[u8], log: u64, nonce: &[u8], receipt_bytes: usize) -> Checked<Answer> {
+        let receipt = self.random.bytes(receipt_bytes);
+        let run = |side: &Side, b: &mut [Lent], _: &mut [u64; 5]| {
+            let (receipt, table) = b.split_at_mut(1);
+            side.end(table[0].get(), log, nonce, receipt[0].get_mut())
+        };
+        self.case(END, &[&receipt, table], run, || format!("receipt, table; log {log}, nonce {}", hex(nonce)))
+    }
+
+    fn verify(
+        &mut self, key: &[u8], receipt: &[u8], nonce: &[u8], keeper: u64, log: u64, position: Option<u64>,
+    ) -> Checked<Answer> {
+        let run = |side: &Side, b: &mut [Lent], r: &mut [u64; 5]| {
+            let mut v = Verdict { keeper: r[0], log: r[1], position: r[2], kind: r[3], reference: r[4] };
+            let number = side.verify(b[0].get(), b[1].get(), b[2].get(), keeper, log, position, &mut v);
+            *r = [v.keeper, v.log, v.position, v.kind, v.reference];
+            number
+        };
+        let call = if position.is_some() { VERIFY } else { VERIFY_END };
+        let says = || format!("key, receipt, nonce; keeper {keeper}, log {log}, position {position:?}");
+        self.case(call, &[key, receipt, nonce], run, says)
+    }
+
+    fn certify(&mut self, roster: &[u8], nonce: &[u8], log: u64, n: u64, certificate: &[u8]) -> Checked<Answer> {
+        let run = |side: &Side, b: &mut [Lent], r: &mut [u64; 5]| {
+            let mut mask = r[1] as u32;
+            let number = side.certify(b[0].get(), b[1].get(), log, n, b[2].get(), &mut r[0], &mut mask);
+            r[1] = r[1] >> 32 << 32 | mask as u64;
+            number
+        };
+        let says = || format!("roster, nonce, certificate; log {log}, position {n}");
+        self.case(CERTIFY, &[roster, nonce, certificate], run, says)
+    }
+
+    fn compare(&mut self, run1: &Run, run2: &Run, collision_bytes: usize) -> Checked<Answer> {
+        let collision = self.random.bytes(collision_bytes);
+        let run = |side: &Side, b: &mut [Lent], r: &mut [u64; 5]| {
+            let mut verdict = r[0] as u8;
+            let number = side.compare(run1, run2, b[0].get_mut(), &mut verdict);
+            r[0] = r[0] >> 8 << 8 | verdict as u64;
+            number
+        };
+        let says = || {
+            let one = |r: &Run| format!("start {}, first {}, values {}", hex(&r.start), r.first, hex(&r.values));
+            format!("run 1: {}\n  run 2: {}", one(run1), one(run2))
+        };
+        let answer = self.case(COMPARE, &[&collision], run, says)?;
+        if answer.number == 0 {
+            let verdict = answer.results[0] as u8 as usize;
+            self.verdicts[verdict] += 1;
+            if verdict != 2 && answer.lent[0] != collision {
+                return Err("compare: another verdict than collision wrote the buffer".to_string());
+            }
+        }
+        Ok(answer)
+    }
+
+    // ---- inputs ----
+
+    /// Mostly the right length.
+    fn length(&mut self, right: usize) -> usize {
+        if self.random.once_in(24) {
+            self.random.pick(&[0, 1, right - 1, right + 1, right * 2, right + 32, right / 2])
+        } else {
+            right
+        }
+    }
+
+    fn value(&mut self) -> Vec<u8> {
+        let n = self.length(32);
+        if self.random.once_in(8) {
+            vec![0; n]
+        } else {
+            self.random.bytes(n)
+        }
+    }
+
+    /// Mostly a log that the table has.
+    fn log(&mut self, g: u64) -> u64 {
+        if self.random.once_in(20) {
+            let log = self.random.below(g);
+            self.random.pick(&[g, g + 1, 15, 16, 255, 256 + log, (1 << 16) + log, (1 << 32) + log, u64::MAX])
+        } else {
+            self.random.below(g)
+        }
+    }
+
+    /// A position around the log's own ones.
+    fn position(&mut self, t: &[u8], log: u64) -> u64 {
+        let (low, high) = if log < logs(t) { bounds(t, log) } else { (1, 0) };
+        match self.random.below(10) {
+            0 => self.random.pick(&[0, 1, 2, u64::MAX, u64::MAX - 1, 1 << 63, 1 << 32]),
+            1 => low.wrapping_add(self.random.below(3)).wrapping_sub(1),
+            2 => high.wrapping_add(self.random.below(4)).wrapping_sub(1),
+            3 => self.random.next(),
+            4..=6 if log < logs(t) => {
+                let held = positions(t, log);
+                if held.is_empty() {
+                    return self.random.below(3);
+                }
+                self.random.pick(&held).wrapping_add(self.random.below(3)).wrapping_sub(1)
+            }
+            _ if high > low => low + self.random.below((high - low).saturating_add(1)),
+            _ => high.saturating_add(1),
+        }
+    }
+
+    fn hashes(&mut self, times: u64) -> Checked<()> {
+        for (message, digest) in [
+            (&b""[..], "e3b0c44298fc1c149afbf4c8996fb92427ae41e4649b934ca495991b7852b855"),
+            (b"abc", "ba7816bf8f01cfea414140de5dae2223b00361a396177a9cb410ff61f20015ad"),
+            (
+                b"abcdbcdecdefdefgefghfghighijhijkijkljklmklmnlmnomnopnopq",
+                "248d6a61d20638b8e5c026930c3e6039a33ce45964ff2167f6ecedd419db06c1",
+            ),
+        ] {
+            known(&self.hash(message, 32)?, digest)?;
+        }
+        for n in 0..=300 {
+            let message = self.random.bytes(n);
+            self.hash(&message, 32)?;
+            if n % 10 == 0 {
+                let wrong = self.random.pick(&[0, 1, 31, 33, 64]);
+                self.hash(&message, wrong)?;
+            }
+        }
+        for i in 0..60 * times {
+            let most = if i % 20 == 0 { 1 << 20 } else { 1 << 13 };
+            let n = self.random.below(most) as usize;
+            let message = self.random.bytes(n);
+            self.hash(&message, 32)?;
+        }
+        Ok(())
+    }
+
+    fn tags(&mut self, times: u64) -> Checked<()> {
+        // RFC 4231, cases 1, 2, 4, 6 and 7.
+        let counted: Vec<u8> = (1..=25).collect();
+        let long: &[u8] = b"This is a test using a larger than block-size key and a larger than block-size data. \
+            The key needs to be hashed before being used by the HMAC algorithm.";
+        for (key, text, tag) in [
+            (&[0x0b; 20][..], &b"Hi There"[..], "b0344c61d8db38535ca8afceaf0bf12b881dc200c9833da726e9376c2e32cff7"),
+            (
+                b"Jefe",
+                b"what do ya want for nothing?",
+                "5bdcc146bf60754e6a042426089575c75a003f089d2739839dec58b964ec3843",
+            ),
+            (&counted, &[0xcd; 50], "82558a389a443c0ea4cc819899f2083a85f0faa3e578f8077a2e3ff46729665b"),
+            (
+                &[0xaa; 131],
+                b"Test Using Larger Than Block-Size Key - Hash Key First",
+                "60e431591ee0b67f0d8a26aacbf5b77f8e0bc6213728c5140546040f0ee37f54",
+            ),
+            (&[0xaa; 131], long, "9b09ffa71b942fcb27635fbcd5b0e944bfdc63644f0713938a7f51535c3a35e2"),
+        ] {
+            known(&self.tag(key, text, 32)?, tag)?;
+        }
+        for n in 0..=200 {
+            let key = self.random.bytes(n);
+            for _ in 0..times.min(20) + 2 {
+                let most = self.random.pick(&[1, 65, 130, 300, 5000]);
+                let (n, tag) = (self.random.below(most) as usize, self.length(32));
+                let text = self.random.bytes(n);
+                self.tag(&key, &text, tag)?;
+            }
+        }
+        Ok(())
+    }
+
+    fn formats(&mut self, times: u64) -> Checked<()> {
+        for _ in 0..100 * times {
+            let g = self.random.pick(&[0, 1, 2, 3, 15, 16, 17, 255, 256, 257, 1 << 32, u64::MAX]);
+            let s = self.random.pick(&[0, 1, 2, 7, 40, 799, 800, 801, 65535, 65536, 65537, 1 << 32, u64::MAX]);
+            let fits = (1..=16).contains(&g) && (1..=800).contains(&s);
+            let mut n = if fits { table_bytes(g, s) } else { self.random.below(200) as usize };
+            if self.random.once_in(4) {
+                n = self.random.pick(&[0, n.saturating_sub(1), n + 1, n + 76, 51, 52]);
+            }
+            let (table, keeper, key) = (self.random.bytes(n), self.random.next(), self.length(32));
+            let key = self.random.bytes(key);
+            let answer = self.format(&table, g, s, keeper, &key)?;
+            if answer.number == 0 {
+                self.check(&answer.lent[0])?;
+            }
+        }
+        Ok(())
+    }
+
+    /// A call at random; gives the table after it, and what a verifier needs if a receipt was written.
+    fn step(&mut self, t: &[u8]) -> Checked<(Vec<u8>, Option<(Vec<u8>, Vec<u8>)>)> {
+        let log = self.log(logs(t));
+        let after = match self.random.below(12) {
+            0..=3 => {
+                let value = self.value();
+                self.append(t, log, &value)?.lent.swap_remove(0)
+            }
+            4 | 5 => {
+                let high = if log < logs(t) { bounds(t, log).1 } else { 0 };
+                let n = match self.random.below(60) {
+                    0 => u64::MAX,
+                    1..=40 => high.saturating_add(1 + self.random.below(5)),
+                    41..=44 => high.saturating_add(self.random.next() >> 8),
+                    _ => self.position(t, log),
+                };
+                let (digest, value) = (self.value(), self.value());
+                self.advance(t, log, n, &digest, &value)?.lent.swap_remove(0)
+            }
+            6 | 7 => {
+                let n = self.position(t, log);
+                self.truncate(t, log, n)?.lent.swap_remove(0)
+            }
+            8..=10 => {
+                let (n, nonce, receipt) = (self.position(t, log), self.value(), self.length(160));
+                let answer = self.lookup(t, log, n, &nonce, receipt)?;
+                if answer.number == 0 {
+                    return Ok((t.to_vec(), Some((answer.lent[0].clone(), nonce))));
+                }
+                t.to_vec()
+            }
+            _ => {
+                let (nonce, receipt) = (self.value(), self.length(160));
+                let answer = self.end(t, log, &nonce, receipt)?;
+                if answer.number == 0 {
+                    return Ok((t.to_vec(), Some((answer.lent[0].clone(), nonce))));
+                }
+                t.to_vec()
+            }
+        };
+        Ok((after, None))
+    }
+
+    /// Edits a table so that it may be torn.
+    fn damage(&mut self, t: &mut Vec<u8>) {
+        let (g, s) = (logs(t), slots(t));
+        let slot = |check: &mut Check| slot_at(t, 1 + check.random.below(s));
+        let at = slot(self);
+        let other = slot(self);
+        let row = row_at(self.random.below(g));
+        match self.random.below(22) {
+            0..=2 => {
+                let at = self.random.below(t.len() as u64) as usize;
+                t[at] ^= 1 << self.random.below(8);
+            }
+            3 => t[at] = self.random.pick(&[0, 1, g as u8, g as u8 + 1, 16, 17, 255]),
+            4 => t[at + 1] = self.random.pick(&[1, 128]),
+            5 | 6 => {
+                let next = self.random.pick(&[0, 1, s, s + 1, 800, 801, 65535, 1 + s / 2]);
+                put(t, at + 2, 2, next);
+            }
+            7 => {
+                let n = get(t, at + 4, 8);
+                let n = self.random.pick(&[0, n.wrapping_add(1), n.wrapping_sub(1), u64::MAX, n ^ 1 << 56]);
+                put(t, at + 4, 8, n);
+            }
+            8 => t[at + 4 + self.random.below(72) as usize] ^= 1 << self.random.below(8),
+            9 => {
+                let n = get(t, row, 8);
+                let n = self.random.pick(&[0, 1, n.wrapping_add(1), n.wrapping_sub(1), u64::MAX]);
+                put(t, row, 8, n);
+            }
+            10 => {
+                let n = get(t, row + 8, 8);
+                let n = self.random.pick(&[0, 1, n.wrapping_add(1), n.wrapping_sub(1), u64::MAX]);
+                put(t, row + 8, 8, n);
+            }
+            11 => {
+                let at = row + self.random.pick(&[16, 18]);
+                let n = self.random.pick(&[0, 1, s, s + 1, 65535, 1 + s / 2]);
+                put(t, at, 2, n);
+            }
+            12 => {
+                let n = self.random.pick(&[0, 1, s, s + 1, 65535, 1 + s / 2]);
+                put(t, 16, 2, n);
+            }
+            13 => t[4] = self.random.pick(&[0, 1, g as u8 - 1, g as u8 + 1, 16, 17]),
+            14 => {
+                let n = self.random.pick(&[0, 1, s - 1, s + 1, 800, 801, s + 256]);
+                put(t, 6, 2, n);
+            }
+            15 => {
+                let at = self.random.pick(&[0, 1, 2, 3, 5, 18, 19]);
+                t[at] ^= 1 << self.random.below(8);
+            }
+            16 => {
+                let n = t.len();
+                let n = self.random.pick(&[0, 1, 4, 19, 20, 51, 52, n - 1, n + 1, n - 76, n - 20, n + 76, n + 20]);
+                t.resize(n, 0);
+            }
+            17 => t[at..at + SLOT].fill(0),
+            18 => {
+                let (x, y) = (get(t, at + 2, 2), get(t, other + 2, 2));
+                put(t, at + 2, 2, y);
+                put(t, other + 2, 2, x);
+            }
+            19 => {
+                let kept = t[at..at + SLOT].to_vec();
+                t.copy_within(other..other + SLOT, at);
+                t[other..other + SLOT].copy_from_slice(&kept);
+            }
+            20 => {
+                // A fresh row where the log holds entries, or the other way round.
+                put(t, row, 8, 1);
+                put(t, row + 8, 8, self.random.pick(&[0, 1]));
+                if self.random.once_in(2) {
+                    put(t, row + 16, 4, 0);
+                }
+            }
+            _ => {
+                let n = t.len();
+                let from = self.random.below(n as u64) as usize;
+                let garbage = self.random.bytes(n);
+                t[from..].copy_from_slice(&garbage[from..]);
+            }
+        }
+    }
+
+    /// Every table call on a table that may be torn.
+    fn all_calls(&mut self, t: &[u8], g: u64, near: &[u8]) -> Checked<()> {
+        let (log, nonce) = (self.log(g), self.value());
+        let n = self.position(near, log);
+        let (digest, value, receipt) = (self.value(), self.value(), self.length(160));
+        self.check(t)?;
+        self.append(t, log, &value)?;
+        self.advance(t, log, n, &digest, &value)?;
+        self.truncate(t, log, n)?;
+        self.lookup(t, log, n, &nonce, receipt)?;
+        self.end(t, log, &nonce, receipt)?;
+        Ok(())
+    }
+
+    fn tables(&mut self, times: u64) -> Checked<()> {
+        self.example()?;
+        for i in 0..60 * times {
+            let g = self.random.pick(&[1, 1, 2, 2, 3, 5, 16]);
+            let s = match i % 40 {
+                0 => 1 + self.random.below(800),
+                1 => 800,
+                _ => 1 + self.random.below(14),
+            };
+            let (keeper, key) = (self.random.next(), self.random.bytes(32));
+            let before = self.random.bytes(table_bytes(g, s));
+            let mut t = self.format(&before, g, s, keeper, &key)?.lent.swap_remove(0);
+            for _ in 0..40 + 2 * s.min(100) {
+                let (after, receipt) = self.step(&t)?;
+                t = after;
+                if let Some((receipt, nonce)) = receipt {
+                    self.receipt(&receipt, &nonce, keeper, &key)?;
+                }
+                if self.random.once_in(50) {
+                    shuffle(&mut t, &mut self.random);
+                    self.check(&t)?;
+                }
+                if self.random.once_in(5) {
+                    let mut torn = t.clone();
+                    for _ in 0..self.random.pick(&[1, 1, 1, 2, 3]) {
+                        if torn.len() == t.len() && logs(&torn) == g && slots(&torn) == s {
+                            self.damage(&mut torn);
+                        }
+                    }
+                    self.all_calls(&torn, g, &t)?;
+                }
+            }
+            if self.check(&t)?.number != 0 {
+                return Err("check: a table made by calls alone is torn".to_string());
+            }
+        }
+        Ok(())
+    }
+
+    /// Document 01's script, as calls.
+    fn example(&mut self) -> Checked<()> {
+        let number = |n: u64| {
+            let mut v = vec![0; 32];
+            put(&mut v, 24, 8, n);
+            v
+        };
+        let zeros = vec![0; 32];
+        let mut t = vec![0; table_bytes(2, 3)];
+        let expect = |answer: Answer, number: u8, results: &[u64], receipt: &[u64]| -> Checked<Answer> {
+            let mut good = answer.number == number && (number != 0 || answer.results[..results.len()] == *results);
+            if let [kind, position, reference, value] = receipt {
+                let c = &answer.lent[0];
+                good &= c[6] as u64 == *kind && get(c, 16, 8) == *position && get(c, 24, 8) == *reference;
+                good &= get(c, 88, 8) == *value;
+            }
+            if good { Ok(answer) } else { Err("document 01's example is answered otherwise".to_string()) }
+        };
+        t = expect(self.format(&t, 2, 3, 7, &zeros)?, 0, &[], &[])?.lent.swap_remove(0);
+        t = expect(self.append(&t, 0, &number(41))?, 0, &[1, 1], &[])?.lent.swap_remove(0);
+        t = expect(self.append(&t, 0, &number(42))?, 0, &[1, 2], &[])?.lent.swap_remove(0);
+        t = expect(self.advance(&t, 0, 5, &zeros, &number(43))?, 0, &[1, 5], &[])?.lent.swap_remove(0);
+        expect(self.append(&t, 1, &number(9))?, 5, &[], &[])?;
+        expect(self.lookup(&t, 0, 3, &zeros, 160)?, 0, &[3], &[2, 3, 5, 0])?;
+        t = expect(self.truncate(&t, 0, 5)?, 0, &[5, 5], &[])?.lent.swap_remove(0);
+        t = expect(self.append(&t, 1, &number(9))?, 0, &[1, 1], &[])?.lent.swap_remove(0);
+        expect(self.lookup(&t, 0, 2, &zeros, 160)?, 0, &[0], &[3, 2, 5, 0])?;
+        expect(self.lookup(&t, 0, 6, &zeros, 160)?, 0, &[0], &[0, 6, 5, 0])?;
+        expect(self.end(&t, 1, &zeros, 160)?, 0, &[], &[1, 1, 1, 9])?;
+        expect(self.end(&t, 0, &zeros, 160)?, 0, &[], &[1, 5, 5, 43])?;
+        // Its "others".
+        expect(self.truncate(&t, 0, 5)?, 3, &[], &[])?;
+        t = expect(self.advance(&t, 0, u64::MAX, &zeros, &number(1))?, 0, &[5, u64::MAX], &[])?.lent.swap_remove(0);
+        expect(self.append(&t, 0, &zeros)?, 4, &[], &[])?;
+        expect(self.truncate(&t, 0, u64::MAX)?, 0, &[u64::MAX, u64::MAX], &[])?;
+        Ok(())
+    }
+
+    /// The verifier on a receipt that a table call wrote, as it is and changed.
+    fn receipt(&mut self, receipt: &[u8], nonce: &[u8], keeper: u64, key: &[u8]) -> Checked<()> {
+        let (log, position) = (receipt[7] as u64, get(receipt, 16, 8));
+        let asked = if receipt[0] == b'L' { Some(position) } else { None };
+        if self.verify(key, receipt, nonce, keeper, log, asked)?.number != 0 {
+            return Err("verify: a receipt that a call wrote is refused".to_string());
+        }
+        // A changed receipt; with its tag made anew the other tests are reached.
+        let mut changed = receipt.to_vec();
+        match self.random.below(9) {
+            0 | 1 => changed[self.random.below(160) as usize] ^= 1 << self.random.below(8),
+            2 => changed[6] = self.random.below(6) as u8,
+            3 => changed[7] = self.random.pick(&[0, 1, 14, 15, 16, 17, 255]),
+            4 => put(&mut changed, 16, 8, self.random.pick(&[0, 1, position.wrapping_add(1), u64::MAX])),
+            5 => put(&mut changed, 24, 8, self.random.pick(&[0, 1, position - 1, position, u64::MAX])),
+            6 => {
+                let name = self.random.pick(&[b"LOOKUP", b"END\0\0\0", b"END\0\0P", b"ENDKUP", b"lookup", b"\0OOKUP"]);
+                changed[..6].copy_from_slice(name);
+            }
+            7 => {
+                let kind = self.random.below(4);
+                changed[6] = kind as u8;
+                let around = [position, position.wrapping_sub(1), position.wrapping_add(1), position.wrapping_add(1)];
+                put(&mut changed, 24, 8, self.random.pick(&[around[1], around[0], around[2]]));
+                if self.random.once_in(2) {
+                    changed[64..128].fill(0);
+                }
+            }
+            _ => changed[64 + self.random.below(64) as usize] ^= 1 << self.random.below(8),
+        }
+        if !self.random.once_in(3) {
+            retag(&mut changed, key);
+        }
+        self.verify(key, &changed, nonce, keeper, log, asked)?;
+        // Another question.
+        let (mut k, mut g, mut q, mut v) = (keeper, log, asked, nonce.to_vec());
+        match self.random.below(7) {
+            0 => k = self.random.pick(&[0, keeper ^ 1, keeper ^ 1 << 63]),
+            1 => g = self.random.pick(&[log ^ 1, log + 256, log + (1 << 32), 16, u64::MAX]),
+            2 => q = Some(self.random.pick(&[0, position ^ 1, position.wrapping_add(1), position ^ 1 << 63])),
+            3 => q = if asked.is_some() { None } else { Some(position) },
+            4 => v[self.random.below(32) as usize] ^= 1,
+            5 => v = self.random.bytes(32),
+            _ => {}
+        }
+        self.verify(key, receipt, &v, k, g, q)?;
+        // Other lengths, of good receipts and bad ones.
+        if self.random.once_in(3) {
+            let key = if self.random.once_in(2) { key.to_vec() } else { self.value() };
+            let v = if self.random.once_in(2) { nonce.to_vec() } else { self.value() };
+            let mut c = if self.random.once_in(2) { receipt.to_vec() } else { changed };
+            if self.random.once_in(2) {
+                let n = self.random.pick(&[0, 1, 6, 128, 159, 161, 320]);
+                c.resize(n, 0);
+            }
+            self.verify(&key, &c, &v, keeper, log, asked)?;
+        }
+        Ok(())
+    }
+
+    fn certificates(&mut self, times: u64) -> Checked<()> {
+        for _ in 0..120 * times {
+            let members = match self.random.below(8) {
+                0 => self.random.below(34),
+                1 => 31,
+                _ => 1 + 2 * self.random.below(6),
+            } as usize;
+            let mut roster: Vec<(u64, Vec<u8>)> = Vec::new();
+            for _ in 0..members {
+                let number = if self.random.once_in(2) { self.random.next() } else { self.random.below(4000) };
+                roster.push((number, self.random.bytes(32)));
+            }
+            if members > 1 && self.random.once_in(12) {
+                let (from, to) = (self.random.below(members as u64), self.random.below(members as u64));
+                roster[to as usize].0 = roster[from as usize].0;
+            }
+            let mut nonce = self.random.bytes(32);
+            let log = self.random.below(16) as u8;
+            let position = self.random.pick(&[1, 2, 77, 1 << 40, u64::MAX]);
+            let pairs: Vec<Vec<u8>> = (0..3).map(|_| self.random.bytes(64)).collect();
+            let receipts = match self.random.below(6) {
+                0 => self.random.below(34) as usize,
+                1 => 32,
+                _ => (members + self.random.below(3) as usize).min(32),
+            };
+            // How often a receipt is a stray one; with none the majority comes about.
+            let stray = self.random.pick(&[1000, 8, 3]);
+            let two_stories = self.random.once_in(3);
+            let mut certificate = Vec::new();
+            for p in 0..receipts {
+                let m = if members == 0 { 0 } else if p < members && !self.random.once_in(6) {
+                    p
+                } else {
+                    self.random.below(members as u64) as usize
+                };
+                let (number, key) = roster.get(m).cloned().unwrap_or((9, vec![9; 32]));
+                let which = if two_stories { self.random.below(2) } else { self.random.once_in(12) as u64 };
+                let mut c = Receipt::assigned(number, log, position, &nonce, &pairs[which as usize]);
+                let mut bytes = c.write(&key);
+                if self.random.once_in(stray) {
+                    match self.random.below(8) {
+                        0 => c.keeper ^= 1 << 40,
+                        1 => c.log ^= 1,
+                        2 => c.nonce[3] ^= 1,
+                        3 => {
+                            c.position ^= 2;
+                            c.reference ^= 2;
+                        }
+                        4 => c.name = *b"END\0\0\0",
+                        5 => {
+                            c.kind = self.random.pick(&[0, 2, 3]);
+                            c.reference = if c.kind == 0 { position - 1 } else { position.wrapping_add(1) };
+                            c.pair = vec![0; 64];
+                        }
+                        6 => c.pair[self.random.below(64) as usize] ^= 1,
+                        _ => {}
+                    }
+                    bytes = c.write(&key);
+                    if self.random.once_in(4) {
+                        bytes[self.random.below(160) as usize] ^= 1 << self.random.below(8);
+                    }
+                }
+                certificate.extend_from_slice(&bytes);
+            }
+            let mut list = Vec::new();
+            for (number, key) in &roster {
+                list.extend_from_slice(&number.to_be_bytes());
+                list.extend_from_slice(key);
+            }
+            if self.random.once_in(20) {
+                let n = self.random.pick(&[0, list.len() + 1, list.len().saturating_sub(1), list.len() + 8]);
+                list.resize(n, 0);
+            }
+            if self.random.once_in(20) {
+                let n = certificate.len();
+                let n = self.random.pick(&[n + 1, n.saturating_sub(1), n + 80, 33 * 160]);
+                certificate.resize(n, 0);
+            }
+            if self.random.once_in(20) {
+                // Several faults at once: the first in order counts.
+                let wrong = self.random.pick(&[0, 31, 33, 64]);
+                nonce = self.random.bytes(wrong);
+            }
+            let (log, position) = match self.random.below(30) {
+                0 => (log as u64 + 256, position),
+                1 => (log as u64, 0),
+                2 => (log as u64, position ^ 1),
+                _ => (log as u64, position),
+            };
+            self.certify(&list, &nonce, log, position, &certificate)?;
+        }
+        Ok(())
+    }
+
+    fn runs(&mut self, times: u64) -> Checked<()> {
+        for i in 0..120 * times {
+            let most = if i % 100 == 0 { 1500 } else { 12 };
+            let count = 1 + self.random.below(most);
+            let first = match self.random.below(6) {
+                0 => 1,
+                1 => u64::MAX - count + 1,
+                2 => u64::MAX - self.random.below(count + 2),
+                3 => self.random.below(3),
+                _ => self.random.next() >> 1,
+            };
+            let run1 = Run { start: self.random.bytes(32), first, values: self.random.bytes(32 * count as usize) };
+            // A suffix of it, with the digest before it or another one.
+            let skip = if self.random.once_in(3) { 0 } else { self.random.below(count) };
+            let mut start = run1.start.clone();
+            for j in 0..skip {
+                let mut block = first.wrapping_add(j).to_be_bytes().to_vec();
+                block.extend_from_slice(&run1.values[32 * j as usize..32 * (j as usize + 1)]);
+                block.extend_from_slice(&start);
+                PLAIN.hash(&block, &mut start);
+            }
+            let values = run1.values[32 * skip as usize..].to_vec();
+            let mut run2 = Run { start, first: first.wrapping_add(skip), values };
+            match self.random.below(12) {
+                0 => run2.first = self.random.pick(&[0, 1, run2.first.wrapping_add(1), run2.first ^ 1 << 60]),
+                1 => run2.start[self.random.below(32) as usize] ^= 1,
+                2 => {
+                    let at = self.random.below(run2.values.len() as u64) as usize;
+                    run2.values[at] ^= 1 << self.random.below(8);
+                }
+                3 => {
+                    let n = run2.values.len();
+                    let n = self.random.pick(&[0, 1, 31, n - 1, n + 1, n - 32, n + 32, n + 16]);
+                    run2.values.resize(n, 0);
+                }
+                4 => {
+                    let n = self.length(32);
+                    run2.start.resize(n, 0);
+                }
+                5 => run2 = Run { start: self.random.bytes(32), first: 5, values: self.random.bytes(96) },
+                _ => {}
+            }
+            let collision = self.length(144);
+            if self.random.once_in(2) {
+                self.compare(&run1, &run2, collision)?;
+            } else {
+                self.compare(&run2, &run1, collision)?;
+            }
+        }
+        Ok(())
+    }
+
+    /// Every value of every byte of small tables, and of a receipt with its tag made anew.
+    fn every_byte(&mut self) -> Checked<()> {
+        for (g, s, steps) in [(1, 1, 0), (1, 2, 3), (2, 3, 6), (2, 4, 30)] {
+            let key = self.random.bytes(32);
+            let before = vec![0; table_bytes(g, s)];
+            let mut t = self.format(&before, g, s, 7, &key)?.lent.swap_remove(0);
+            for _ in 0..steps {
+                t = self.step(&t)?.0;
+            }
+            for at in 0..t.len() {
+                for x in 0..=255 {
+                    let mut edited = t.clone();
+                    edited[at] = x;
+                    self.check(&edited)?;
+                }
+            }
+        }
+        let (key, nonce, pair) = (self.random.bytes(32), self.random.bytes(32), self.random.bytes(64));
+        for (kind, reference) in [(0, 4), (1, 5), (2, 6), (3, 9)] {
+            let mut fields = Receipt::assigned(7, 3, 5, &nonce, &pair);
+            fields.kind = kind;
+            fields.reference = reference;
+            if kind != 1 {
+                fields.pair.fill(0);
+            }
+            let receipt = fields.write(&key);
+            for at in (0..32).chain([32, 63, 64, 95, 96, 127]) {
+                for x in 0..=255 {
+                    let mut edited = receipt.clone();
+                    edited[at] = x;
+                    retag(&mut edited, &key);
+                    self.verify(&key, &edited, &nonce, 7, 3, Some(5))?;
+                    self.verify(&key, &edited, &nonce, 7, 3, None)?;
+                }
+            }
+        }
+        Ok(())
+    }
+
+    /// Every way to link three slots of one log or none, with positions at random.
+    fn every_link(&mut self) -> Checked<()> {
+        let nothing = vec![0; table_bytes(1, 3)];
+        let key = self.random.bytes(32);
+        let fresh = self.format(&nothing, 1, 3, 7, &key)?.lent.swap_remove(0);
+        for links in 0..4u64.pow(6) {
+            let link = |i: u32| links / 4u64.pow(i) % 4;
+            for held in 0..8u64 {
+                let mut t = fresh.clone();
+                put(&mut t, 16, 2, link(0));
+                let row = row_at(0);
+                put(&mut t, row, 8, 1 + self.random.once_in(4) as u64);
+                put(&mut t, row + 16, 2, link(1));
+                put(&mut t, row + 18, 2, link(2));
+                for i in 0..3 {
+                    let at = slot_at(&t, i + 1);
+                    put(&mut t, at + 2, 2, link(3 + i as u32));
+                    if held >> i & 1 == 1 {
+                        t[at] = 1;
+                        put(&mut t, at + 4, 8, 1 + self.random.below(4));
+                    }
+                }
+                let last = if link(2) == 0 { 0 } else { get(&t, slot_at(&t, link(2)) + 4, 8) };
+                put(&mut t, row + 8, 8, last);
+                if held == 0 && link(1) == 0 {
+                    t[row..row + 20].copy_from_slice(&fresh[row..row + 20]);
+                    put(&mut t, row + 18, 2, link(2));
+                }
+                if self.check(&t)?.number == 0 {
+                    for _ in 0..10 {
+                        self.all_calls(&t, 1, &t)?;
+                    }
+                }
+            }
+        }
+        Ok(())
+    }
+
+    /// All of it; more times, more inputs.
+    pub fn all(&mut self, times: u64) -> Checked<()> {
+        self.hashes(times)?;
+        self.tags(times)?;
+        self.formats(times)?;
+        self.tables(times)?;
+        self.certificates(times)?;
+        self.runs(times)?;
+        self.every_byte()?;
+        self.every_link()
+    }
+}
+
+fn known(answer: &Answer, digest: &str) -> Checked<()> {
+    if hex(&answer.lent[0]) == digest {
+        Ok(())
+    } else {
+        Err(format!("a published digest is {digest}, not {}", hex(&answer.lent[0])))
+    }
+}
+
+/// Runs the check and prints what it covered. False if a difference was found or some number never came up.
+pub fn run(seed: u64, times: u64) -> bool {
+    let mut check = Check::new(seed, None);
+    println!("Differential check: keeper and plain C on the same inputs, seed {seed}, times {times}");
+    if let Err(text) = check.all(times) {
+        println!("DIFFERENCE at case {} (seed {seed}, times {times})", check.cases() + 1);
+        println!("{text}");
+        return false;
+    }
+    print!("  {:<11}{:>9}", "answers", 0);
+    for number in 1..15 {
+        print!("{number:>7}");
+    }
+    println!();
+    for (call, counts) in CALLS.iter().zip(&check.counts) {
+        print!("  {call:<11}{:>9}", counts[0]);
+        for count in &counts[1..] {
+            if *count == 0 {
+                print!("{:>7}", "-");
+            } else {
+                print!("{count:>7}");
+            }
+        }
+        println!();
+    }
+    let k = check.kinds;
+    println!("  lookups: {} unassigned, {} assigned, {} skipped, {} forgotten", k[0], k[1], k[2], k[3]);
+    println!(
+        "  comparisons: {} differ, {} agree, {} collisions (one would need a collision of SHA-256)",
+        check.verdicts[0], check.verdicts[1], check.verdicts[2]
+    );
+    println!("  longest message hashed: {} bytes", check.longest);
+    let mut full = true;
+    for number in 0..15 {
+        if check.counts.iter().all(|c| c[number] == 0) {
+            println!("  number {number} never came up: the check is too weak");
+            full = false;
+        }
+    }
+    if check.kinds.contains(&0) || check.verdicts[0] == 0 || check.verdicts[1] == 0 {
+        println!("  some kind or verdict never came up: the check is too weak");
+        full = false;
+    }
+    if full {
+        println!("  {} cases, no difference", check.cases());
+    }
+    full
+}
+
+/// Spoils one answer of plain C at a time: each must be found.
+pub fn self_test(seed: u64) -> bool {
+    let mut found = 0;
+    for call in 0..CALLS.len() {
+        for part in [Part::Number, Part::Result, Part::Byte, Part::BehindTheBuffer] {
+            let mut check = Check::new(seed, Some((call, part)));
+            let finding = match part {
+                Part::Number => "the numbers differ",
+                Part::Result => "the results differ",
+                Part::Byte => "the bytes of buffer 0 differ",
+                Part::BehindTheBuffer => "plain C: wrote outside a buffer",
+            };
+            match check.all(1) {
+                Err(text) if text.starts_with(&format!("{}: {finding}", CALLS[call])) => found += 1,
+                other => {
+                    println!("Self-test: {part:?} spoiled in an answer of {}, but: {other:?}", CALLS[call]);
+                    return false;
+                }
+            }
+        }
+    }
+    println!("Self-test: {found} spoiled answers of plain C, each found");
+    true
+}

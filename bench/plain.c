@@ -1,0 +1,705 @@
+/* The keeper in plain C: the bench's yardstick, and an independent reading of document 01. Portable C, no intrinsics.
+ * Where document 01 leaves the free slot open it does as the keeper does: the free chain is a queue. */
+#include "plain.h"
+
+#include <string.h>
+
+/* ---- big-endian numbers ---- */
+
+static inline uint32_t get16(const uint8_t *p)
+{
+    return (uint32_t)p[0] << 8 | p[1];
+}
+
+static inline uint32_t get32(const uint8_t *p)
+{
+    return (uint32_t)p[0] << 24 | (uint32_t)p[1] << 16 | (uint32_t)p[2] << 8 | p[3];
+}
+
+static inline uint64_t get64(const uint8_t *p)
+{
+    return (uint64_t)get32(p) << 32 | get32(p + 4);
+}
+
+static inline void put16(uint8_t *p, uint32_t x)
+{
+    p[0] = (uint8_t)(x >> 8);
+    p[1] = (uint8_t)x;
+}
+
+static inline void put32(uint8_t *p, uint32_t x)
+{
+    p[0] = (uint8_t)(x >> 24);
+    p[1] = (uint8_t)(x >> 16);
+    p[2] = (uint8_t)(x >> 8);
+    p[3] = (uint8_t)x;
+}
+
+static inline void put64(uint8_t *p, uint64_t x)
+{
+    put32(p, (uint32_t)(x >> 32));
+    put32(p + 4, (uint32_t)x);
+}
+
+/* ---- SHA-256, FIPS 180-4 ---- */
+
+typedef struct {
+    uint32_t h[8];
+} sha_state;
+
+static const sha_state sha_initial = {
+    {0x6a09e667, 0xbb67ae85, 0x3c6ef372, 0xa54ff53a, 0x510e527f, 0x9b05688c, 0x1f83d9ab, 0x5be0cd19}};
+
+static const uint32_t sha_k[64] = {
+    0x428a2f98, 0x71374491, 0xb5c0fbcf, 0xe9b5dba5, 0x3956c25b, 0x59f111f1, 0x923f82a4, 0xab1c5ed5,
+    0xd807aa98, 0x12835b01, 0x243185be, 0x550c7dc3, 0x72be5d74, 0x80deb1fe, 0x9bdc06a7, 0xc19bf174,
+    0xe49b69c1, 0xefbe4786, 0x0fc19dc6, 0x240ca1cc, 0x2de92c6f, 0x4a7484aa, 0x5cb0a9dc, 0x76f988da,
+    0x983e5152, 0xa831c66d, 0xb00327c8, 0xbf597fc7, 0xc6e00bf3, 0xd5a79147, 0x06ca6351, 0x14292967,
+    0x27b70a85, 0x2e1b2138, 0x4d2c6dfc, 0x53380d13, 0x650a7354, 0x766a0abb, 0x81c2c92e, 0x92722c85,
+    0xa2bfe8a1, 0xa81a664b, 0xc24b8b70, 0xc76c51a3, 0xd192e819, 0xd6990624, 0xf40e3585, 0x106aa070,
+    0x19a4c116, 0x1e376c08, 0x2748774c, 0x34b0bcb5, 0x391c0cb3, 0x4ed8aa4a, 0x5b9cca4f, 0x682e6ff3,
+    0x748f82ee, 0x78a5636f, 0x84c87814, 0x8cc70208, 0x90befffa, 0xa4506ceb, 0xbef9a3f7, 0xc67178f2,
+};
+
+#define ROR(x, n) ((x) >> (n) | (x) << (32 - (n)))
+#define CH(x, y, z) ((z) ^ ((x) & ((y) ^ (z))))
+#ifdef STANDARD_FORMULAS
+#define BIG0(x) (ROR(x, 2) ^ ROR(x, 13) ^ ROR(x, 22))
+#define BIG1(x) (ROR(x, 6) ^ ROR(x, 11) ^ ROR(x, 25))
+#define SMALL0(x) (ROR(x, 7) ^ ROR(x, 18) ^ (x) >> 3)
+#define SMALL1(x) (ROR(x, 17) ^ ROR(x, 19) ^ (x) >> 10)
+#define MAJ(x, y, z) (((x) & (y)) ^ ((x) & (z)) ^ ((y) & (z)))
+#else
+/* The same with the rotations nested: fewer copies where a rotation works in place, and a fifth faster by gcc -O3. */
+#define BIG0(x) ROR((x) ^ ROR((x) ^ ROR(x, 9), 11), 2)
+#define BIG1(x) ROR((x) ^ ROR((x) ^ ROR(x, 14), 5), 6)
+#define SMALL0(x) (ROR((x) ^ ROR(x, 11), 7) ^ (x) >> 3)
+#define SMALL1(x) (ROR((x) ^ ROR(x, 2), 17) ^ (x) >> 10)
+#define MAJ(x, y, z) ((y) ^ (((x) ^ (y)) & ((y) ^ (z)))) /* x ^ y is the next round's y ^ z */
+#endif
+
+#define ROUND(a, b, c, d, e, f, g, h, k, word)                                                                         \
+    do {                                                                                                               \
+        uint32_t t = (h) + BIG1(e) + CH(e, f, g) + (k) + (word);                                                       \
+        (d) += t;                                                                                                      \
+        (h) = t + BIG0(a) + MAJ(a, b, c);                                                                              \
+    } while (0)
+
+/* A round of the first 48: the word that it takes gives place to the one 16 on. */
+#define TURN(a, b, c, d, e, f, g, h, j)                                                                                \
+    do {                                                                                                               \
+        uint32_t word = w[j];                                                                                          \
+        w[j] += SMALL1(w[((j) + 14) & 15]) + w[((j) + 9) & 15] + SMALL0(w[((j) + 1) & 15]);                            \
+        ROUND(a, b, c, d, e, f, g, h, sha_k[i + (j)], word);                                                           \
+    } while (0)
+
+/* A round of the last 16. */
+#define LAST(a, b, c, d, e, f, g, h, j) ROUND(a, b, c, d, e, f, g, h, sha_k[48 + (j)], w[j])
+
+/* Eight rounds bring the working variables back to their places. */
+#define EIGHT(ONE, j)                                                                                                  \
+    ONE(a, b, c, d, e, f, g, h, j);                                                                                    \
+    ONE(h, a, b, c, d, e, f, g, j + 1);                                                                                \
+    ONE(g, h, a, b, c, d, e, f, j + 2);                                                                                \
+    ONE(f, g, h, a, b, c, d, e, j + 3);                                                                                \
+    ONE(e, f, g, h, a, b, c, d, j + 4);                                                                                \
+    ONE(d, e, f, g, h, a, b, c, j + 5);                                                                                \
+    ONE(c, d, e, f, g, h, a, b, j + 6);                                                                                \
+    ONE(b, c, d, e, f, g, h, a, j + 7)
+
+/* Sixteen rounds at a time, not all 64 unrolled: the loop's code stays in the processor's cache of decoded code. */
+static void sha_blocks(sha_state *s, const uint8_t *block, size_t count)
+{
+    for (; count > 0; count--, block += 64) {
+        uint32_t a = s->h[0], b = s->h[1], c = s->h[2], d = s->h[3], e = s->h[4], f = s->h[5], g = s->h[6], h = s->h[7];
+        uint32_t w[16];
+        for (int i = 0; i < 16; i++)
+            w[i] = get32(block + 4 * i);
+        for (int i = 0; i < 48; i += 16) {
+            EIGHT(TURN, 0);
+            EIGHT(TURN, 8);
+        }
+        EIGHT(LAST, 0);
+        EIGHT(LAST, 8);
+        s->h[0] += a;
+        s->h[1] += b;
+        s->h[2] += c;
+        s->h[3] += d;
+        s->h[4] += e;
+        s->h[5] += f;
+        s->h[6] += g;
+        s->h[7] += h;
+    }
+}
+
+/* Hashes the last part of a message and writes the digest; before is what was hashed already, whole blocks. */
+static void sha_finish(sha_state *s, uint64_t before, const uint8_t *message, size_t bytes, uint8_t *digest)
+{
+    size_t whole = bytes / 64, rest = bytes % 64;
+    sha_blocks(s, message, whole);
+    uint8_t last[128] = {0};
+    memcpy(last, message + 64 * whole, rest);
+    last[rest] = 0x80;
+    size_t blocks = rest < 56 ? 1 : 2;
+    put64(last + 64 * blocks - 8, (before + bytes) * 8);
+    sha_blocks(s, last, blocks);
+    for (int i = 0; i < 8; i++)
+        put32(digest + 4 * i, s->h[i]);
+}
+
+static void sha256(const uint8_t *message, size_t bytes, uint8_t *digest)
+{
+    sha_state s = sha_initial;
+    sha_finish(&s, 0, message, bytes, digest);
+}
+
+/* FIPS 180-4 allows fewer than 2^64 bits. */
+static const uint64_t too_long = UINT64_C(1) << 61;
+
+uint8_t plain_hash(const uint8_t *message, size_t message_bytes, uint8_t *digest, size_t digest_bytes)
+{
+    if (digest_bytes != 32 || message_bytes >= too_long)
+        return KEEPER_LENGTH;
+    sha256(message, message_bytes, digest);
+    return KEEPER_DONE;
+}
+
+/* ---- HMAC, RFC 2104 ---- */
+
+static void hmac(const uint8_t *key, size_t key_bytes, const uint8_t *text, size_t text_bytes, uint8_t *tag)
+{
+    uint8_t pad[64] = {0}, inner[32];
+    if (key_bytes > 64)
+        sha256(key, key_bytes, pad);
+    else
+        memcpy(pad, key, key_bytes);
+
+    for (int i = 0; i < 64; i++)
+        pad[i] ^= 0x36;
+    sha_state s = sha_initial;
+    sha_blocks(&s, pad, 1);
+    sha_finish(&s, 64, text, text_bytes, inner);
+
+    for (int i = 0; i < 64; i++)
+        pad[i] ^= 0x36 ^ 0x5c;
+    s = sha_initial;
+    sha_blocks(&s, pad, 1);
+    sha_finish(&s, 64, inner, 32, tag);
+}
+
+uint8_t plain_tag(const uint8_t *key, size_t key_bytes, const uint8_t *text, size_t text_bytes, uint8_t *tag,
+                  size_t tag_bytes)
+{
+    if (tag_bytes != 32 || key_bytes >= too_long || text_bytes >= too_long - 64)
+        return KEEPER_LENGTH;
+    hmac(key, key_bytes, text, text_bytes, tag);
+    return KEEPER_DONE;
+}
+
+/* ---- the table's bytes ---- */
+
+enum { HEADER = 52, ROW = 20, SLOT = 76, MAX_LOGS = 16, MAX_SLOTS = 800 };
+
+/* Offsets in the header, a row and a slot. */
+enum { H_LOGS = 4, H_SLOTS = 6, H_KEEPER = 8, H_FREE = 16, H_KEY = 20 };
+enum { R_LOW = 0, R_HIGH = 8, R_FIRST = 16, R_LAST = 18 };
+enum { S_OWNER = 0, S_ZERO = 1, S_NEXT = 2, S_POSITION = 4, S_VALUE = 12, S_DIGEST = 44 };
+
+static inline size_t row_at(uint64_t log)
+{
+    return HEADER + ROW * log;
+}
+
+/* Slots count from 1. */
+static inline size_t slot_at(uint32_t logs, uint32_t slot)
+{
+    return HEADER + ROW * (size_t)logs + SLOT * (size_t)(slot - 1);
+}
+
+static inline int all_zero(const uint8_t *p, size_t words)
+{
+    uint64_t any = 0;
+    for (size_t i = 0; i < words; i++) {
+        uint64_t x;
+        memcpy(&x, p + 8 * i, 8);
+        any |= x;
+    }
+    return any == 0;
+}
+
+/* What a call needs of a whole table besides its bytes. */
+typedef struct {
+    uint32_t logs;
+    uint32_t free_last; /* 0 if no slot is free */
+} whole_table;
+
+/* Whether the table is whole. Each chain is walked once; a chain that goes on for more than S slots has a loop. */
+static int whole(const uint8_t *t, size_t bytes, whole_table *found)
+{
+    if (bytes < HEADER || memcmp(t, "A2MT", 4) != 0 || t[5] != 0 || t[18] != 0 || t[19] != 0)
+        return 0;
+    uint32_t logs = t[H_LOGS], slots = get16(t + H_SLOTS);
+    if (logs < 1 || logs > MAX_LOGS || slots < 1 || slots > MAX_SLOTS || bytes != KEEPER_TABLE_BYTES(logs, slots))
+        return 0;
+    const uint8_t *base = t + HEADER + ROW * logs - SLOT; /* slot i stands at base + 76 i */
+
+    uint32_t count = 0, last = 0;
+    for (uint32_t i = get16(t + H_FREE); i != 0;) {
+        if (i > slots || ++count > slots)
+            return 0;
+        const uint8_t *s = base + SLOT * (size_t)i;
+        if (s[S_OWNER] != 0 || s[S_ZERO] != 0 || !all_zero(s + S_POSITION, 9))
+            return 0;
+        last = i;
+        i = get16(s + S_NEXT);
+    }
+    found->logs = logs;
+    found->free_last = last;
+
+    for (uint32_t g = 0; g < logs; g++) {
+        const uint8_t *r = t + row_at(g);
+        uint64_t low = get64(r + R_LOW), high = get64(r + R_HIGH);
+        uint32_t i = get16(r + R_FIRST);
+        last = get16(r + R_LAST);
+        if (i == 0) {
+            if (low != 1 || high != 0 || last != 0)
+                return 0;
+            continue;
+        }
+        if (low < 1 || low > high)
+            return 0;
+        uint64_t above = low - 1; /* the next position must be above this one */
+        uint32_t at;
+        do {
+            if (i > slots)
+                return 0;
+            const uint8_t *s = base + SLOT * (size_t)i;
+            uint64_t position = get64(s + S_POSITION);
+            if (s[S_OWNER] != g + 1 || s[S_ZERO] != 0 || position <= above)
+                return 0;
+            above = position;
+            count++;
+            at = i;
+            i = get16(s + S_NEXT);
+        } while (i != 0);
+        if (at != last || above != high)
+            return 0;
+    }
+    return count == slots;
+}
+
+uint8_t plain_check(const uint8_t *table, size_t table_bytes)
+{
+    whole_table found;
+    return whole(table, table_bytes, &found) ? KEEPER_DONE : KEEPER_TORN;
+}
+
+uint8_t plain_format(uint8_t *table, size_t table_bytes, uint64_t logs, uint64_t slots, uint64_t keeper,
+                     const uint8_t *key, size_t key_bytes)
+{
+    if (logs < 1 || logs > MAX_LOGS || slots < 1 || slots > MAX_SLOTS)
+        return KEEPER_COUNTS;
+    if (table_bytes != KEEPER_TABLE_BYTES(logs, slots) || key_bytes != 32)
+        return KEEPER_LENGTH;
+    memset(table, 0, table_bytes);
+    memcpy(table, "A2MT", 4);
+    table[H_LOGS] = (uint8_t)logs;
+    put16(table + H_SLOTS, (uint32_t)slots);
+    put64(table + H_KEEPER, keeper);
+    put16(table + H_FREE, 1);
+    memcpy(table + H_KEY, key, 32);
+    for (uint32_t g = 0; g < logs; g++)
+        put64(table + row_at(g) + R_LOW, 1);
+    for (uint32_t i = 1; i < slots; i++)
+        put16(table + slot_at((uint32_t)logs, i) + S_NEXT, i + 1);
+    return KEEPER_DONE;
+}
+
+/* ---- the calls that change a table ---- */
+
+/* The 72 bytes whose SHA-256 is an entry's digest. */
+static void block_of(uint8_t *block, uint64_t position, const uint8_t *value, const uint8_t *previous)
+{
+    put64(block, position);
+    memcpy(block + 8, value, 32);
+    memcpy(block + 40, previous, 32);
+}
+
+/* Puts an entry into the first free slot, which exists, at the end of the log's chain. */
+static void put_entry(uint8_t *t, uint32_t logs, uint64_t log, uint64_t position, const uint8_t *value,
+                      const uint8_t *previous, uint64_t *low, uint64_t *high)
+{
+    uint8_t *r = t + row_at(log);
+    uint32_t i = get16(t + H_FREE), last = get16(r + R_LAST);
+    uint8_t *s = t + slot_at(logs, i);
+    uint8_t block[72];
+    block_of(block, position, value, previous);
+
+    put16(t + H_FREE, get16(s + S_NEXT));
+    s[S_OWNER] = (uint8_t)(log + 1);
+    put16(s + S_NEXT, 0);
+    memcpy(s + S_POSITION, block, 40);
+    sha256(block, 72, s + S_DIGEST);
+    put16(last == 0 ? r + R_FIRST : t + slot_at(logs, last) + S_NEXT, i);
+    put16(r + R_LAST, i);
+    put64(r + R_HIGH, position);
+    *low = get64(r + R_LOW);
+    *high = position;
+}
+
+uint8_t plain_append(uint8_t *table, size_t table_bytes, uint64_t log, const uint8_t *value, size_t value_bytes,
+                     uint64_t *low, uint64_t *high)
+{
+    static const uint8_t zeros[32];
+    whole_table found;
+    if (value_bytes != 32)
+        return KEEPER_LENGTH;
+    if (!whole(table, table_bytes, &found))
+        return KEEPER_TORN;
+    if (log >= found.logs)
+        return KEEPER_NO_LOG;
+    const uint8_t *r = table + row_at(log);
+    uint64_t top = get64(r + R_HIGH);
+    if (top == UINT64_MAX)
+        return KEEPER_SPENT;
+    if (found.free_last == 0)
+        return KEEPER_FULL;
+    uint32_t last = get16(r + R_LAST);
+    const uint8_t *previous = last == 0 ? zeros : table + slot_at(found.logs, last) + S_DIGEST;
+    put_entry(table, found.logs, log, top + 1, value, previous, low, high);
+    return KEEPER_DONE;
+}
+
+uint8_t plain_advance(uint8_t *table, size_t table_bytes, uint64_t log, uint64_t position, const uint8_t *digest,
+                      size_t digest_bytes, const uint8_t *value, size_t value_bytes, uint64_t *low, uint64_t *high)
+{
+    whole_table found;
+    if (digest_bytes != 32 || value_bytes != 32)
+        return KEEPER_LENGTH;
+    if (!whole(table, table_bytes, &found))
+        return KEEPER_TORN;
+    if (log >= found.logs)
+        return KEEPER_NO_LOG;
+    if (position <= get64(table + row_at(log) + R_HIGH))
+        return KEEPER_POSITION;
+    if (found.free_last == 0)
+        return KEEPER_FULL;
+    put_entry(table, found.logs, log, position, value, digest, low, high);
+    return KEEPER_DONE;
+}
+
+uint8_t plain_truncate(uint8_t *table, size_t table_bytes, uint64_t log, uint64_t position, uint64_t *low,
+                       uint64_t *high)
+{
+    whole_table found;
+    if (!whole(table, table_bytes, &found))
+        return KEEPER_TORN;
+    if (log >= found.logs)
+        return KEEPER_NO_LOG;
+    uint8_t *r = table + row_at(log);
+    uint64_t top = get64(r + R_HIGH);
+    if (position <= get64(r + R_LOW) || position > top)
+        return KEEPER_POSITION;
+
+    /* The freed slots are the front of the log's chain. They keep their links and go behind the last free slot; the
+     * entry at H stays, so the walk ends inside the chain. */
+    uint32_t first = get16(r + R_FIRST), i = first, last = 0;
+    for (;;) {
+        uint8_t *s = table + slot_at(found.logs, i);
+        if (get64(s + S_POSITION) >= position)
+            break;
+        s[S_OWNER] = 0;
+        memset(s + S_POSITION, 0, SLOT - S_POSITION);
+        last = i;
+        i = get16(s + S_NEXT);
+    }
+    if (last != 0) {
+        put16(table + slot_at(found.logs, last) + S_NEXT, 0);
+        put16(found.free_last == 0 ? table + H_FREE : table + slot_at(found.logs, found.free_last) + S_NEXT, first);
+        put16(r + R_FIRST, i);
+    }
+    put64(r + R_LOW, position);
+    *low = position;
+    *high = top;
+    return KEEPER_DONE;
+}
+
+/* ---- receipts ---- */
+
+enum { C_NAME = 0, C_KIND = 6, C_LOG = 7, C_KEEPER = 8, C_POSITION = 16, C_REFERENCE = 24, C_NONCE = 32 };
+enum { C_VALUE = 64, C_TAG = 128 };
+
+static const uint8_t name_lookup[6] = {'L', 'O', 'O', 'K', 'U', 'P'};
+static const uint8_t name_end[6] = {'E', 'N', 'D', 0, 0, 0};
+
+/* entry is the slot shown, or NULL where value and digest are zero bytes. */
+static void put_receipt(uint8_t *receipt, const uint8_t *table, const uint8_t *name, uint8_t kind, uint64_t log,
+                        uint64_t position, uint64_t reference, const uint8_t *nonce, const uint8_t *entry)
+{
+    memcpy(receipt + C_NAME, name, 6);
+    receipt[C_KIND] = kind;
+    receipt[C_LOG] = (uint8_t)log;
+    memcpy(receipt + C_KEEPER, table + H_KEEPER, 8);
+    put64(receipt + C_POSITION, position);
+    put64(receipt + C_REFERENCE, reference);
+    memcpy(receipt + C_NONCE, nonce, 32);
+    if (entry != NULL)
+        memcpy(receipt + C_VALUE, entry + S_VALUE, 64);
+    else
+        memset(receipt + C_VALUE, 0, 64);
+    hmac(table + H_KEY, 32, receipt, C_TAG, receipt + C_TAG);
+}
+
+uint8_t plain_lookup(const uint8_t *table, size_t table_bytes, uint64_t log, uint64_t position, const uint8_t *nonce,
+                     size_t nonce_bytes, uint8_t *receipt, size_t receipt_bytes, uint64_t *examined)
+{
+    whole_table found;
+    if (nonce_bytes != 32 || receipt_bytes != 160)
+        return KEEPER_LENGTH;
+    if (!whole(table, table_bytes, &found))
+        return KEEPER_TORN;
+    if (log >= found.logs)
+        return KEEPER_NO_LOG;
+    if (position == 0)
+        return KEEPER_POSITION;
+    const uint8_t *r = table + row_at(log);
+    uint64_t low = get64(r + R_LOW), high = get64(r + R_HIGH);
+    uint64_t looked_at = 0, reference;
+    const uint8_t *shown = NULL;
+    uint8_t kind;
+    if (position > high) {
+        kind = KEEPER_UNASSIGNED;
+        reference = high;
+    } else if (position < low) {
+        kind = KEEPER_FORGOTTEN;
+        reference = low;
+    } else {
+        const uint8_t *s = table + slot_at(found.logs, get16(r + R_FIRST));
+        looked_at = 1;
+        while ((reference = get64(s + S_POSITION)) < position) {
+            s = table + slot_at(found.logs, get16(s + S_NEXT));
+            looked_at++;
+        }
+        if (reference == position) {
+            kind = KEEPER_ASSIGNED;
+            shown = s;
+        } else {
+            kind = KEEPER_SKIPPED;
+        }
+    }
+    put_receipt(receipt, table, name_lookup, kind, log, position, reference, nonce, shown);
+    *examined = looked_at;
+    return KEEPER_DONE;
+}
+
+uint8_t plain_end(const uint8_t *table, size_t table_bytes, uint64_t log, const uint8_t *nonce, size_t nonce_bytes,
+                  uint8_t *receipt, size_t receipt_bytes)
+{
+    whole_table found;
+    if (nonce_bytes != 32 || receipt_bytes != 160)
+        return KEEPER_LENGTH;
+    if (!whole(table, table_bytes, &found))
+        return KEEPER_TORN;
+    if (log >= found.logs)
+        return KEEPER_NO_LOG;
+    const uint8_t *r = table + row_at(log);
+    uint32_t last = get16(r + R_LAST);
+    if (last == 0)
+        return KEEPER_NOTHING_HELD;
+    uint64_t high = get64(r + R_HIGH);
+    put_receipt(receipt, table, name_end, KEEPER_ASSIGNED, log, high, high, nonce,
+                table + slot_at(found.logs, last));
+    return KEEPER_DONE;
+}
+
+/* ---- the verifier ---- */
+
+/* Whether the 160 bytes are those of a possible entry, the tag apart. */
+static int possible(const uint8_t *c)
+{
+    int end = memcmp(c + C_NAME, name_end, 6) == 0;
+    if (!end && memcmp(c + C_NAME, name_lookup, 6) != 0)
+        return 0;
+    uint8_t kind = c[C_KIND];
+    uint64_t position = get64(c + C_POSITION), reference = get64(c + C_REFERENCE);
+    if (c[C_LOG] > 15 || position < 1)
+        return 0;
+    if (kind == KEEPER_ASSIGNED)
+        return reference == position;
+    if (end || !all_zero(c + C_VALUE, 8))
+        return 0;
+    switch (kind) {
+    case KEEPER_UNASSIGNED:
+        return reference < position;
+    case KEEPER_SKIPPED:
+    case KEEPER_FORGOTTEN:
+        return reference > position;
+    default:
+        return 0;
+    }
+}
+
+/* Looks at every byte, so that the time does not tell where two tags part. */
+static int same_tag(const uint8_t *x, const uint8_t *y)
+{
+    uint8_t unlike = 0;
+    for (int i = 0; i < 32; i++)
+        unlike |= x[i] ^ y[i];
+    return unlike == 0;
+}
+
+/* position is NULL for the question for an end. */
+static uint8_t verify(const uint8_t *key, size_t key_bytes, const uint8_t *c, size_t bytes, const uint8_t *nonce,
+                      size_t nonce_bytes, uint64_t keeper, uint64_t log, const uint64_t *position,
+                      keeper_verdict *verdict)
+{
+    uint8_t tag[32];
+    if (key_bytes != 32 || nonce_bytes != 32)
+        return KEEPER_LENGTH;
+    if (bytes != 160 || !possible(c))
+        return KEEPER_NO_RECEIPT;
+    hmac(key, 32, c, C_TAG, tag);
+    if (!same_tag(tag, c + C_TAG))
+        return KEEPER_TAG;
+    uint64_t n = get64(c + C_POSITION);
+    if (memcmp(c + C_NAME, position != NULL ? name_lookup : name_end, 6) != 0 || c[C_LOG] != log ||
+        get64(c + C_KEEPER) != keeper || memcmp(c + C_NONCE, nonce, 32) != 0 || (position != NULL && n != *position))
+        return KEEPER_OTHER_QUESTION;
+    verdict->keeper = keeper;
+    verdict->log = log;
+    verdict->position = n;
+    verdict->kind = c[C_KIND];
+    verdict->reference = get64(c + C_REFERENCE);
+    return KEEPER_DONE;
+}
+
+uint8_t plain_verify_lookup(const uint8_t *key, size_t key_bytes, const uint8_t *receipt, size_t receipt_bytes,
+                            const uint8_t *nonce, size_t nonce_bytes, uint64_t keeper, uint64_t log, uint64_t position,
+                            keeper_verdict *verdict)
+{
+    return verify(key, key_bytes, receipt, receipt_bytes, nonce, nonce_bytes, keeper, log, &position, verdict);
+}
+
+uint8_t plain_verify_end(const uint8_t *key, size_t key_bytes, const uint8_t *receipt, size_t receipt_bytes,
+                         const uint8_t *nonce, size_t nonce_bytes, uint64_t keeper, uint64_t log,
+                         keeper_verdict *verdict)
+{
+    return verify(key, key_bytes, receipt, receipt_bytes, nonce, nonce_bytes, keeper, log, NULL, verdict);
+}
+
+/* ---- certificates ---- */
+
+enum { MEMBER = 40, MAX_MEMBERS = 31, MAX_RECEIPTS = 32 };
+
+uint8_t plain_certify(const uint8_t *roster, size_t roster_bytes, const uint8_t *nonce, size_t nonce_bytes,
+                      uint64_t log, uint64_t position, const uint8_t *certificate, size_t certificate_bytes,
+                      uint64_t *place, uint32_t *mask)
+{
+    if (nonce_bytes != 32)
+        return KEEPER_LENGTH;
+    size_t members = roster_bytes / MEMBER, receipts = certificate_bytes / 160;
+    if (roster_bytes % MEMBER != 0 || members > MAX_MEMBERS || members % 2 == 0)
+        return KEEPER_ROSTER;
+    uint64_t number[MAX_MEMBERS];
+    for (size_t i = 0; i < members; i++) {
+        number[i] = get64(roster + MEMBER * i);
+        for (size_t j = 0; j < i; j++)
+            if (number[j] == number[i])
+                return KEEPER_ROSTER;
+    }
+    if (certificate_bytes % 160 != 0 || receipts > MAX_RECEIPTS)
+        return KEEPER_NO_RECEIPT;
+
+    /* One row for each pair of value and digest that a good receipt shows, by the first place that shows it. */
+    struct {
+        const uint8_t *pair;
+        size_t place;
+        uint32_t mask;
+    } shown[MAX_RECEIPTS];
+    size_t pairs = 0;
+    for (size_t p = 0; p < receipts; p++) {
+        const uint8_t *c = certificate + 160 * p;
+        uint64_t keeper = get64(c + C_KEEPER);
+        size_t m = 0;
+        while (m < members && number[m] != keeper)
+            m++;
+        if (m == members)
+            continue;
+        keeper_verdict verdict;
+        if (verify(roster + MEMBER * m + 8, 32, c, 160, nonce, 32, keeper, log, &position, &verdict) != KEEPER_DONE ||
+            verdict.kind != KEEPER_ASSIGNED)
+            continue;
+        size_t k = 0;
+        while (k < pairs && memcmp(shown[k].pair, c + C_VALUE, 64) != 0)
+            k++;
+        if (k == pairs) {
+            shown[pairs].pair = c + C_VALUE;
+            shown[pairs].place = p;
+            shown[pairs].mask = 0;
+            pairs++;
+        }
+        shown[k].mask |= UINT32_C(1) << m;
+    }
+    for (size_t k = 0; k < pairs; k++) {
+        if ((size_t)__builtin_popcount(shown[k].mask) >= (members + 1) / 2) {
+            *place = shown[k].place;
+            *mask = shown[k].mask;
+            return KEEPER_DONE;
+        }
+    }
+    return KEEPER_TOO_FEW;
+}
+
+/* ---- runs ---- */
+
+static int no_run(uint64_t first, size_t bytes)
+{
+    return bytes == 0 || bytes % 32 != 0 || first == 0 || bytes / 32 - 1 > UINT64_MAX - first;
+}
+
+uint8_t plain_compare(const uint8_t *start1, size_t start1_bytes, uint64_t first1, const uint8_t *values1,
+                      size_t values1_bytes, const uint8_t *start2, size_t start2_bytes, uint64_t first2,
+                      const uint8_t *values2, size_t values2_bytes, uint8_t *collision, size_t collision_bytes,
+                      uint8_t *verdict)
+{
+    if (start1_bytes != 32 || start2_bytes != 32 || collision_bytes != 144)
+        return KEEPER_LENGTH;
+    if (no_run(first1, values1_bytes) || no_run(first2, values2_bytes))
+        return KEEPER_NO_RUN;
+    size_t count1 = values1_bytes / 32, count2 = values2_bytes / 32, i1 = 0, i2 = 0;
+    uint8_t block1[72], block2[72], unequal[144];
+    uint8_t digest1[32], digest2[32];
+    memcpy(digest1, start1, 32);
+    memcpy(digest2, start2, 32);
+
+    /* First what the longer run has before the shorter one's first entry, then both in step. */
+    for (; count1 - i1 > count2; i1++) {
+        block_of(block1, first1 + i1, values1 + 32 * i1, digest1);
+        sha256(block1, 72, digest1);
+    }
+    for (; count2 - i2 > count1; i2++) {
+        block_of(block2, first2 + i2, values2 + 32 * i2, digest2);
+        sha256(block2, 72, digest2);
+    }
+    int differ = 0;
+    for (; i1 < count1; i1++, i2++) {
+        block_of(block1, first1 + i1, values1 + 32 * i1, digest1);
+        block_of(block2, first2 + i2, values2 + 32 * i2, digest2);
+        if (memcmp(block1, block2, 72) != 0) { /* the last such pair is the one nearest the ends */
+            memcpy(unequal, block1, 72);
+            memcpy(unequal + 72, block2, 72);
+            differ = 1;
+        }
+        sha256(block1, 72, digest1);
+        sha256(block2, 72, digest2);
+    }
+    if (memcmp(digest1, digest2, 32) != 0) {
+        *verdict = KEEPER_DIFFER;
+    } else if (!differ) {
+        *verdict = KEEPER_AGREE;
+    } else {
+        memcpy(collision, unequal, 144);
+        *verdict = KEEPER_COLLISION;
+    }
+    return KEEPER_DONE;
+}

@@ -1,0 +1,249 @@
+//! The two sides, the keeper's static library and the plain C, as one set of functions over slices.
+
+/// `keeper_verdict` of keeper.h.
+#[repr(C)]
+#[derive(Clone, Copy, PartialEq, Debug, Default)]
+pub struct Verdict {
+    pub keeper: u64,
+    pub log: u64,
+    pub position: u64,
+    pub kind: u64,
+    pub reference: u64,
+}
+
+type In = *const u8;
+type Out = *mut u8;
+type Num = *mut u64;
+type Verify = unsafe extern "C" fn(In, usize, In, usize, In, usize, u64, u64, u64, *mut Verdict) -> u8;
+type VerifyEnd = unsafe extern "C" fn(In, usize, In, usize, In, usize, u64, u64, *mut Verdict) -> u8;
+type Certify = unsafe extern "C" fn(In, usize, In, usize, u64, u64, In, usize, Num, *mut u32) -> u8;
+type Compare =
+    unsafe extern "C" fn(In, usize, u64, In, usize, In, usize, u64, In, usize, Out, usize, *mut u8) -> u8;
+
+pub struct Side {
+    pub name: &'static str,
+    hash: unsafe extern "C" fn(In, usize, Out, usize) -> u8,
+    tag: unsafe extern "C" fn(In, usize, In, usize, Out, usize) -> u8,
+    format: unsafe extern "C" fn(Out, usize, u64, u64, u64, In, usize) -> u8,
+    check: unsafe extern "C" fn(In, usize) -> u8,
+    append: unsafe extern "C" fn(Out, usize, u64, In, usize, Num, Num) -> u8,
+    advance: unsafe extern "C" fn(Out, usize, u64, u64, In, usize, In, usize, Num, Num) -> u8,
+    truncate: unsafe extern "C" fn(Out, usize, u64, u64, Num, Num) -> u8,
+    lookup: unsafe extern "C" fn(In, usize, u64, u64, In, usize, Out, usize, Num) -> u8,
+    end: unsafe extern "C" fn(In, usize, u64, In, usize, Out, usize) -> u8,
+    verify_lookup: Verify,
+    verify_end: VerifyEnd,
+    certify: Certify,
+    compare: Compare,
+}
+
+macro_rules! side {
+    ($side:ident, $label:expr, $hash:ident, $tag:ident, $format:ident, $check:ident, $append:ident, $advance:ident,
+     $truncate:ident, $lookup:ident, $end:ident, $verify_lookup:ident, $verify_end:ident, $certify:ident,
+     $compare:ident) => {
+        extern "C" {
+            fn $hash(message: In, message_bytes: usize, digest: Out, digest_bytes: usize) -> u8;
+            fn $tag(key: In, key_bytes: usize, text: In, text_bytes: usize, tag: Out, tag_bytes: usize) -> u8;
+            fn $format(t: Out, t_bytes: usize, logs: u64, slots: u64, keeper: u64, key: In, key_bytes: usize) -> u8;
+            fn $check(t: In, t_bytes: usize) -> u8;
+            fn $append(t: Out, t_bytes: usize, log: u64, value: In, value_bytes: usize, low: Num, high: Num) -> u8;
+            fn $advance(
+                t: Out, t_bytes: usize, log: u64, position: u64, digest: In, digest_bytes: usize, value: In,
+                value_bytes: usize, low: Num, high: Num,
+            ) -> u8;
+            fn $truncate(t: Out, t_bytes: usize, log: u64, position: u64, low: Num, high: Num) -> u8;
+            fn $lookup(
+                t: In, t_bytes: usize, log: u64, position: u64, nonce: In, nonce_bytes: usize, receipt: Out,
+                receipt_bytes: usize, examined: Num,
+            ) -> u8;
+            fn $end(
+                t: In, t_bytes: usize, log: u64, nonce: In, nonce_bytes: usize, receipt: Out, receipt_bytes: usize,
+            ) -> u8;
+            fn $verify_lookup(
+                key: In, key_bytes: usize, receipt: In, receipt_bytes: usize, nonce: In, nonce_bytes: usize,
+                keeper: u64, log: u64, position: u64, verdict: *mut Verdict,
+            ) -> u8;
+            fn $verify_end(
+                key: In, key_bytes: usize, receipt: In, receipt_bytes: usize, nonce: In, nonce_bytes: usize,
+                keeper: u64, log: u64, verdict: *mut Verdict,
+            ) -> u8;
+            fn $certify(
+                roster: In, roster_bytes: usize, nonce: In, nonce_bytes: usize, log: u64, position: u64,
+                certificate: In, certificate_bytes: usize, place: Num, mask: *mut u32,
+            ) -> u8;
+            fn $compare(
+                start1: In, start1_bytes: usize, first1: u64, values1: In, values1_bytes: usize, start2: In,
+                start2_bytes: usize, first2: u64, values2: In, values2_bytes: usize, collision: Out,
+                collision_bytes: usize, verdict: *mut u8,
+            ) -> u8;
+        }
+        pub static $side: Side = Side {
+            name: $label,
+            hash: $hash,
+            tag: $tag,
+            format: $format,
+            check: $check,
+            append: $append,
+            advance: $advance,
+            truncate: $truncate,
+            lookup: $lookup,
+            end: $end,
+            verify_lookup: $verify_lookup,
+            verify_end: $verify_end,
+            certify: $certify,
+            compare: $compare,
+        };
+    };
+}
+
+side!(
+    KEEPER, "keeper", keeper_hash, keeper_tag, keeper_format, keeper_check, keeper_append, keeper_advance,
+    keeper_truncate, keeper_lookup, keeper_end, keeper_verify_lookup, keeper_verify_end, keeper_certify, keeper_compare
+);
+side!(
+    PLAIN, "plain C", plain_hash, plain_tag, plain_format, plain_check, plain_append, plain_advance, plain_truncate,
+    plain_lookup, plain_end, plain_verify_lookup, plain_verify_end, plain_certify, plain_compare
+);
+
+// What keeper.h asks holds of slices and references: pointers that are not null, bytes that can be read or written, and
+// nothing written that overlaps something else.
+impl Side {
+    pub fn hash(&self, message: &[u8], digest: &mut [u8]) -> u8 {
+        unsafe { (self.hash)(message.as_ptr(), message.len(), digest.as_mut_ptr(), digest.len()) }
+    }
+
+    pub fn tag(&self, key: &[u8], text: &[u8], tag: &mut [u8]) -> u8 {
+        unsafe {
+            (self.tag)(key.as_ptr(), key.len(), text.as_ptr(), text.len(), tag.as_mut_ptr(), tag.len())
+        }
+    }
+
+    pub fn format(&self, table: &mut [u8], logs: u64, slots: u64, keeper: u64, key: &[u8]) -> u8 {
+        unsafe { (self.format)(table.as_mut_ptr(), table.len(), logs, slots, keeper, key.as_ptr(), key.len()) }
+    }
+
+    pub fn check(&self, table: &[u8]) -> u8 {
+        unsafe { (self.check)(table.as_ptr(), table.len()) }
+    }
+
+    pub fn append(&self, table: &mut [u8], log: u64, value: &[u8], low: &mut u64, high: &mut u64) -> u8 {
+        unsafe { (self.append)(table.as_mut_ptr(), table.len(), log, value.as_ptr(), value.len(), low, high) }
+    }
+
+    pub fn advance(
+        &self, table: &mut [u8], log: u64, position: u64, digest: &[u8], value: &[u8], low: &mut u64, high: &mut u64,
+    ) -> u8 {
+        unsafe {
+            (self.advance)(
+                table.as_mut_ptr(), table.len(), log, position, digest.as_ptr(), digest.len(), value.as_ptr(),
+                value.len(), low, high,
+            )
+        }
+    }
+
+    pub fn truncate(&self, table: &mut [u8], log: u64, position: u64, low: &mut u64, high: &mut u64) -> u8 {
+        unsafe { (self.truncate)(table.as_mut_ptr(), table.len(), log, position, low, high) }
+    }
+
+    pub fn lookup(
+        &self, table: &[u8], log: u64, position: u64, nonce: &[u8], receipt: &mut [u8], examined: &mut u64,
+    ) -> u8 {
+        unsafe {
+            (self.lookup)(
+                table.as_ptr(), table.len(), log, position, nonce.as_ptr(), nonce.len(), receipt.as_mut_ptr(),
+                receipt.len(), examined,
+            )
+        }
+    }
+
+    pub fn end(&self, table: &[u8], log: u64, nonce: &[u8], receipt: &mut [u8]) -> u8 {
+        unsafe {
+            (self.end)(
+                table.as_ptr(), table.len(), log, nonce.as_ptr(), nonce.len(), receipt.as_mut_ptr(), receipt.len(),
+            )
+        }
+    }
+
+    /// The question for a position, or without one for the log's end.
+    pub fn verify(
+        &self, key: &[u8], receipt: &[u8], nonce: &[u8], keeper: u64, log: u64, position: Option<u64>,
+        verdict: &mut Verdict,
+    ) -> u8 {
+        unsafe {
+            match position {
+                Some(n) => (self.verify_lookup)(
+                    key.as_ptr(), key.len(), receipt.as_ptr(), receipt.len(), nonce.as_ptr(), nonce.len(), keeper, log,
+                    n, verdict,
+                ),
+                None => (self.verify_end)(
+                    key.as_ptr(), key.len(), receipt.as_ptr(), receipt.len(), nonce.as_ptr(), nonce.len(), keeper, log,
+                    verdict,
+                ),
+            }
+        }
+    }
+
+    pub fn certify(
+        &self, roster: &[u8], nonce: &[u8], log: u64, position: u64, certificate: &[u8], place: &mut u64,
+        mask: &mut u32,
+    ) -> u8 {
+        unsafe {
+            (self.certify)(
+                roster.as_ptr(), roster.len(), nonce.as_ptr(), nonce.len(), log, position, certificate.as_ptr(),
+                certificate.len(), place, mask,
+            )
+        }
+    }
+
+    pub fn compare(&self, run1: &Run, run2: &Run, collision: &mut [u8], verdict: &mut u8) -> u8 {
+        unsafe {
+            (self.compare)(
+                run1.start.as_ptr(), run1.start.len(), run1.first, run1.values.as_ptr(), run1.values.len(),
+                run2.start.as_ptr(), run2.start.len(), run2.first, run2.values.as_ptr(), run2.values.len(),
+                collision.as_mut_ptr(), collision.len(), verdict,
+            )
+        }
+    }
+}
+
+#[derive(Clone)]
+pub struct Run {
+    pub start: Vec<u8>,
+    pub first: u64,
+    pub values: Vec<u8>,
+}
+
+/// Numbers at random, the same for the same seed (splitmix64).
+pub struct Random(pub u64);
+
+impl Random {
+    pub fn next(&mut self) -> u64 {
+        self.0 = self.0.wrapping_add(0x9e3779b97f4a7c15);
+        let z = (self.0 ^ (self.0 >> 30)).wrapping_mul(0xbf58476d1ce4e5b9);
+        let z = (z ^ (z >> 27)).wrapping_mul(0x94d049bb133111eb);
+        z ^ (z >> 31)
+    }
+
+    /// Below n, which is not 0.
+    pub fn below(&mut self, n: u64) -> u64 {
+        self.next() % n
+    }
+
+    /// True once in n times.
+    pub fn once_in(&mut self, n: u64) -> bool {
+        self.below(n) == 0
+    }
+
+    pub fn pick<T: Copy>(&mut self, from: &[T]) -> T {
+        from[self.below(from.len() as u64) as usize]
+    }
+
+    pub fn bytes(&mut self, n: usize) -> Vec<u8> {
+        let mut v = Vec::with_capacity(n + 8);
+        while v.len() < n {
+            v.extend_from_slice(&self.next().to_le_bytes());
+        }
+        v.truncate(n);
+        v
+    }
+}

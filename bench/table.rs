@@ -1,0 +1,428 @@
+//! The table of ratios. Both sides are timed in turn, batch by batch, so that a slow spell of the machine meets both.
+use crate::sides::{Random, Run, Verdict, KEEPER, PLAIN};
+use crate::tables::*;
+use std::hint::black_box;
+use std::os::raw::c_char;
+use std::process::Command;
+
+extern "C" {
+    fn clock_gettime(clock: i32, time: *mut [i64; 2]) -> i32;
+    fn openssl_sha256(message: *const u8, bytes: usize, digest: *mut u8);
+    fn openssl_version() -> *const c_char;
+    /// plain.c's hash with the standard's own formulas.
+    fn book_hash(message: *const u8, bytes: usize, digest: *mut u8, digest_bytes: usize) -> u8;
+}
+
+/// Columns of a row's label.
+const WIDTH: usize = 56;
+
+/// Ratios this little above an aim are taken for noise.
+const NOISE: f64 = 0.03;
+
+fn median(mut times: Vec<f64>) -> f64 {
+    times.sort_by(f64::total_cmp);
+    times[times.len() / 2]
+}
+
+/// The thread's processor time in ns, which stands still while another process has the processor.
+fn now() -> f64 {
+    const CLOCK_THREAD_CPUTIME_ID: i32 = 3;
+    let mut time = [0; 2];
+    assert_eq!(unsafe { clock_gettime(CLOCK_THREAD_CPUTIME_ID, &mut time) }, 0);
+    time[0] as f64 * 1e9 + time[1] as f64
+}
+
+fn batch(n: u64, call: &mut impl FnMut()) -> f64 {
+    let start = now();
+    for _ in 0..n {
+        call();
+    }
+    now() - start
+}
+
+struct Timer {
+    quick: bool,
+}
+
+struct Times {
+    one: f64,
+    two: f64,
+    ratio: f64,
+}
+
+impl Timer {
+    /// The calls' times in ns (medians over batches), and the median of the ratios of neighbouring batches.
+    fn pair(&self, mut one: impl FnMut(), mut two: impl FnMut()) -> Times {
+        // Short batches: one that another process cuts into is then one of many, and the median passes it over.
+        let aim = if self.quick { 2e5 } else { 4e5 };
+        let mut n = 1;
+        loop {
+            let took = batch(n, &mut one).min(batch(n, &mut two));
+            if took >= aim || n >= 1 << 24 {
+                break;
+            }
+            n = if took * 8.0 < aim { n * 8 } else { n * 2 };
+        }
+        let long = batch(1, &mut one) > 1e7;
+        let batches = match (self.quick, long) {
+            (true, true) => 5,
+            (true, false) => 31,
+            (false, true) => 15,
+            (false, false) => 201,
+        };
+        let (mut ones, mut twos, mut ratios) = (Vec::new(), Vec::new(), Vec::new());
+        for _ in 0..batches {
+            let (x, y) = (batch(n, &mut one), batch(n, &mut two));
+            ones.push(x / n as f64);
+            twos.push(y / n as f64);
+            ratios.push(x / y);
+        }
+        Times { one: median(ones), two: median(twos), ratio: median(ratios) }
+    }
+}
+
+fn shown(ns: f64) -> String {
+    if ns < 1e5 {
+        format!("{ns:.1} ns")
+    } else if ns < 1e7 {
+        format!("{:.1} us", ns / 1e3)
+    } else {
+        format!("{:.2} ms", ns / 1e6)
+    }
+}
+
+struct Table {
+    timer: Timer,
+    over: Vec<String>,
+    rows: u64,
+}
+
+impl Table {
+    fn head(&self, title: &str, other: &str) {
+        println!("\n{title:<WIDTH$}{:>12}{other:>14}{:>8}{:>7}", "keeper", "ratio", "aim");
+    }
+
+    fn row(&mut self, label: &str, times: &Times, aim: Option<f64>, note: &str) {
+        let missed = aim.is_some_and(|aim| times.ratio > aim + NOISE);
+        let aim = aim.map_or(String::new(), |aim| format!("{aim:.1}"));
+        let (one, two, ratio) = (shown(times.one), shown(times.two), times.ratio);
+        let mark = if missed { "  over" } else { "" };
+        println!("{label:<WIDTH$}{one:>12}{two:>14}{ratio:>8.2}{aim:>7}{mark}{note}");
+        if missed {
+            self.over.push(format!("{label}: {ratio:.2}, aim {aim}"));
+        }
+        self.rows += 1;
+    }
+
+    fn hashes(&mut self) {
+        self.head("SHA-256, against plain C", "plain C");
+        for (bytes, label) in SIZES {
+            let message = Random(1).bytes(bytes);
+            let (mut d1, mut d2) = ([0; 32], [0; 32]);
+            let times = self.timer.pair(
+                || { KEEPER.hash(black_box(&message), &mut d1); },
+                || { PLAIN.hash(black_box(&message), &mut d2); },
+            );
+            assert_eq!(d1, d2);
+            self.row(label, &times, Some(1.0), "");
+        }
+        self.head("SHA-256, against plain C with the standard's formulas", "plain C");
+        for (bytes, label) in SIZES {
+            let message = Random(1).bytes(bytes);
+            let (mut d1, mut d2) = ([0u8; 32], [0u8; 32]);
+            let times = self.timer.pair(
+                || { KEEPER.hash(black_box(&message), &mut d1); },
+                || unsafe { black_box(book_hash(black_box(&message).as_ptr(), bytes, d2.as_mut_ptr(), 32)); },
+            );
+            assert_eq!(d1, d2);
+            self.row(label, &times, None, "");
+        }
+        self.head("HMAC", "plain C");
+        let key = Random(2).bytes(32);
+        let text = Random(3).bytes(128);
+        let (mut t1, mut t2) = ([0; 32], [0; 32]);
+        let times = self.timer.pair(
+            || { KEEPER.tag(black_box(&key), &text, &mut t1); },
+            || { PLAIN.tag(black_box(&key), &text, &mut t2); },
+        );
+        self.row("HMAC of 128 bytes, key of 32", &times, None, "");
+    }
+
+    /// OpenSSL chooses its code when it is loaded, by the processor's features as the environment leaves them: hence a
+    /// process for each choice.
+    fn openssl(&mut self) -> bool {
+        let mut speeds = Vec::new();
+        for (label, mask) in MASKS {
+            let mut child = Command::new(std::env::current_exe().unwrap());
+            child.args(["hashes", if self.timer.quick { "quick" } else { "full" }, label]);
+            child.env_remove("OPENSSL_ia32cap");
+            if !mask.is_empty() {
+                child.env("OPENSSL_ia32cap", mask);
+            }
+            let out = child.output().expect("the driver starts itself");
+            let text = String::from_utf8_lossy(&out.stdout);
+            self.head(&format!("SHA-256, against OpenSSL {label}"), "OpenSSL");
+            for (line, (bytes, size)) in text.lines().zip(SIZES) {
+                let n: Vec<f64> = line.split(' ').map(|x| x.parse().unwrap()).collect();
+                self.row(size, &Times { one: n[0], two: n[1], ratio: n[2] }, None, "");
+                if bytes == 1 << 16 {
+                    speeds.push(bytes as f64 * 1e3 / n[1]);
+                }
+            }
+        }
+        if speeds.len() != MASKS.len() {
+            println!("OpenSSL was not timed");
+            return false;
+        }
+        let parted = speeds[0] > 1.3 * speeds[1] && speeds[1] > 1.03 * speeds[2];
+        println!(
+            "OpenSSL at 64 KB: {:.0}, {:.0} and {:.0} MB/s: the masks {}",
+            speeds[0],
+            speeds[1],
+            speeds[2],
+            if parted { "took effect" } else { "MADE NO CLEAR DIFFERENCE (or the processor lacks the features)" }
+        );
+        true
+    }
+
+    /// A call that may change the table: the bytes that it changes are put back after each call, on both sides alike.
+    fn call(
+        &mut self, label: &str, aim: Option<f64>, prepared: &[u8],
+        one: &mut dyn FnMut(&mut [u8]) -> u8, two: &mut dyn FnMut(&mut [u8]) -> u8,
+    ) {
+        let (mut t1, mut t2) = (prepared.to_vec(), prepared.to_vec());
+        let (number, other) = (one(&mut t1), two(&mut t2));
+        assert!(number == other && t1 == t2, "{label}: the sides differ");
+        let changed = spans(prepared, &t1);
+        // Both sides work on one buffer, so that they meet the same alignment.
+        let shared = std::cell::RefCell::new(prepared.to_vec());
+        let restore = |t: &mut [u8]| {
+            for (from, to) in &changed {
+                t[*from..*to].copy_from_slice(&prepared[*from..*to]);
+            }
+        };
+        let times = self.timer.pair(
+            || {
+                let t = &mut *shared.borrow_mut();
+                black_box(one(t));
+                restore(t);
+            },
+            || {
+                let t = &mut *shared.borrow_mut();
+                black_box(two(t));
+                restore(t);
+            },
+        );
+        let mut note = if number == 0 { String::new() } else { format!("  refused {number}") };
+        if !changed.is_empty() {
+            let t = &mut *shared.borrow_mut();
+            let mut undo = || restore(black_box(t));
+            let ns = median((0..9).map(|_| batch(2000, &mut undo) / 2000.0).collect());
+            note += &format!("  putting back {ns:.1} ns");
+        }
+        self.row(label, &times, aim, &note);
+    }
+
+    fn calls(&mut self, prepared: &[u8], how: &str) {
+        let (g, s) = (logs(prepared), slots(prepared));
+        let aim = if s == 800 { Some(1.5) } else { None };
+        let label = |call: &str| format!("{call} ({g},{s}) {how}");
+        let mut random = Random(5);
+        let (value, digest, nonce) = (random.bytes(32), random.bytes(32), random.bytes(32));
+        let (low, high) = bounds(prepared, 0);
+        let middle = if high == 0 { 1 } else { low + (high - low) / 2 };
+        let cut = low + positions(prepared, 0).len() as u64 / 2;
+        let (mut l, mut h, mut receipt) = (0, 0, [0; 160]);
+        let (mut l2, mut h2, mut receipt2) = (0, 0, [0; 160]);
+        self.call(&label("check"), aim, prepared, &mut |t| KEEPER.check(t), &mut |t| PLAIN.check(t));
+        self.call(
+            &label("append"), aim, prepared,
+            &mut |t| KEEPER.append(t, 0, &value, &mut l, &mut h),
+            &mut |t| PLAIN.append(t, 0, &value, &mut l2, &mut h2),
+        );
+        self.call(
+            &label("advance"), aim, prepared,
+            &mut |t| KEEPER.advance(t, 0, high + 3, &digest, &value, &mut l, &mut h),
+            &mut |t| PLAIN.advance(t, 0, high + 3, &digest, &value, &mut l2, &mut h2),
+        );
+        self.call(
+            &label("truncate"), aim, prepared,
+            &mut |t| KEEPER.truncate(t, 0, cut, &mut l, &mut h),
+            &mut |t| PLAIN.truncate(t, 0, cut, &mut l2, &mut h2),
+        );
+        self.call(
+            &label("lookup"), aim, prepared,
+            &mut |t| KEEPER.lookup(t, 0, middle, &nonce, &mut receipt, &mut l),
+            &mut |t| PLAIN.lookup(t, 0, middle, &nonce, &mut receipt2, &mut l2),
+        );
+        self.call(
+            &label("end"), aim, prepared,
+            &mut |t| KEEPER.end(t, 0, &nonce, &mut receipt),
+            &mut |t| PLAIN.end(t, 0, &nonce, &mut receipt2),
+        );
+    }
+
+    fn tables(&mut self) {
+        for (g, s) in [(1, 1), (4, 32), (16, 800)] {
+            self.head(&format!("Table calls, {g} logs, {s} slots"), "plain C");
+            let mut random = Random(4);
+            for (how, entries) in [("empty", 0), ("half", s / 2), ("full", s)] {
+                if entries == 0 && how == "half" {
+                    continue;
+                }
+                self.calls(&filled(g, s, entries, &mut random), how);
+            }
+            if s == 800 {
+                for (how, entries) in [("half, shuffled", s / 2), ("full, shuffled", s)] {
+                    let mut t = filled(g, s, entries, &mut random);
+                    shuffle(&mut t, &mut random);
+                    self.calls(&t, how);
+                }
+            }
+        }
+    }
+
+    fn verifiers(&mut self) {
+        self.head("The verifier", "plain C");
+        let mut random = Random(6);
+        let (key, nonce, pair) = (random.bytes(32), random.bytes(32), random.bytes(64));
+        let mut c = Receipt::assigned(7, 3, 99, &nonce, &pair);
+        let lookup = c.write(&key);
+        c.name = *b"END\0\0\0";
+        let end = c.write(&key);
+        let mut forged = lookup.clone();
+        forged[159] ^= 1;
+        let mut impossible = lookup.clone();
+        impossible[6] = 0;
+        let (mut v1, mut v2) = (Verdict::default(), Verdict::default());
+        for (label, receipt, position, number) in [
+            ("verify a lookup, accepted", &lookup, Some(99), 0),
+            ("verify an end, accepted", &end, None, 0),
+            ("verify a lookup, tag wrong", &forged, Some(99), 10),
+            ("verify a lookup, no possible entry", &impossible, Some(99), 9),
+        ] {
+            let times = self.timer.pair(
+                || assert_eq!(KEEPER.verify(&key, black_box(receipt), &nonce, 7, 3, position, &mut v1), number),
+                || assert_eq!(PLAIN.verify(&key, black_box(receipt), &nonce, 7, 3, position, &mut v2), number),
+            );
+            self.row(label, &times, None, "");
+        }
+        // 375 bytes and their padding are six blocks.
+        let six = random.bytes(375);
+        let mut digest = [0; 32];
+        self.head("The verifier, against six compressions", "keeper's hash");
+        let times = self.timer.pair(
+            || assert_eq!(KEEPER.verify(&key, black_box(&lookup), &nonce, 7, 3, Some(99), &mut v1), 0),
+            || { KEEPER.hash(black_box(&six), &mut digest); },
+        );
+        self.row("verify a lookup / hash of 375 bytes", &times, Some(1.1), "");
+    }
+
+    fn certificates(&mut self) {
+        self.head("Certificates", "plain C");
+        let mut random = Random(7);
+        let (nonce, pair) = (random.bytes(32), random.bytes(64));
+        for (members, receipts) in [(1, 1), (31, 16), (31, 31)] {
+            let (mut roster, mut certificate) = (Vec::new(), Vec::new());
+            for m in 0..members {
+                let key = random.bytes(32);
+                roster.extend_from_slice(&(m as u64 + 100).to_be_bytes());
+                roster.extend_from_slice(&key);
+                if m < receipts {
+                    certificate.extend(Receipt::assigned(m as u64 + 100, 3, 99, &nonce, &pair).write(&key));
+                }
+            }
+            let (mut p1, mut p2, mut m1, mut m2) = (0, 0, 0, 0);
+            let times = self.timer.pair(
+                || assert_eq!(KEEPER.certify(&roster, &nonce, 3, 99, black_box(&certificate), &mut p1, &mut m1), 0),
+                || assert_eq!(PLAIN.certify(&roster, &nonce, 3, 99, black_box(&certificate), &mut p2, &mut m2), 0),
+            );
+            self.row(&format!("{receipts} receipts, roster of {members}"), &times, None, "");
+        }
+    }
+
+    fn runs(&mut self) {
+        self.head("Comparison of two equal runs", "plain C");
+        let mut random = Random(8);
+        for (count, label) in [(10, "10 values each"), (1000, "1,000 values each"), (100_000, "100,000 values each")] {
+            let run = Run { start: random.bytes(32), first: 1, values: random.bytes(32 * count) };
+            let (mut b1, mut b2, mut v1, mut v2) = ([0; 144], [0; 144], 0, 0);
+            let other = run.clone();
+            let times = self.timer.pair(
+                || assert_eq!(KEEPER.compare(&run, black_box(&other), &mut b1, &mut v1), 0),
+                || assert_eq!(PLAIN.compare(&run, black_box(&other), &mut b2, &mut v2), 0),
+            );
+            assert!(v1 == 1 && v2 == 1);
+            self.row(label, &times, None, "");
+        }
+    }
+}
+
+const SIZES: [(usize, &str); 4] = [
+    (64, "SHA-256 of 64 B"),
+    (1 << 10, "SHA-256 of 1 KB"),
+    (1 << 16, "SHA-256 of 64 KB"),
+    (1 << 24, "SHA-256 of 16 MB"),
+];
+
+/// Bits of OPENSSL_ia32cap: of the second word SHA is bit 29, AVX2, BMI1 and BMI2 are bits 5, 3 and 8; of the first AVX
+/// and SSSE3 are bits 60 and 41.
+const MASKS: [(&str, &str); 3] = [
+    ("with SHA extensions", ""),
+    ("by AVX2, no SHA extensions", ":~0x20000000"),
+    ("scalar (no SHA, AVX, SSSE3)", "~0x1000020000000000:~0x20000128"),
+];
+
+/// The child's part: the keeper's hash and OpenSSL's in turn, a line for each size.
+pub fn hashes(quick: bool, _label: &str) -> bool {
+    let timer = Timer { quick };
+    for (bytes, _) in SIZES {
+        let message = Random(1).bytes(bytes);
+        let (mut d1, mut d2) = ([0u8; 32], [0u8; 32]);
+        let times = timer.pair(
+            || { KEEPER.hash(black_box(&message), &mut d1); },
+            || unsafe { openssl_sha256(black_box(&message).as_ptr(), bytes, d2.as_mut_ptr()) },
+        );
+        assert_eq!(d1, d2);
+        println!("{} {} {}", times.one, times.two, times.ratio);
+    }
+    true
+}
+
+pub fn run(quick: bool) -> bool {
+    let version = unsafe { std::ffi::CStr::from_ptr(openssl_version()) };
+    println!("libcrypto:  {}", version.to_string_lossy());
+    println!(
+        "Times are processor times of one call: the median over batches, keeper and other side in turn. The ratio is\n\
+         keeper / other (below 1: the keeper is faster), the median over neighbouring batches. Where a call changes\n\
+         the table, the bytes that it changed are put back after each call within the timed part, by the same code on\n\
+         both sides; what that takes by itself stands in the row and is not taken off. Half of (1,1) is empty. Lookup\n\
+         asks for the middle of log 0, truncate frees half of its entries. Shuffled: the same chains over slots at\n\
+         random. The place of the code in memory alone moves a ratio by some percent. \"over\": above the aim by more\n\
+         than {NOISE}."
+    );
+    let mut table = Table { timer: Timer { quick }, over: Vec::new(), rows: 0 };
+    table.hashes();
+    let good = table.openssl();
+    table.tables();
+    table.verifiers();
+    table.certificates();
+    table.runs();
+    println!("\n{} rows, {} over their aim", table.rows, table.over.len());
+    for row in &table.over {
+        println!("  {row}");
+    }
+    good
+}
+
+/// The parts of a table that a call changed; parts with less than 16 equal bytes between them are joined.
+fn spans(before: &[u8], after: &[u8]) -> Vec<(usize, usize)> {
+    let mut found: Vec<(usize, usize)> = Vec::new();
+    for i in (0..before.len()).filter(|i| before[*i] != after[*i]) {
+        match found.last_mut() {
+            Some((_, to)) if i < *to + 16 => *to = i + 1,
+            _ => found.push((i, i + 1)),
+        }
+    }
+    found
+}
