@@ -48,10 +48,16 @@ struct Times {
     one: f64,
     two: f64,
     ratio: f64,
+    best: f64,
+}
+
+fn least(times: &[f64]) -> f64 {
+    times.iter().copied().fold(f64::INFINITY, f64::min)
 }
 
 impl Timer {
-    /// The calls' times in ns (medians over batches), and the median of the ratios of neighbouring batches.
+    /// The calls' times in ns (medians over batches), the median of the ratios of neighbouring batches, and the ratio of the
+    /// two sides' shortest batches, which what else runs on the machine moves least.
     fn pair(&self, mut one: impl FnMut(), mut two: impl FnMut()) -> Times {
         // Short batches: one that another process cuts into is then one of many, and the median passes it over.
         let aim = if self.quick { 2e5 } else { 4e5 };
@@ -77,7 +83,8 @@ impl Timer {
             twos.push(y / n as f64);
             ratios.push(x / y);
         }
-        Times { one: median(ones), two: median(twos), ratio: median(ratios) }
+        let best = least(&ones) / least(&twos);
+        Times { one: median(ones), two: median(twos), ratio: median(ratios), best }
     }
 }
 
@@ -99,17 +106,18 @@ struct Table {
 
 impl Table {
     fn head(&self, title: &str, other: &str) {
-        println!("\n{title:<WIDTH$}{:>12}{other:>14}{:>8}{:>7}", "keeper", "ratio", "aim");
+        println!("\n{title:<WIDTH$}{:>12}{other:>14}{:>8}{:>6}{:>6}", "keeper", "ratio", "best", "aim");
     }
 
     fn row(&mut self, label: &str, times: &Times, aim: Option<f64>, note: &str) {
-        let missed = aim.is_some_and(|aim| times.ratio > aim + NOISE);
+        let (ratio, best) = (times.ratio, times.best);
+        let missed = aim.is_some_and(|aim| ratio > aim + NOISE && best > aim + NOISE);
         let aim = aim.map_or(String::new(), |aim| format!("{aim:.1}"));
-        let (one, two, ratio) = (shown(times.one), shown(times.two), times.ratio);
+        let (one, two) = (shown(times.one), shown(times.two));
         let mark = if missed { "  over" } else { "" };
-        println!("{label:<WIDTH$}{one:>12}{two:>14}{ratio:>8.2}{aim:>7}{mark}{note}");
+        println!("{label:<WIDTH$}{one:>12}{two:>14}{ratio:>8.2}{best:>6.2}{aim:>6}{mark}{note}");
         if missed {
-            self.over.push(format!("{label}: {ratio:.2}, aim {aim}"));
+            self.over.push(format!("{label}: {ratio:.2}, at best {best:.2}, aim {aim}"));
         }
         self.rows += 1;
     }
@@ -164,7 +172,7 @@ impl Table {
             self.head(&format!("SHA-256, against OpenSSL {label}"), "OpenSSL");
             for (line, (bytes, size)) in text.lines().zip(SIZES) {
                 let n: Vec<f64> = line.split(' ').map(|x| x.parse().unwrap()).collect();
-                self.row(size, &Times { one: n[0], two: n[1], ratio: n[2] }, None, "");
+                self.row(size, &Times { one: n[0], two: n[1], ratio: n[2], best: n[3] }, None, "");
                 if bytes == 1 << 16 {
                     speeds.push(bytes as f64 * 1e3 / n[1]);
                 }
@@ -384,7 +392,7 @@ pub fn hashes(quick: bool, _label: &str) -> bool {
             || unsafe { openssl_sha256(black_box(&message).as_ptr(), bytes, d2.as_mut_ptr()) },
         );
         assert_eq!(d1, d2);
-        println!("{} {} {}", times.one, times.two, times.ratio);
+        println!("{} {} {} {}", times.one, times.two, times.ratio, times.best);
     }
     true
 }
@@ -394,12 +402,13 @@ pub fn run(quick: bool) -> bool {
     println!("libcrypto:  {}", version.to_string_lossy());
     println!(
         "Times are processor times of one call: the median over batches, keeper and other side in turn. The ratio is\n\
-         keeper / other (below 1: the keeper is faster), the median over neighbouring batches. Where a call changes\n\
+         keeper / other (below 1: the keeper is faster), the median over neighbouring batches; best is the ratio of the\n\
+         two sides' shortest batches, which what else runs on the machine moves least. Where a call changes\n\
          the table, the bytes that it changed are put back after each call within the timed part, by the same code on\n\
          both sides; what that takes by itself stands in the row and is not taken off. Half of (1,1) is empty. Lookup\n\
          asks for the middle of log 0, truncate frees half of its entries. Shuffled: the same chains over slots at\n\
-         random. The place of the code in memory alone moves a ratio by some percent. \"over\": above the aim by more\n\
-         than {NOISE}."
+         random. The place of the code in memory alone moves a ratio by some percent. \"over\": both are\n\
+         above the aim by more than {NOISE}."
     );
     let mut table = Table { timer: Timer { quick }, over: Vec::new(), rows: 0 };
     table.hashes();
