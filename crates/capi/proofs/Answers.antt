@@ -3,12 +3,14 @@ use Prim.Native.Nat.{ℕ}
 use mathlib.Core.Path.{_≡_, refl, sym, ap, ap₂, subst, _∙_}
 use mathlib.Core.Bool.{Bool, true, false, not, cond}
 use mathlib.Core.List.{List, [], _∷_}
+use native.Mathlib.Nat.{ne-of-gt}
+use borrow.Author.Tests.{ne-eqb}
 use lib.Dec.{eqb}
 use lib.ListN.{getD}
 use Rattle.refusal.specs.Number.{numberOf, outcomeNumber}
 use Rattle.refusal.specs.Order.{fault, firstFault, answerOf}
 use Rattle.refusal.specs.declared.Refusal.{Refusal}
-use Rattle.refusal.specs.declared.Refusal.the-variants.{Torn, NoLog, Position, Spent, Full, NothingHeld, Length, Counts, NoReceipt, Tag, OtherQuestion, Roster, TooFew, NoRun, Line}
+use Rattle.refusal.proofs.NumberLaws.{numberOf-positive}
 use Rattle.refusal.specs.declared.Outcome.{Outcome}
 use Rattle.refusal.specs.declared.Outcome.the-variants.{Done, Refused}
 use Rattle.table.specs.Whole.{whole, checked, checkOf}
@@ -28,21 +30,7 @@ use Rattle.capi.specs.Results.{checkRefusal, replyNumber, lowAfter, high
 
 -- no refusal has the number 0
 not-done : (why : Refusal) → eqb (numberOf why) 0 ≡ false
-not-done Torn = refl
-not-done NoLog = refl
-not-done Position = refl
-not-done Spent = refl
-not-done Full = refl
-not-done NothingHeld = refl
-not-done Length = refl
-not-done Counts = refl
-not-done NoReceipt = refl
-not-done Tag = refl
-not-done OtherQuestion = refl
-not-done Roster = refl
-not-done TooFew = refl
-not-done NoRun = refl
-not-done Line = refl
+not-done why = ne-eqb (numberOf why) 0 (λ (e : numberOf why ≡ 0). ne-of-gt (numberOf-positive why) e)
 
 -- ---- the check
 

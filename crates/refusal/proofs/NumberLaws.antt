@@ -1,5 +1,6 @@
 -- No two refusals have one number, and no refusal has 0, the number of "done".
-use Prim.Native.Nat.{ℕ, zero, suc}
+use Prim.Native.Nat.{ℕ, zero, suc, _≤_}
+use native.Mathlib.Omega.{arith}
 use mathlib.Core.Path.{_≡_, refl, sym, ap, _∙_}
 use mathlib.Core.List.{List, [], _∷_}
 use lib.ListN.{getD}
@@ -46,3 +47,14 @@ outcomeNumber-injective o p e = sym (outcome-back o) ∙ ap outcomeOf e ∙ outc
 
 pub numberOf-injective : (r s : Refusal) → numberOf r ≡ numberOf s → r ≡ s
 numberOf-injective r s e = let h : Refused r ≡ Refused s = outcomeNumber-injective (Refused r) (Refused s) e in cc
+
+abbrev isRefused : Outcome → ℕ
+isRefused Done = 0
+isRefused (Refused r) = 1
+
+pub numberOf-positive : (r : Refusal) → 1 ≤ numberOf r
+numberOf-positive r = go (numberOf r) refl
+  where
+    go : (n : ℕ) → numberOf r ≡ n → 1 ≤ n
+    go zero e = let h : 0 ≡ 1 = ap isRefused (sym (ap outcomeOf e) ∙ refused-back r) in omega arith
+    go (suc n) e = omega arith

@@ -14,9 +14,6 @@ use borrow.Rule.Slice.PartMut.{putMid}
 use Rattle.octets.specs.Octets.{Bytes, splice, zeros}
 use Rattle.octets.proofs.Parts.{bytes-part}
 use Rattle.octets.proofs.Tests.{and-false}
-use Rattle.refusal.specs.Number.{numberOf}
-use Rattle.refusal.specs.declared.Refusal.{Refusal}
-use Rattle.refusal.specs.declared.Refusal.the-variants as why
 use Rattle.refusal.specs.Order.{firstFault, answerOf, afterwards}
 use Rattle.layout.specs.Layout.{tableSize, writeTable}
 use Rattle.table.specs.Whole.{inRange}
@@ -148,20 +145,3 @@ module _ (l y : List ℕ) (n k logs slots keeper : ℕ) (size : k ≡ tableSize 
         most = m;
         bytes = came-back l y (take k l) k u b ∙ sym (stays l k fits) ∙ stays l n g ∙ ap (splice l 0) (sym t);
       }
-
-pub refusal-positive : (r : Refusal) → 1 ≤ numberOf r
-refusal-positive why.Torn = omega arith
-refusal-positive why.NoLog = omega arith
-refusal-positive why.Position = omega arith
-refusal-positive why.Spent = omega arith
-refusal-positive why.Full = omega arith
-refusal-positive why.NothingHeld = omega arith
-refusal-positive why.Length = omega arith
-refusal-positive why.Counts = omega arith
-refusal-positive why.NoReceipt = omega arith
-refusal-positive why.Tag = omega arith
-refusal-positive why.OtherQuestion = omega arith
-refusal-positive why.Roster = omega arith
-refusal-positive why.TooFew = omega arith
-refusal-positive why.NoRun = omega arith
-refusal-positive why.Line = omega arith

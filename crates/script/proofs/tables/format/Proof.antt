@@ -2,7 +2,8 @@
 use Rattle.refusal.specs.Number.{numberOf, outcomeNumber}
 use Rattle.octets.specs.Octets.{zeros}
 use Prim.Native.Nat.{_≤_}
-use Rattle.script.proofs.TurnLaws.{many-logs, many-slots, format-counts, format-done, format-refused, refusal-positive}
+use Rattle.script.proofs.TurnLaws.{many-logs, many-slots, format-counts, format-done, format-refused}
+use Rattle.refusal.proofs.NumberLaws.{numberOf-positive}
 use native.Mathlib.Omega.{arith}
 use mathlib.Core.Path.{_≡_, sym, ap, _∙_}
 use borrow.Author.Needs.{needs}
@@ -68,7 +69,7 @@ returns-4 c = let a = c .before .before .before .before .before .before .before 
     let k : n ≤ 61172 = omega (arith, c .before .before .before .before .before .before .before .before .before .before .table-size .ensures) in
     let e : c .wide .result ≡ numberOf (c .before .before .before .outcome .given .0 .0) = c .wide .ensures .0 ∙ c .before .number .ensures in
     format-refused (a .buffer .now) (f .last .0) (a .size) n (a .logs) (a .slots) (a .keeper) (c .before .before .before .before .before .before .before .before .before .before .table-size .ensures) (omega arith) k (f .kept .0) (f .ensures .1)
-    (c .wide .result) (omega (arith, refusal-positive (c .before .before .before .outcome .given .0 .0))) (omega arith) (omega arith) (e ∙ ap outcomeNumber (sym (c .before .before .before .outcome .given .1)) ∙ f .ensures .0)
+    (c .wide .result) (omega (arith, numberOf-positive (c .before .before .before .outcome .given .0 .0))) (omega arith) (omega arith) (e ∙ ap outcomeNumber (sym (c .before .before .before .outcome .given .1)) ∙ f .ensures .0)
 
 pub format-spec : {M : Type 1} → statement M
 format-spec =
