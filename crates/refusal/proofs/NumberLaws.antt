@@ -56,5 +56,5 @@ pub numberOf-positive : (r : Refusal) → 1 ≤ numberOf r
 numberOf-positive r = go (numberOf r) refl
   where
     go : (n : ℕ) → numberOf r ≡ n → 1 ≤ n
-    go zero e = let h : 0 ≡ 1 = ap isRefused (sym (ap outcomeOf e) ∙ refused-back r) in omega arith
+    go zero e = let h : isRefused Done ≡ isRefused (Refused r) = ap isRefused (sym (ap outcomeOf e) ∙ refused-back r) in omega arith
     go (suc n) e = omega arith
