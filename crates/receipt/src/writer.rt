@@ -1,16 +1,20 @@
-// The parts of a receipt, each written into its place.
+// The writer of receipts: each part into its place, the tag last.
 ghost use mathlib.Core.Path.{_≡_};
 ghost use mathlib.Core.List.{_++_, _∷_, []};
 ghost use lib.ListN.{length};
+ghost use Rattle.refusal.specs.Number.{outcomeNumber};
+ghost use Rattle.refusal.specs.Order.{answerOf, afterwards};
 ghost use Rattle.hmac.specs.Hmac.{hmac};
 ghost use Rattle.octets.specs.Octets.{part, splice};
-ghost use Rattle.receipt.specs.Attestation.{attestedBytes};
-ghost use Rattle.receipt.specs.Writer.{nameBytes, factBytes, attestationOf};
+ghost use Rattle.receipt.specs.Attestation.{attestedBytes, receiptBytes};
+ghost use Rattle.receipt.specs.Writer.{nameBytes, factBytes, attestationOf, writeRefusal};
 use super::Facts;
 use super::Name;
 use bigendian::put_u64;
 use hmac::tag;
 use octets::put;
+use refusal::Outcome;
+use refusal::Refusal;
 
 // Stores the name in bytes 0 to 5.
 fn put_name(out: &mut [u8], name: Name)
@@ -38,7 +42,7 @@ fn put_facts(out: &mut [u8], f: Facts)
 }
 
 // Writes bytes 0 to 127.
-pub fn put_attested(out: &mut [u8], f: Facts, nonce: &[u8], value: &[u8], digest: &[u8])
+fn put_attested(out: &mut [u8], f: Facts, nonce: &[u8], value: &[u8], digest: &[u8])
     requires { ⌜ length (now out) ≡ 160 ⌝ }
     requires { ⌜ (length (now nonce) ≡ 32) × ((length (now value) ≡ 32) × (length (now digest) ≡ 32)) ⌝ }
     ensures { λ _. ⌜ now (out .exit) ≡ splice (now (out .entry)) 0 (attestedBytes (attestationOf f (now (nonce .entry)) (now (value .entry)) (now (digest .entry)))) ⌝ }
@@ -50,11 +54,53 @@ pub fn put_attested(out: &mut [u8], f: Facts, nonce: &[u8], value: &[u8], digest
 }
 
 // Writes the tag of bytes 0 to 127: the tag writer is lent bytes 128 to 159.
-pub fn put_tag(out: &mut [u8], key: &[u8])
+fn put_tag(out: &mut [u8], key: &[u8])
     requires { ⌜ (length (now out) ≡ 160) × (length (now key) ≡ 32) ⌝ }
     ensures { λ _. ⌜ now (out .exit) ≡ splice (now (out .entry)) 128 (hmac (now (key .entry)) (part (now (out .entry)) 0 128)) ⌝ }
 {
     let mut attested = [0u8; 128];
     put(&mut attested, 0, &out[0..128]);
     let _ = tag(key, &attested, &mut out[128..160]);
+}
+
+// Writes a receipt's 160 bytes; the caller has seen to the lengths.
+pub fn put_receipt(out: &mut [u8], key: &[u8], f: Facts, nonce: &[u8], value: &[u8], digest: &[u8])
+    requires { ⌜ (length (now out) ≡ 160) × (length (now key) ≡ 32) ⌝ }
+    requires { ⌜ (length (now nonce) ≡ 32) × ((length (now value) ≡ 32) × (length (now digest) ≡ 32)) ⌝ }
+    ensures { λ _. ⌜ now (out .exit) ≡ receiptBytes (now (key .entry)) (attestationOf f (now (nonce .entry)) (now (value .entry)) (now (digest .entry))) ⌝ }
+{
+    put_attested(out, f, nonce, value, digest);
+    put_tag(out, key);
+}
+
+// Writes a receipt. Refused with 7, the buffer as it was: key, nonce, value, digest or the buffer of another length than
+// its own.
+pub fn write(
+    out: &mut [u8],
+    key: &[u8],
+    f: Facts,
+    nonce: &[u8],
+    value: &[u8],
+    digest: &[u8],
+) -> Outcome
+    ensures answer { λ r. ⌜ outcomeNumber r ≡ answerOf (writeRefusal (now (key .entry)) (now (nonce .entry)) (now (value .entry)) (now (digest .entry)) (now (out .entry))) ⌝ }
+    ensures bytes { λ _. ⌜ now (out .exit) ≡ afterwards (writeRefusal (now (key .entry)) (now (nonce .entry)) (now (value .entry)) (now (digest .entry)) (now (out .entry))) (receiptBytes (now (key .entry)) (attestationOf f (now (nonce .entry)) (now (value .entry)) (now (digest .entry)))) (now (out .entry)) ⌝ }
+{
+    if key.len() != 32 {
+        return Outcome::Refused(Refusal::Length);
+    }
+    if nonce.len() != 32 {
+        return Outcome::Refused(Refusal::Length);
+    }
+    if value.len() != 32 {
+        return Outcome::Refused(Refusal::Length);
+    }
+    if digest.len() != 32 {
+        return Outcome::Refused(Refusal::Length);
+    }
+    if out.len() != 160 {
+        return Outcome::Refused(Refusal::Length);
+    }
+    put_receipt(out, key, f, nonce, value, digest);
+    Outcome::Done
 }

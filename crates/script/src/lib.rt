@@ -1,11 +1,4 @@
 // Scripts (document 01, "The script program"): a line is answered, and what it says is done to a table; a script may come in pieces.
-mod calls;
-mod lines;
-mod pieces;
-mod tables;
-
-pub use lines::answer_line;
-pub use pieces::feed;
 
 // The bytes of the largest table: each script has a buffer of so many, the first of which are its table, at first none.
 pub const LARGEST: usize = 61172;

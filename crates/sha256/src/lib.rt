@@ -1,6 +1,4 @@
-// SHA-256 (FIPS 180-4).
-mod block;
-mod words;
+// Digests by SHA-256 (FIPS 180-4): of a message at once, and of parts fed in turn.
 
 ghost use mathlib.Core.Path.{_≡_};
 ghost use Prim.Native.Nat.{_+_, _^_, _≤_, _<_, _%_};
@@ -13,8 +11,8 @@ ghost use Rattle.sha256.specs.Running.{stateOf, start, after, absorbed, 
 ghost use Rattle.sha256.specs.Hash.{hashRefusal};
 use bigendian::put_u32;
 use bigendian::put_u64;
-use block::compress_blocks;
-use block::constants;
+use crate::block::compress_blocks;
+use crate::block::constants;
 use octets::put;
 use refusal::Outcome;
 use refusal::Refusal;

@@ -1,8 +1,4 @@
-// Whole tables, and format (document 01, "Table bytes").
-mod blank;
-pub mod format;
-mod runs;
-pub mod whole;
+// Whole tables, the free slots, and what format writes (document 01, "Table bytes"). No code.
 
 // What the check finds: a torn table; or a whole one, how many slots are free, and the last of the free chain (0 if none).
 pub enum Check {

@@ -1,4 +1,7 @@
 // Whether a table is whole (document 01, "A table is whole if ..").
+mod blank;
+mod walks;
+
 use crate::Check;
 use crate::Held;
 use crate::Run;
@@ -21,7 +24,7 @@ ghost use Rattle.layout.specs.Fits.{Counted};
 ghost use Rattle.table.specs.Whole.{inRange, constantsFit, headerFits, padsFit, checkOf};
 
 // Whether a table may have so many logs and slots.
-pub(crate) fn in_range(logs: u64, slots: u64) -> bool
+pub fn in_range(logs: u64, slots: u64) -> bool
     ensures { λ r. ⌜ r ≡ inRange logs slots ⌝ }
 {
     if logs < 1 {
