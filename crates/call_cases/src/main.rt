@@ -4,16 +4,16 @@ ghost use mathlib.Core.Path.{_≡_};
 ghost use lib.ListN.{length};
 use a2m::Change;
 use a2m::Finding;
-use a2m::advance::advance;
-use a2m::append::append;
-use a2m::end::end;
-use a2m::lookup::lookup;
-use a2m::truncate::truncate;
+use a2m_put::advance::advance;
+use a2m_put::append::append;
+use a2m_read::end::end;
+use a2m_read::lookup::lookup;
+use a2m_truncate::truncate;
 use bigendian::put_u64;
 use printing::hex;
 use printing::text;
 use refusal::Outcome;
-use table::format::format;
+use table_format::format;
 
 const LAST: u64 = 0xffff_ffff_ffff_ffff;
 
@@ -34,7 +34,7 @@ fn answered(n: u8) {
 // The end of a line.
 fn table_after(table: &[u8]) {
     let mut digest = [0u8; 32];
-    sha256::hash(table, &mut digest);
+    sha256_digest::hash(table, &mut digest);
     text(b" table ");
     hex(&digest);
     text(b"\n");

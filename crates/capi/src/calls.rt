@@ -37,7 +37,7 @@ pub extern "C" fn keeper_append(
     ensures low { λ _. ⌜ now (low .exit) ≡ lowAfter (tableStep (now (table .entry)) (appends log (now (value .entry))) .reply) (now (low .entry)) ⌝ }
     ensures high { λ _. ⌜ now (high .exit) ≡ highAfter (tableStep (now (table .entry)) (appends log (now (value .entry))) .reply) (now (high .entry)) ⌝ }
 {
-    let change = a2m::append::append(table, log, value);
+    let change = a2m_put::append::append(table, log, value);
     changed(change, low, high)
 }
 
@@ -56,7 +56,7 @@ pub extern "C" fn keeper_advance(
     ensures low { λ _. ⌜ now (low .exit) ≡ lowAfter (tableStep (now (table .entry)) (advances log position (now (digest .entry)) (now (value .entry))) .reply) (now (low .entry)) ⌝ }
     ensures high { λ _. ⌜ now (high .exit) ≡ highAfter (tableStep (now (table .entry)) (advances log position (now (digest .entry)) (now (value .entry))) .reply) (now (high .entry)) ⌝ }
 {
-    let change = a2m::advance::advance(table, log, position, digest, value);
+    let change = a2m_put::advance::advance(table, log, position, digest, value);
     changed(change, low, high)
 }
 
@@ -73,7 +73,7 @@ pub extern "C" fn keeper_truncate(
     ensures low { λ _. ⌜ now (low .exit) ≡ lowAfter (tableStep (now (table .entry)) (truncates log position) .reply) (now (low .entry)) ⌝ }
     ensures high { λ _. ⌜ now (high .exit) ≡ highAfter (tableStep (now (table .entry)) (truncates log position) .reply) (now (high .entry)) ⌝ }
 {
-    let change = a2m::truncate::truncate(table, log, position);
+    let change = a2m_truncate::truncate(table, log, position);
     changed(change, low, high)
 }
 
@@ -90,7 +90,7 @@ pub extern "C" fn keeper_lookup(
     ensures bytes { λ _. ⌜ now (receipt .exit) ≡ receiptAfter (tableStep (now (table .entry)) (looks log position (now (nonce .entry)) (length (now (receipt .entry)))) .reply) (now (receipt .entry)) ⌝ }
     ensures examined { λ _. ⌜ now (examined .exit) ≡ examinedAfter (tableStep (now (table .entry)) (looks log position (now (nonce .entry)) (length (now (receipt .entry)))) .reply) (now (examined .entry)) ⌝ }
 {
-    match a2m::lookup::lookup(table, log, position, nonce, receipt) {
+    match a2m_read::lookup::lookup(table, log, position, nonce, receipt) {
         Finding::Found { examined: n } => {
             *examined = n;
             0
@@ -104,6 +104,6 @@ pub extern "C" fn keeper_end(table: &[u8], log: u64, nonce: &[u8], receipt: &mut
     ensures answer { λ r. ⌜ r ≡ replyNumber (tableStep (now (table .entry)) (ends log (now (nonce .entry)) (length (now (receipt .entry)))) .reply) ⌝ }
     ensures bytes { λ _. ⌜ now (receipt .exit) ≡ receiptAfter (tableStep (now (table .entry)) (ends log (now (nonce .entry)) (length (now (receipt .entry)))) .reply) (now (receipt .entry)) ⌝ }
 {
-    let outcome = a2m::end::end(table, log, nonce, receipt);
+    let outcome = a2m_read::end::end(table, log, nonce, receipt);
     outcome.number()
 }

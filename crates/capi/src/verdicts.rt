@@ -47,7 +47,7 @@ pub extern "C" fn keeper_verify_lookup(
         log,
         ask: Ask::Lookup(position),
     };
-    let judgement = receipt::verify(key, receipt, nonce, question);
+    let judgement = receipt_verify::verify(key, receipt, nonce, question);
     judged(judgement, verdict)
 }
 
@@ -68,7 +68,7 @@ pub extern "C" fn keeper_verify_end(
         log,
         ask: Ask::End,
     };
-    let judgement = receipt::verify(key, receipt, nonce, question);
+    let judgement = receipt_verify::verify(key, receipt, nonce, question);
     judged(judgement, verdict)
 }
 

@@ -10,8 +10,8 @@ ghost use Rattle.hmac.specs.Hmac.{shortKey, padded, masked, hmac, tagRef
 use octets::put;
 use refusal::Outcome;
 use refusal::Refusal;
-use sha256::digest_after;
-use sha256::digest_of;
+use sha256_digest::digest_after;
+use sha256_digest::digest_of;
 
 // The key as a block: hashed if it is longer than a block, and zero bytes after it.
 fn key_block(key: &[u8]) -> [u8; 64]

@@ -11,7 +11,7 @@ use bigendian::get_u64;
 use receipt::Ask;
 use receipt::Question;
 use receipt::Verdict;
-use receipt::verify;
+use receipt_verify::verify;
 
 // The tally with the receipt r, of place p, in it. The verifier's answer is taken apart: a good receipt's member is noted at
 // its place, and a receipt that does not check leaves the tally as it is.

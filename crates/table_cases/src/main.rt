@@ -10,7 +10,7 @@ const SIZE: usize = 396;
 // A line: the name, and what the check says.
 fn say(name: &[u8], t: &[u8]) {
     text(name);
-    match table::whole::check(t) {
+    match table_check::check(t) {
         Check::Torn => text(b": torn\n"),
         Check::Whole { free, last } => {
             text(b": whole, free ");
@@ -26,7 +26,7 @@ fn say(name: &[u8], t: &[u8]) {
 fn formatted() -> [u8; 396] {
     let key = [9u8; 32];
     let mut t = [0u8; 396];
-    let _done = table::format::format(&mut t, 2, 4, 7, &key);
+    let _done = table_format::format(&mut t, 2, 4, 7, &key);
     t
 }
 
@@ -77,14 +77,14 @@ fn good() {
     spoil(b"held, a lower low position", 59, 1);
     spoil(b"held, the lowest entry at the low position", 59, 3);
     let mut t = [0u8; 61172];
-    let _done = table::format::format(&mut t, 16, 800, 1, &[0u8; 32]);
+    let _done = table_format::format(&mut t, 16, 800, 1, &[0u8; 32]);
     say(b"the largest, formatted", &t);
 }
 
 // A formatted table in the front of a longer buffer.
 fn format_front(t: &mut [u8]) {
     if SIZE <= t.len() {
-        let _done = table::format::format(&mut t[0..396], 2, 4, 7, &[9u8; 32]);
+        let _done = table_format::format(&mut t[0..396], 2, 4, 7, &[9u8; 32]);
     }
 }
 

@@ -9,7 +9,7 @@ use printing::text;
 use quorum::certify;
 use receipt::Facts;
 use receipt::Name;
-use receipt::write;
+use receipt_write::write;
 
 const NONCE: [u8; 32] = [9; 32];
 

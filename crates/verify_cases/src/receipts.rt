@@ -8,8 +8,8 @@ use receipt::Ask;
 use receipt::Facts;
 use receipt::Name;
 use receipt::Question;
-use receipt::verify;
-use receipt::write;
+use receipt_verify::verify;
+use receipt_write::write;
 
 const KEY: [u8; 32] = [7; 32];
 

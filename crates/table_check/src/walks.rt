@@ -1,0 +1,122 @@
+// Chains of slots, each walked once, no further than the table has slots.
+use crate::blank::is_blank;
+use crate::blank::is_fresh;
+use layout::Row;
+use layout_header::free_of;
+use layout_rows::row_at;
+use layout_slots::link_at;
+use table::Held;
+use table::Run;
+ghost use mathlib.Core.Path.{_≡_};
+ghost use Prim.Native.Nat.{suc, _≤_, _<_};
+ghost use Rattle.layout.specs.Image.{rowAt};
+ghost use Rattle.layout.specs.Layout.{readTable};
+ghost use Rattle.layout.specs.Fits.{Counted};
+ghost use Rattle.table.specs.Chains.{chain};
+ghost use Rattle.table.specs.Free.{freeChain};
+ghost use Rattle.table.specs.Runs.{runOf, heldOf, rowRun, startedRun};
+ghost use Rattle.table.specs.WholeImage.{freeOk, rowOk, rowsOk, heldBy};
+
+// The free chain.
+pub fn free_run(table: &[u8], logs: usize, slots: usize) -> Run
+    requires { ⌜ Counted (now table) logs slots ⌝ }
+    ensures { λ r. ⌜ r ≡ runOf (freeOk (readTable (now (table .entry)))) (freeChain (readTable (now (table .entry)))) ⌝ }
+{
+    let mut s = free_of(table);
+    let mut n = 0;
+    let mut last = 0;
+    while s != 0 {
+        if n == slots {
+            return Run::Broken;
+        }
+        if slots < s {
+            return Run::Broken;
+        }
+        let l = link_at(table, logs, slots, s);
+        if l.owner != 0 {
+            return Run::Broken;
+        }
+        if !is_blank(table, logs, slots, s) {
+            return Run::Broken;
+        }
+        last = s;
+        s = l.next;
+        n += 1;
+    }
+    Run::Met { count: n, last }
+}
+
+// The chain of log g, whose row has 1 ≤ L ≤ H.
+pub fn log_run(table: &[u8], logs: usize, slots: usize, g: usize, row: Row) -> Run
+    requires { ⌜ Counted (now table) logs slots ⌝ }
+    requires { ⌜ g < 16 ⌝ }
+    requires { ⌜ (1 ≤ row .low) × (row .low ≤ row .high) ⌝ }
+    ensures { λ r. ⌜ r ≡ startedRun (readTable (now (table .entry)) .slots) g row ⌝ }
+{
+    let mut s = row.first;
+    let mut n = 0;
+    let mut floor = row.low - 1;
+    let mut last = 0;
+    while s != 0 {
+        if n == slots {
+            return Run::Broken;
+        }
+        if slots < s {
+            return Run::Broken;
+        }
+        let l = link_at(table, logs, slots, s);
+        if l.owner != g + 1 {
+            return Run::Broken;
+        }
+        if l.position <= floor {
+            return Run::Broken;
+        }
+        floor = l.position;
+        last = s;
+        s = l.next;
+        n += 1;
+    }
+    if floor != row.high {
+        return Run::Broken;
+    }
+    if last != row.last {
+        return Run::Broken;
+    }
+    Run::Met { count: n, last }
+}
+
+// The chain of log g.
+pub fn row_run(table: &[u8], logs: usize, slots: usize, g: usize) -> Run
+    requires { ⌜ Counted (now table) logs slots ⌝ }
+    requires { ⌜ g < logs ⌝ }
+    ensures { λ r. ⌜ r ≡ rowRun (readTable (now (table .entry)) .slots) g (rowAt (readTable (now (table .entry)) .rows) g) ⌝ }
+{
+    let row = row_at(table, logs, slots, g);
+    if is_fresh(row) {
+        return Run::Met { count: 0, last: 0 };
+    }
+    if row.low == 0 {
+        return Run::Broken;
+    }
+    if row.high < row.low {
+        return Run::Broken;
+    }
+    log_run(table, logs, slots, g, row)
+}
+
+// The chains of all logs.
+pub fn held_run(table: &[u8], logs: usize, slots: usize) -> Held
+    requires { ⌜ Counted (now table) logs slots ⌝ }
+    ensures { λ r. ⌜ r ≡ heldOf (rowsOk (readTable (now (table .entry)) .slots) 0 (readTable (now (table .entry)) .rows)) (heldBy (readTable (now (table .entry)) .slots) 0 (readTable (now (table .entry)) .rows)) ⌝ }
+{
+    let mut total = 0;
+    let mut g = 0;
+    while g < logs {
+        let Run::Met { count, last: _ } = row_run(table, logs, slots, g) else {
+            return Held::Broken;
+        };
+        total += count;
+        g += 1;
+    }
+    Held::Slots(total)
+}
