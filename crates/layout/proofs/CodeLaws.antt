@@ -15,7 +15,8 @@ use Rattle.layout.specs.Image.{Slot, Image, slotAt, rowAt}
 use Rattle.layout.specs.Changes.{slotOf}
 use Rattle.layout.specs.Layout.{mark, headerSize, rowSize, slotSize, rowOffset, slotOffset, logsOf, slotsOf, readRow, rowBytes, readSlot, slotBytes, readTable, countBytes, headerBytes, putRow, putSlot, putNext}
 use Rattle.layout.specs.Fits.{SlotFits, Counted}
-use Rattle.layout.proofs.FieldLaws.{length-zeros, length-rowBytes, length-slotBytes}
+use Rattle.layout.proofs.FieldLaws.{length-rowBytes, length-slotBytes}
+use Rattle.octets.proofs.Zeros.{length-zeros}
 use Rattle.layout.proofs.TableLaws.{row-read, slot-read}
 
 -- reading

@@ -15,7 +15,8 @@ use Rattle.layout.specs.Lists.{tabulate, flat}
 use Rattle.layout.specs.Layout.{mark, headerSize, rowSize, slotSize, freeOffset, zeroOffset, zerosOffset, rowOffset, cellOffset, slotOffset, padOffset, tableSize, logsOf, slotsOf, keeperOf, freeOf, keyOf, readRow, rowBytes, readSlot, slotBytes, rowsOf, cellsOf, readTable, headerBytes, writeTable}
 use Rattle.layout.specs.Fits.{RowFits, SlotFits, Fits, Formed}
 use Rattle.layout.proofs.ListLaws.{length-tabulate, getD-tabulate, tabulate-ext, tabulate-getD, every-tabulate, length-flat, part-flat, flat-tabulate}
-use Rattle.layout.proofs.FieldLaws.{length-zeros, length-rowBytes, length-slotBytes, length-headerBytes, skip, read-row, write-row, read-slot, write-slot, pad-written, mark-header, logs-header, zero-header, slots-header, keeper-header, free-header, zeros-header, key-header, write-header}
+use Rattle.layout.proofs.FieldLaws.{length-rowBytes, length-slotBytes, length-headerBytes, skip, read-row, write-row, read-slot, write-slot, pad-written, mark-header, logs-header, zero-header, slots-header, keeper-header, free-header, zeros-header, key-header, write-header}
+use Rattle.octets.proofs.Zeros.{length-zeros}
 
 -- one row or slot of the image of bytes
 

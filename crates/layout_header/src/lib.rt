@@ -1,15 +1,19 @@
-// The header's fields, read and written.
+// The header's fields, read and written, and the tests of its constants and counts.
+use bigendian::get_u32;
 use bigendian::get_u64;
 use bigendian::put_u32;
 use bigendian::put_u64;
+use layout::places::HEADER;
 use layout::places::byte_at;
 use layout::places::pair_at;
 use layout::places::put_byte;
 use layout::places::put_pair;
+use layout::places::table_size;
 ghost use mathlib.Core.Path.{_≡_};
 ghost use Prim.Native.Nat.{_≤_, _<_};
 ghost use lib.ListN.{length};
 ghost use Rattle.layout.specs.Layout.{headerSize, logsOf, slotsOf, keeperOf, freeOf, keyOf, countBytes, headerBytes, putFree};
+ghost use Rattle.layout.specs.Tests.{inRange, constantsFit, headerFits};
 ghost use Rattle.octets.specs.Octets.{splice};
 
 // The number of logs.
@@ -91,4 +95,52 @@ pub fn write_header(
     put_pair(part, 16, free);
     put_pair(part, 18, 0);
     octets::put(part, 20, key);
+}
+
+// Whether a table may have so many logs and slots.
+pub fn in_range(logs: u64, slots: u64) -> bool
+    ensures { λ r. ⌜ r ≡ inRange logs slots ⌝ }
+{
+    if logs < 1 {
+        return false;
+    }
+    if 16 < logs {
+        return false;
+    }
+    if slots < 1 {
+        return false;
+    }
+    slots <= 800
+}
+
+// Whether the header has its constants.
+fn constants_fit(table: &[u8]) -> bool
+    requires { ⌜ headerSize ≤ length (now table) ⌝ }
+    ensures { λ r. ⌜ r ≡ constantsFit (now (table .entry)) ⌝ }
+{
+    if get_u32(table, 0) != 0x41324D54 {
+        return false;
+    }
+    if byte_at(table, 5) != 0 {
+        return false;
+    }
+    pair_at(table, 18) == 0
+}
+
+// Whether the header has its constants and counts in range, and the table the length that they give.
+pub fn header_fits(table: &[u8]) -> bool
+    ensures { λ r. ⌜ r ≡ headerFits (now (table .entry)) ⌝ }
+{
+    if table.len() < HEADER {
+        return false;
+    }
+    if !constants_fit(table) {
+        return false;
+    }
+    let logs = logs_of(table);
+    let slots = slots_of(table);
+    if !in_range(logs as u64, slots as u64) {
+        return false;
+    }
+    table.len() == table_size(logs, slots)
 }

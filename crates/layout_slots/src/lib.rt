@@ -1,4 +1,4 @@
-// A slot, read and written.
+// A slot, read and written, and the tests of its zero bytes.
 use bigendian::get_u64;
 use bigendian::put_u64;
 use layout::Link;
@@ -7,7 +7,9 @@ use layout::places::byte_at;
 use layout::places::pair_at;
 use layout::places::put_byte;
 use layout::places::put_pair;
+use layout::places::row_offset;
 use layout::places::slot_offset;
+use octets::is_zero;
 ghost use mathlib.Core.Path.{_≡_};
 ghost use Prim.Native.Nat.{_≤_, _<_};
 ghost use lib.ListN.{length};
@@ -15,6 +17,7 @@ ghost use Rattle.layout.specs.Image.{slotAt};
 ghost use Rattle.layout.specs.Changes.{linkOf, slotOf};
 ghost use Rattle.layout.specs.Layout.{slotSize, readSlot, slotBytes, readTable, putSlot, putNext};
 ghost use Rattle.layout.specs.Fits.{SlotFits, Counted};
+ghost use Rattle.layout.specs.Tests.{blank, padsFit};
 
 // The owner, next slot and position in a slot's part of a table.
 fn read_link(part: &[u8]) -> Link
@@ -119,4 +122,30 @@ pub fn put_next(table: &mut [u8], logs: usize, slots: usize, s: usize, next: usi
 {
     let at = slot_offset(logs, s) + 2;
     put_pair(table, at, next);
+}
+
+// Whether the position, value and digest of slot s are zero.
+pub fn is_blank(table: &[u8], logs: usize, slots: usize, s: usize) -> bool
+    requires { ⌜ Counted (now table) logs slots ⌝ }
+    requires { ⌜ (1 ≤ s) × (s ≤ slots) ⌝ }
+    ensures { λ r. ⌜ r ≡ blank (slotAt (readTable (now (table .entry)) .slots) s) ⌝ }
+{
+    let at = slot_offset(logs, s) + 4;
+    is_zero(&table[at..at + 72])
+}
+
+// Whether byte 1 of every slot is zero.
+pub fn pads_fit(table: &[u8], logs: usize, slots: usize) -> bool
+    requires { ⌜ Counted (now table) logs slots ⌝ }
+    ensures { λ r. ⌜ r ≡ padsFit (now (table .entry)) logs slots ⌝ }
+{
+    let start = row_offset(logs);
+    let mut i = slots;
+    while 0 < i {
+        i -= 1;
+        if byte_at(table, start + SLOT * i + 1) != 0 {
+            return false;
+        }
+    }
+    true
 }

@@ -13,7 +13,8 @@ use Rattle.layout.specs.Lists.{tabulate}
 use Rattle.table.specs.Chains.{walk, reaches, chain, lastOf}
 use Rattle.table.specs.Free.{queue, queuedNext}
 use Rattle.table.specs.Format.{formatted}
-use Rattle.table.specs.WholeImage.{all, blank, freeOk, fresh, risingFrom, started, rowOk, rowsOk, heldBy, meets, wholeImage}
+use Rattle.table.specs.WholeImage.{all, freeOk, fresh, risingFrom, started, rowOk, rowsOk, heldBy, meets, wholeImage}
+use Rattle.layout.specs.Tests.{blank}
 use Rattle.a2m.specs.Call.{Call, replies, after}
 use Rattle.entry.specs.Digest.{entryDigest}
 use Rattle.a2m.specs.Search.{search, lookedUp}

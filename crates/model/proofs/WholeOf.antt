@@ -16,7 +16,8 @@ use Rattle.octets.proofs.Same.{same-eq, same-refl}
 use Rattle.layout.specs.declared.Row.{Row}
 use Rattle.layout.specs.Image.{Entry, Slot, Image, entryOf, blankEntry, slotAt, rowAt}
 use Rattle.table.specs.Chains.{chain, lastOf, entriesOf}
-use Rattle.table.specs.WholeImage.{all, blank, freeOk, fresh, started, rowOk, rowsOk, heldBy, meets, wholeImage}
+use Rattle.table.specs.WholeImage.{all, freeOk, fresh, started, rowOk, rowsOk, heldBy, meets, wholeImage}
+use Rattle.layout.specs.Tests.{blank}
 use Rattle.a2m.proofs.Lists.{lastOf-nil}
 use Rattle.table.specs.Conditions.{Links}
 use Rattle.a2m.proofs.Links.{chain-links, reaches-links}

@@ -21,8 +21,9 @@ use Rattle.table.specs.Chains.{lastOf}
 use Rattle.table.specs.Free.{freeChain}
 use Rattle.table.specs.Runs.{runOf, heldOf}
 use Rattle.table.specs.WholeImage.{freeOk, rowsOk, heldBy, meets, wholeImage}
-use Rattle.table.specs.Whole.{headerFits, padsFit, whole, checked, checkOf}
-use Rattle.table.proofs.TestLaws.{and-yes, and-no, and-not}
+use Rattle.table.specs.Whole.{whole, checked, checkOf}
+use Rattle.layout.specs.Tests.{headerFits, padsFit}
+use Rattle.layout.proofs.TestLaws.{and-yes, and-no, and-not}
 use Rattle.table.proofs.WalkLaws.{len}
 use Rattle.table.proofs.HeldLaws.{run-broken, run-met, held-broken, held-slots}
 

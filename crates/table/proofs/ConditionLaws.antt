@@ -16,12 +16,15 @@ use Rattle.layout.specs.Layout.{mark, zeroOffset, zerosOffset, padOffset, logsO
 use Rattle.layout.proofs.TableLaws.{length-slots}
 use Rattle.table.specs.Chains.{reaches, chain, lastOf, positionsOf}
 use Rattle.table.specs.Free.{freeChain}
-use Rattle.table.specs.WholeImage.{all, blank, freeOk, fresh, risingFrom, started, rowOk, rowsOk, heldBy, meets, wholeImage}
-use Rattle.table.specs.Whole.{inRange, constantsFit, headerFits, allBelow, padsFit, whole}
-use Rattle.table.specs.Conditions.{Range, Links, Blank, Each, Rising, Fresh, Started, Rows, totalOf, Whole}
-use Rattle.table.proofs.TestLaws.{and-yes, and-split}
+use Rattle.table.specs.WholeImage.{all, freeOk, fresh, risingFrom, started, rowOk, rowsOk, heldBy, meets, wholeImage}
+use Rattle.layout.specs.Tests.{blank}
+use Rattle.table.specs.Whole.{whole}
+use Rattle.layout.specs.Tests.{inRange, constantsFit, headerFits, allBelow, padsFit}
+use Rattle.table.specs.Conditions.{Links, Blank, Each, Rising, Fresh, Started, Rows, totalOf, Whole}
+use Rattle.layout.specs.Fits.{Range}
+use Rattle.layout.proofs.TestLaws.{and-yes, and-split}
 use Rattle.table.proofs.WalkLaws.{chain-none}
-use Rattle.table.proofs.HeaderLaws.{in-range, range-in, header-parts}
+use Rattle.layout.proofs.HeaderLaws.{in-range, range-in, header-parts}
 use Rattle.table.proofs.CheckLaws.{length-meets}
 use Rattle.table.proofs.LinkLaws.{links-reach, reach-links}
 

@@ -19,7 +19,8 @@ use Rattle.layout.specs.Lists.{tabulate, flat}
 use Rattle.layout.specs.Image.{Slot, freshRow, freeSlot}
 use Rattle.layout.specs.Layout.{headerSize, rowSize, slotSize, rowOffset, tableSize, rowBytes, slotBytes, headerBytes, writeTable}
 use Rattle.layout.proofs.ListLaws.{length-flat, length-tabulate, getD-tabulate, every-tabulate}
-use Rattle.layout.proofs.FieldLaws.{length-zeros, length-rowBytes, length-headerBytes}
+use Rattle.layout.proofs.FieldLaws.{length-rowBytes, length-headerBytes}
+use Rattle.octets.proofs.Zeros.{length-zeros}
 use Rattle.table.specs.Free.{queuedNext, queue}
 use Rattle.table.specs.Format.{formatted}
 

@@ -22,10 +22,11 @@ use Rattle.layout.proofs.TableLaws.{read-write, fresh-fits, free-fits}
 use Rattle.table.specs.Chains.{walk, reaches, chain}
 use Rattle.table.specs.Free.{freeChain, countUp, queuedNext, queue}
 use Rattle.table.specs.Format.{formatted, formatRefusal, formatBytes}
-use Rattle.table.specs.WholeImage.{all, blank, freeOk, fresh, rowOk, rowsOk, heldBy, meets, wholeImage}
+use Rattle.table.specs.WholeImage.{all, freeOk, fresh, rowOk, rowsOk, heldBy, meets, wholeImage}
+use Rattle.layout.specs.Tests.{blank}
 use Rattle.table.specs.Whole.{whole}
-use Rattle.table.specs.Conditions.{Range}
-use Rattle.table.proofs.TestLaws.{and-yes}
+use Rattle.layout.specs.Fits.{Range}
+use Rattle.layout.proofs.TestLaws.{and-yes}
 use Rattle.table.proofs.WalkLaws.{reached, slotsMet, walk-end, go-on, chain-none}
 use Rattle.table.proofs.CheckLaws.{length-meets}
 use Rattle.table.proofs.FillLaws.{length-queue, getD-queue, next-queued, none-queued}

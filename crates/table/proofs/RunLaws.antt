@@ -16,9 +16,10 @@ use Rattle.table.specs.declared.Run.the-variants.{Met, Broken}
 use Rattle.table.specs.Chains.{walk, reaches, chain, lastOf, positionsOf}
 use Rattle.table.specs.Free.{freeChain}
 use Rattle.table.specs.Runs.{runOf, rowRun, startedRun}
-use Rattle.table.specs.WholeImage.{all, blank, freeOk, fresh, risingFrom, started, rowOk}
-use Rattle.table.proofs.TestLaws.{and-yes, and-no, and-not}
-use Rattle.table.proofs.BlankLaws.{fresh-empty}
+use Rattle.table.specs.WholeImage.{all, freeOk, fresh, risingFrom, started, rowOk}
+use Rattle.layout.specs.Tests.{blank}
+use Rattle.layout.proofs.TestLaws.{and-yes, and-no, and-not}
+use Rattle.table.proofs.FreshLaws.{fresh-empty}
 use Rattle.table.proofs.WalkLaws.{reached, slotsMet, walk-end, chain-none}
 
 -- the last of a list that follows d

@@ -17,8 +17,8 @@ use Rattle.layout.specs.Changes.{linkOf}
 use Rattle.table.specs.declared.Run.{Run}
 use Rattle.table.specs.declared.Run.the-variants.{Met, Broken}
 use Rattle.table.specs.Chains.{walk}
-use Rattle.table.specs.WholeImage.{blank}
-use Rattle.table.proofs.TestLaws.{and-yes, and-no}
+use Rattle.layout.specs.Tests.{blank}
+use Rattle.layout.proofs.TestLaws.{and-yes, and-no}
 use Rattle.table.proofs.WalkLaws.{stop-long, stop-out, stop-owner, go-on}
 use Rattle.table.proofs.RunLaws.{onlyIf, freeRest, free-last, free-blank, free-filled, logRest, log-higher, log-lower, log-last}
 

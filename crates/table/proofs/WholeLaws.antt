@@ -16,9 +16,11 @@ use Rattle.table.specs.declared.Check.the-variants as check
 use Rattle.table.specs.Chains.{lastOf}
 use Rattle.table.specs.Free.{freeChain}
 use Rattle.table.specs.WholeImage.{wholeImage}
-use Rattle.table.specs.Whole.{headerFits, padsFit, whole, checked, checkOf}
-use Rattle.table.specs.Conditions.{Range, Whole}
-use Rattle.table.proofs.TestLaws.{and-yes, and-split}
+use Rattle.table.specs.Whole.{whole, checked, checkOf}
+use Rattle.layout.specs.Tests.{headerFits, padsFit}
+use Rattle.table.specs.Conditions.{Whole}
+use Rattle.layout.specs.Fits.{Range}
+use Rattle.layout.proofs.TestLaws.{and-yes, and-split}
 use Rattle.table.proofs.ConditionLaws.{constants-test, header-test, pads-test, whole-conditions}
 
 pub whole-formed : (b : List ℕ) → whole b ≡ true → Formed b

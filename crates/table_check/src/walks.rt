@@ -1,9 +1,8 @@
 // Chains of slots, each walked once, no further than the table has slots.
-use crate::blank::is_blank;
-use crate::blank::is_fresh;
 use layout::Row;
 use layout_header::free_of;
 use layout_rows::row_at;
+use layout_slots::is_blank;
 use layout_slots::link_at;
 use table::Held;
 use table::Run;
@@ -15,7 +14,23 @@ ghost use Rattle.layout.specs.Fits.{Counted};
 ghost use Rattle.table.specs.Chains.{chain};
 ghost use Rattle.table.specs.Free.{freeChain};
 ghost use Rattle.table.specs.Runs.{runOf, heldOf, rowRun, startedRun};
-ghost use Rattle.table.specs.WholeImage.{freeOk, rowOk, rowsOk, heldBy};
+ghost use Rattle.table.specs.WholeImage.{fresh, freeOk, rowOk, rowsOk, heldBy};
+
+// Whether a row is a fresh log's.
+fn is_fresh(row: Row) -> bool
+    ensures { λ r. ⌜ r ≡ fresh row ⌝ }
+{
+    if row.low != 1 {
+        return false;
+    }
+    if row.high != 0 {
+        return false;
+    }
+    if row.first != 0 {
+        return false;
+    }
+    row.last == 0
+}
 
 // The free chain.
 pub fn free_run(table: &[u8], logs: usize, slots: usize) -> Run

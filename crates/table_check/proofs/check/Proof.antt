@@ -1,7 +1,7 @@
 -- `table_check::check` meets its contract.
 use borrow.Author.Tests.{not-false}
 use mathlib.Core.Path.{sym, _∙_}
-use Rattle.table.proofs.HeaderLaws.{header-long, counted}
+use Rattle.layout.proofs.HeaderLaws.{header-long, counted}
 use Rattle.table.proofs.CheckLaws.{torn-header, torn-pads, torn-free, torn-held, torn-over, torn-total, is-whole}
 use borrow.Author.Needs.{needs}
 use Rattle.table_check.proofs.check.Statement.{statement}

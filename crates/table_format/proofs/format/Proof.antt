@@ -1,7 +1,7 @@
 -- `table_format::format` meets its contract.
 use borrow.Author.Tests.{not-true, not-false}
 use mathlib.Core.Path.{sym, _∙_}
-use Rattle.table.proofs.HeaderLaws.{in-range}
+use Rattle.layout.proofs.HeaderLaws.{in-range}
 use Rattle.table.proofs.FormatLaws.{refused-counts, refused-key, refused-buffer, accepted}
 use borrow.Author.Needs.{needs}
 use Rattle.table_format.proofs.format.Statement.{statement}

@@ -11,12 +11,12 @@ use lib.ListN.{length}
 use Rattle.octets.specs.Octets.{Bytes, part, same, zeros}
 use Rattle.octets.proofs.Same.{same-eq, eq-same}
 use Rattle.bigendian.specs.BigEndian.{be, unbe}
 use Rattle.layout.specs.Layout.{mark, headerSize, slotSize, zeroOffset, zerosOffset, rowOffset, padOffset, tableSize, logsOf, slotsOf}
 use Rattle.layout.specs.Fits.{Counted, Formed}
 use Rattle.layout.proofs.CodeLaws.{zero-one, zero-two, mark-four}
-use Rattle.table.specs.Conditions.{Range}
-use Rattle.table.specs.Whole.{inRange, constantsFit, headerFits, allBelow, padsFit}
-use Rattle.table.proofs.TestLaws.{and-yes, and-no, and-not, and-split, field-same}
+use Rattle.layout.specs.Fits.{Range}
+use Rattle.layout.specs.Tests.{inRange, constantsFit, headerFits, allBelow, padsFit}
+use Rattle.layout.proofs.TestLaws.{and-yes, and-no, and-not, and-split, field-same}
 
 -- counts in range
 

@@ -1,9 +1,9 @@
--- `table_check::constants_fit` meets its contract.
+-- `layout_header::constants_fit` meets its contract.
 use native.Mathlib.Omega.{arith}
-use Rattle.table.proofs.HeaderLaws.{no-mark, no-zero, by-zeros}
+use Rattle.layout.proofs.HeaderLaws.{no-mark, no-zero, by-zeros}
 use borrow.Author.Needs.{needs}
-use Rattle.table_check.proofs.constants_fit.Statement.{statement}
-use Rattle.table_check.proofs.constants_fit.Tie as tie
+use Rattle.layout_header.proofs.constants_fit.Statement.{statement}
+use Rattle.layout_header.proofs.constants_fit.Tie as tie
 
 get-u32-requires : tie.Need-get-u32-requires
 get-u32-requires c κs = search needs

@@ -1,10 +1,10 @@
--- `table_check::header_fits` meets its contract.
+-- `layout_header::header_fits` meets its contract.
 use mathlib.Core.Path.{sym, _∙_}
 use borrow.Author.Tests.{not-false}
-use Rattle.table.proofs.HeaderLaws.{too-short, other-constants, other-counts, by-length, in-range}
+use Rattle.layout.proofs.HeaderLaws.{too-short, other-constants, other-counts, by-length, in-range}
 use borrow.Author.Needs.{needs}
-use Rattle.table_check.proofs.header_fits.Statement.{statement}
-use Rattle.table_check.proofs.header_fits.Tie as tie
+use Rattle.layout_header.proofs.header_fits.Statement.{statement}
+use Rattle.layout_header.proofs.header_fits.Tie as tie
 
 returns : tie.Need-returns
 returns c = too-short (c .before .before .args .table .now) (c .if1 .taken)

@@ -1,15 +1,15 @@
--- `table_check::blank::is_zero` meets its contract.
+-- `octets::is_zero` meets its contract.
 use Rattle.octets.proofs.Same.{same-none}
 use Rattle.octets.specs.Octets.{same, zeros}
 use lib.ListN.{length, take}
 use lib.Dec.{eqb}
 use native.Mathlib.Omega.{arith}
 use Prim.Native.Nat.{_≤_, _-_}
 use mathlib.Core.Path.{_≡_, _∙_}
-use Rattle.table.proofs.BlankLaws.{zero-more, zero-all}
+use Rattle.octets.proofs.Zeros.{zero-more, zero-all}
 use borrow.Author.Needs.{needs}
-use Rattle.table_check.proofs.blank.is_zero.Statement.{statement}
-use Rattle.table_check.proofs.blank.is_zero.Tie as tie
+use Rattle.octets.proofs.is_zero.Statement.{statement}
+use Rattle.octets.proofs.is_zero.Tie as tie
 
 abbrev Inv-loop : tie.InvT-loop
 Inv-loop s any₀ i₀ any i = (i ≤ length s) × (eqb any 0 ≡ same (take i s) (take i (zeros (length s))))

@@ -1,9 +1,9 @@
--- `table_check::blank::is_blank` meets its contract.
+-- `layout_slots::is_blank` meets its contract.
 use mathlib.Core.Path.{_∙_}
-use Rattle.table.proofs.BlankLaws.{blank-there}
+use Rattle.layout.proofs.BlankLaws.{blank-there}
 use borrow.Author.Needs.{needs}
-use Rattle.table_check.proofs.blank.is_blank.Statement.{statement}
-use Rattle.table_check.proofs.blank.is_blank.Tie as tie
+use Rattle.layout_slots.proofs.is_blank.Statement.{statement}
+use Rattle.layout_slots.proofs.is_blank.Tie as tie
 
 slot-offset-requires : tie.Need-slot-offset-requires
 slot-offset-requires c κs = search needs

@@ -1,7 +1,7 @@
--- `table_check::in_range` meets its contract.
-use Rattle.table.proofs.HeaderLaws.{no-logs, many-logs, no-slots, by-slots}
-use Rattle.table_check.proofs.in_range.Statement.{statement}
-use Rattle.table_check.proofs.in_range.Tie as tie
+-- `layout_header::in_range` meets its contract.
+use Rattle.layout.proofs.HeaderLaws.{no-logs, many-logs, no-slots, by-slots}
+use Rattle.layout_header.proofs.in_range.Statement.{statement}
+use Rattle.layout_header.proofs.in_range.Tie as tie
 
 returns : tie.Need-returns
 returns c = no-logs (c .before .args .logs) (c .before .args .slots) (c .if1 .taken)

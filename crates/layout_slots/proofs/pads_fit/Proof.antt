@@ -1,12 +1,12 @@
--- `table_check::pads_fit` meets its contract.
-use Rattle.table.specs.Whole.{padsFit}
+-- `layout_slots::pads_fit` meets its contract.
+use Rattle.layout.specs.Tests.{padsFit}
 use native.Mathlib.Omega.{arith}
 use Prim.Native.Nat.{_≤_}
 use mathlib.Core.Path.{_≡_, refl, sym, _∙_}
-use Rattle.table.proofs.HeaderLaws.{pad-zero, pad-set, pads-done}
+use Rattle.layout.proofs.HeaderLaws.{pad-zero, pad-set, pads-done}
 use borrow.Author.Needs.{needs}
-use Rattle.table_check.proofs.pads_fit.Statement.{statement}
-use Rattle.table_check.proofs.pads_fit.Tie as tie
+use Rattle.layout_slots.proofs.pads_fit.Statement.{statement}
+use Rattle.layout_slots.proofs.pads_fit.Tie as tie
 
 abbrev Inv-loop : tie.InvT-loop
 Inv-loop table logs slots start i₀ i = (i ≤ slots) × (padsFit table logs slots ≡ padsFit table logs i)
