@@ -1,28 +1,12 @@
 // The five calls on a table.
-use a2m::Change;
 use a2m::Finding;
+use capi_results::changed;
 ghost use mathlib.Core.Path.{_≡_};
 ghost use lib.ListN.{length};
 ghost use Rattle.a2m.specs.Call.{append as appends, advance as advances, truncate as truncates, lookup as looks, end as ends};
 ghost use Rattle.a2m.specs.TableCalls.{tableStep};
-ghost use Rattle.a2m.specs.Opened.{changeReply, receiptAfter};
-ghost use Rattle.capi.specs.Results.{replyNumber, lowAfter, highAfter, examinedAfter};
-
-// The number of a change, and the results of one that was accepted.
-fn changed(change: Change, low: &mut u64, high: &mut u64) -> u8
-    ensures answer { λ r. ⌜ r ≡ replyNumber (changeReply change) ⌝ }
-    ensures low { λ _. ⌜ now (low .exit) ≡ lowAfter (changeReply change) (now (low .entry)) ⌝ }
-    ensures high { λ _. ⌜ now (high .exit) ≡ highAfter (changeReply change) (now (high .entry)) ⌝ }
-{
-    match change {
-        Change::Done { low: l, high: h } => {
-            *low = l;
-            *high = h;
-            0
-        }
-        Change::Refused(why) => why.number(),
-    }
-}
+ghost use Rattle.a2m.specs.Opened.{receiptAfter};
+ghost use Rattle.capi_results.specs.Results.{replyNumber, lowAfter, highAfter, examinedAfter};
 
 #[no_mangle]
 pub extern "C" fn keeper_append(

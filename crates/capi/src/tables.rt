@@ -4,7 +4,7 @@ ghost use mathlib.Core.Path.{_≡_};
 ghost use lib.ListN.{length};
 ghost use Rattle.refusal.specs.Order.{answerOf};
 ghost use Rattle.table.specs.Format.{formatRefusal, formatBytes};
-ghost use Rattle.capi.specs.Results.{checkRefusal};
+ghost use Rattle.capi_results.specs.Results.{checkRefusal};
 
 #[no_mangle]
 pub extern "C" fn keeper_format(

@@ -20,7 +20,7 @@ fn flushed(out: &[u8], p: Progress) -> Progress
     ensures { λ r. ⌜ Flushed (length (now (out .entry))) p r ⌝ }
 {
     let to = p.to;
-    if out.len() - to < script::ROOM {
+    if out.len() - to < script_lines::ROOM {
         io::write_all(STDOUT_FILENO, &out[..to]);
         return Progress {
             at: p.at,

@@ -3,10 +3,10 @@ ghost use mathlib.Core.Path.{_≡_};
 ghost use Prim.Native.Nat.{_+_, _≤_, _<_, _^_, min};
 ghost use lib.ListN.{length};
 ghost use Rattle.script.specs.Stream.{Keeps, Feeds};
+use crate::KEPT;
+use crate::ROOM;
 use crate::lines::answer_line;
-use script::KEPT;
 use script::Progress;
-use script::ROOM;
 
 fn least(a: usize, b: usize) -> usize
     ensures { λ r. ⌜ r ≡ min a b ⌝ }

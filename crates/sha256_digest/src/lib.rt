@@ -141,7 +141,7 @@ pub fn digest_of(message: &[u8]) -> [u8; 32]
 }
 
 // The digest of a block and a text after it, of which nothing is copied but the last bytes.
-pub fn digest_after(block: &[u8], text: &[u8]) -> [u8; 32]
+pub fn prefixed_digest(block: &[u8], text: &[u8]) -> [u8; 32]
     requires { ⌜ (length (now block) ≡ 64) × (64 + length (now text) < 2 ^ 61) ⌝ }
     ensures { λ r. ⌜ r ≡ sha256 (now (block .entry) ++ now (text .entry)) ⌝ }
 {
