@@ -1,6 +1,6 @@
 pub mod FreshLaws
 pub mod WalkLaws
-pub mod RunLaws
+pub mod WalkedLaws
 pub mod TurnLaws
 pub mod HeldLaws
 pub mod CheckLaws

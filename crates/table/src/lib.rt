@@ -7,7 +7,7 @@ pub enum Check {
 }
 
 // What a walk along a chain finds: that it is broken; or how many slots it met, and the last.
-pub enum Run {
+pub enum Walk {
     Broken,
     Met { count: usize, last: usize },
 }

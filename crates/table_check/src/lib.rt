@@ -1,15 +1,15 @@
 // Whether a table is whole (document 01, "A table is whole if ..").
 mod walks;
 
-use crate::walks::free_run;
-use crate::walks::held_run;
+use crate::walks::free_walk;
+use crate::walks::held_walk;
 use layout_header::header_fits;
 use layout_header::logs_of;
 use layout_header::slots_of;
 use layout_slots::pads_fit;
 use table::Check;
 use table::Held;
-use table::Run;
+use table::Walk;
 ghost use mathlib.Core.Path.{_≡_};
 ghost use Rattle.table.specs.Whole.{checkOf};
 
@@ -25,10 +25,10 @@ pub fn check(table: &[u8]) -> Check
     if !pads_fit(table, logs, slots) {
         return Check::Torn;
     }
-    let Run::Met { count, last } = free_run(table, logs, slots) else {
+    let Walk::Met { count, last } = free_walk(table, logs, slots) else {
         return Check::Torn;
     };
-    let Held::Slots(held) = held_run(table, logs, slots) else {
+    let Held::Slots(held) = held_walk(table, logs, slots) else {
         return Check::Torn;
     };
     if slots < held {

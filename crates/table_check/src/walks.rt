@@ -5,7 +5,7 @@ use layout_rows::row_at;
 use layout_slots::is_blank;
 use layout_slots::link_at;
 use table::Held;
-use table::Run;
+use table::Walk;
 ghost use mathlib.Core.Path.{_≡_};
 ghost use Prim.Native.Nat.{suc, _≤_, _<_};
 ghost use Rattle.layout.specs.Image.{rowAt};
@@ -13,7 +13,7 @@ ghost use Rattle.layout.specs.Layout.{readTable};
 ghost use Rattle.layout.specs.Fits.{Counted};
 ghost use Rattle.table.specs.Chains.{chain};
 ghost use Rattle.table.specs.Free.{freeChain};
-ghost use Rattle.table.specs.Runs.{runOf, heldOf, rowRun, startedRun};
+ghost use Rattle.table.specs.Walks.{walkOf, heldOf, rowWalk, startedWalk};
 ghost use Rattle.table.specs.WholeImage.{fresh, freeOk, rowOk, rowsOk, heldBy};
 
 // Whether a row is a fresh log's.
@@ -33,40 +33,40 @@ fn is_fresh(row: Row) -> bool
 }
 
 // The free chain.
-pub fn free_run(table: &[u8], logs: usize, slots: usize) -> Run
+pub fn free_walk(table: &[u8], logs: usize, slots: usize) -> Walk
     requires { ⌜ Counted (now table) logs slots ⌝ }
-    ensures { λ r. ⌜ r ≡ runOf (freeOk (readTable (now (table .entry)))) (freeChain (readTable (now (table .entry)))) ⌝ }
+    ensures { λ r. ⌜ r ≡ walkOf (freeOk (readTable (now (table .entry)))) (freeChain (readTable (now (table .entry)))) ⌝ }
 {
     let mut s = free_of(table);
     let mut n = 0;
     let mut last = 0;
     while s != 0 {
         if n == slots {
-            return Run::Broken;
+            return Walk::Broken;
         }
         if slots < s {
-            return Run::Broken;
+            return Walk::Broken;
         }
         let l = link_at(table, logs, slots, s);
         if l.owner != 0 {
-            return Run::Broken;
+            return Walk::Broken;
         }
         if !is_blank(table, logs, slots, s) {
-            return Run::Broken;
+            return Walk::Broken;
         }
         last = s;
         s = l.next;
         n += 1;
     }
-    Run::Met { count: n, last }
+    Walk::Met { count: n, last }
 }
 
 // The chain of log g, whose row has 1 ≤ L ≤ H.
-pub fn log_run(table: &[u8], logs: usize, slots: usize, g: usize, row: Row) -> Run
+pub fn log_walk(table: &[u8], logs: usize, slots: usize, g: usize, row: Row) -> Walk
     requires { ⌜ Counted (now table) logs slots ⌝ }
     requires { ⌜ g < 16 ⌝ }
     requires { ⌜ (1 ≤ row .low) × (row .low ≤ row .high) ⌝ }
-    ensures { λ r. ⌜ r ≡ startedRun (readTable (now (table .entry)) .slots) g row ⌝ }
+    ensures { λ r. ⌜ r ≡ startedWalk (readTable (now (table .entry)) .slots) g row ⌝ }
 {
     let mut s = row.first;
     let mut n = 0;
@@ -74,17 +74,17 @@ pub fn log_run(table: &[u8], logs: usize, slots: usize, g: usize, row: Row) -> R
     let mut last = 0;
     while s != 0 {
         if n == slots {
-            return Run::Broken;
+            return Walk::Broken;
         }
         if slots < s {
-            return Run::Broken;
+            return Walk::Broken;
         }
         let l = link_at(table, logs, slots, s);
         if l.owner != g + 1 {
-            return Run::Broken;
+            return Walk::Broken;
         }
         if l.position <= floor {
-            return Run::Broken;
+            return Walk::Broken;
         }
         floor = l.position;
         last = s;
@@ -92,42 +92,42 @@ pub fn log_run(table: &[u8], logs: usize, slots: usize, g: usize, row: Row) -> R
         n += 1;
     }
     if floor != row.high {
-        return Run::Broken;
+        return Walk::Broken;
     }
     if last != row.last {
-        return Run::Broken;
+        return Walk::Broken;
     }
-    Run::Met { count: n, last }
+    Walk::Met { count: n, last }
 }
 
 // The chain of log g.
-pub fn row_run(table: &[u8], logs: usize, slots: usize, g: usize) -> Run
+pub fn row_walk(table: &[u8], logs: usize, slots: usize, g: usize) -> Walk
     requires { ⌜ Counted (now table) logs slots ⌝ }
     requires { ⌜ g < logs ⌝ }
-    ensures { λ r. ⌜ r ≡ rowRun (readTable (now (table .entry)) .slots) g (rowAt (readTable (now (table .entry)) .rows) g) ⌝ }
+    ensures { λ r. ⌜ r ≡ rowWalk (readTable (now (table .entry)) .slots) g (rowAt (readTable (now (table .entry)) .rows) g) ⌝ }
 {
     let row = row_at(table, logs, slots, g);
     if is_fresh(row) {
-        return Run::Met { count: 0, last: 0 };
+        return Walk::Met { count: 0, last: 0 };
     }
     if row.low == 0 {
-        return Run::Broken;
+        return Walk::Broken;
     }
     if row.high < row.low {
-        return Run::Broken;
+        return Walk::Broken;
     }
-    log_run(table, logs, slots, g, row)
+    log_walk(table, logs, slots, g, row)
 }
 
 // The chains of all logs.
-pub fn held_run(table: &[u8], logs: usize, slots: usize) -> Held
+pub fn held_walk(table: &[u8], logs: usize, slots: usize) -> Held
     requires { ⌜ Counted (now table) logs slots ⌝ }
     ensures { λ r. ⌜ r ≡ heldOf (rowsOk (readTable (now (table .entry)) .slots) 0 (readTable (now (table .entry)) .rows)) (heldBy (readTable (now (table .entry)) .slots) 0 (readTable (now (table .entry)) .rows)) ⌝ }
 {
     let mut total = 0;
     let mut g = 0;
     while g < logs {
-        let Run::Met { count, last: _ } = row_run(table, logs, slots, g) else {
+        let Walk::Met { count, last: _ } = row_walk(table, logs, slots, g) else {
             return Held::Broken;
         };
         total += count;

@@ -1,7 +1,7 @@
--- `table_check::walks::free_run` meets its contract.
+-- `table_check::walks::free_walk` meets its contract.
 use Rattle.table.proofs.WalkLaws.{len, size}
 use Rattle.table.specs.WholeImage.{freeOk}
-use Rattle.table.specs.Runs.{runOf}
+use Rattle.table.specs.Walks.{walkOf}
 use Rattle.table.specs.Free.{freeChain}
 use Rattle.table.specs.Chains.{walk}
 use Rattle.layout.specs.Layout.{readTable}
@@ -10,15 +10,15 @@ use mathlib.Core.List.{List}
 use native.Mathlib.Omega.{arith}
 use Prim.Native.Nat.{ℕ, _≤_, _-_}
 use mathlib.Core.Path.{_≡_, sym, ap₂, _∙_}
-use Rattle.table.proofs.RunLaws.{freeRest, free-first}
+use Rattle.table.proofs.WalkedLaws.{freeRest, free-first}
 use Rattle.table.proofs.TurnLaws.{free-end, free-long, free-out, free-owner, free-dirty, free-on}
 use borrow.Author.Needs.{needs}
-use Rattle.table_check.proofs.walks.free_run.Statement.{statement}
-use Rattle.table_check.proofs.walks.free_run.Tie as tie
+use Rattle.table_check.proofs.walks.free_walk.Statement.{statement}
+use Rattle.table_check.proofs.walks.free_walk.Tie as tie
 
 abbrev Inv-loop : tie.InvT-loop
 Inv-loop table logs slots s₀ n₀ last₀ s n last =
-    (n ≤ slots) × (runOf (freeOk (readTable table)) (freeChain (readTable table)) ≡ freeRest (readTable table .slots) n last (walk (readTable table .slots) 0 (slots - n) s))
+    (n ≤ slots) × (walkOf (freeOk (readTable table)) (freeChain (readTable table)) ≡ freeRest (readTable table .slots) n last (walk (readTable table .slots) 0 (slots - n) s))
 
 abbrev μ-loop : tie.MeasureT-loop
 μ-loop table logs slots s₀ n₀ last₀ s n last = slots - n
@@ -60,8 +60,8 @@ loop-again c = let a = c .before .before .before .before .before .before .before
 returns-5 : tie.Need-returns-5 Inv-loop μ-loop
 returns-5 c = let a = c .before .before .before .before .args in let l = c .before .loop in free-end (readTable (a .table .now) .slots) (a .slots) (len (a .table .now) (a .logs) (a .slots) (c .before .before .before .before .pre)) _ (l .n) (l .last) (l .s) (l .inv .1) (c .loop-test .left)
 
-pub free-run-spec : {M : Type 1} → statement M
-free-run-spec =
+pub free-walk-spec : {M : Type 1} → statement M
+free-walk-spec =
     tie.close
     (tie.spec
     Inv-loop

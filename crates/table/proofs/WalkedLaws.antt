@@ -11,11 +11,11 @@ use lib.ListN.{length}
 use lib.Dec.{eqb, leb}
 use Rattle.layout.specs.declared.Row.{Row}
 use Rattle.layout.specs.Image.{Slot, Image, slotAt}
-use Rattle.table.specs.declared.Run.{Run}
-use Rattle.table.specs.declared.Run.the-variants.{Met, Broken}
+use Rattle.table.specs.declared.Walk.{Walk}
+use Rattle.table.specs.declared.Walk.the-variants.{Met, Broken}
 use Rattle.table.specs.Chains.{walk, reaches, chain, lastOf, positionsOf}
 use Rattle.table.specs.Free.{freeChain}
-use Rattle.table.specs.Runs.{runOf, rowRun, startedRun}
+use Rattle.table.specs.Walks.{walkOf, rowWalk, startedWalk}
 use Rattle.table.specs.WholeImage.{all, freeOk, fresh, risingFrom, started, rowOk}
 use Rattle.layout.specs.Tests.{blank}
 use Rattle.layout.proofs.TestLaws.{and-yes, and-no, and-not}
@@ -32,18 +32,18 @@ unfolding lastOf
 last-or x [] = refl
 last-or x (y ∷ c) = last-or y c
 
--- a run where a test is passed
-abbrev pub onlyIf : Bool → Run → Run
+-- a walk where a test is passed
+abbrev pub onlyIf : Bool → Walk → Walk
 onlyIf true r = r
 onlyIf false r = Broken
 
-only-run : (t : Bool) (c : List ℕ) → runOf t c ≡ onlyIf t (Met (0 + length c) (lastOf c))
-only-run true c = ap (λ (n : ℕ). Met n (lastOf c)) (sym (zero-add (length c)))
-only-run false c = refl
+only-walk : (t : Bool) (c : List ℕ) → walkOf t c ≡ onlyIf t (Met (0 + length c) (lastOf c))
+only-walk true c = ap (λ (n : ℕ). Met n (lastOf c)) (sym (zero-add (length c)))
+only-walk false c = refl
 
 -- the free chain: what is left to compute after n slots, the last of which is `last`, of the walk that is left
 module _ (slots : List Slot) where
-  abbrev pub freeRest : ℕ → ℕ → Option (List ℕ) → Run
+  abbrev pub freeRest : ℕ → ℕ → Option (List ℕ) → Walk
   freeRest n last none = Broken
   freeRest n last (some c) = onlyIf (all (λ (s : ℕ). blank (slotAt slots s)) c) (Met (n + length c) (lastOr last c))
 
@@ -63,15 +63,15 @@ module _ (slots : List Slot) where
   free-filled n last s none h = refl
   free-filled n last s (some c) h = ap (λ (b : Bool). onlyIf b (Met (n + suc (length c)) (lastOr s c))) (and-no (all (λ (s : ℕ). blank (slotAt slots s)) c) h)
 
-pub free-first : (m : Image) → runOf (freeOk m) (freeChain m) ≡ freeRest (m .slots) 0 0 (walk (m .slots) 0 (length (m .slots)) (m .free))
+pub free-first : (m : Image) → walkOf (freeOk m) (freeChain m) ≡ freeRest (m .slots) 0 0 (walk (m .slots) 0 (length (m .slots)) (m .free))
 unfolding freeOk reaches chain lastOf
 free-first m = go (walk (m .slots) 0 (length (m .slots)) (m .free))
   where
-    go : (w : Option (List ℕ)) → runOf (reached w && all (λ (s : ℕ). blank (slotAt (m .slots) s)) (slotsMet w)) (slotsMet w) ≡ freeRest (m .slots) 0 0 w
+    go : (w : Option (List ℕ)) → walkOf (reached w && all (λ (s : ℕ). blank (slotAt (m .slots) s)) (slotsMet w)) (slotsMet w) ≡ freeRest (m .slots) 0 0 w
     go none = refl
-    go (some []) = only-run (all (λ (s : ℕ). blank (slotAt (m .slots) s)) []) []
+    go (some []) = only-walk (all (λ (s : ℕ). blank (slotAt (m .slots) s)) []) []
     go (some (x ∷ c)) =
-        only-run (all (λ (s : ℕ). blank (slotAt (m .slots) s)) (x ∷ c)) (x ∷ c)
+        only-walk (all (λ (s : ℕ). blank (slotAt (m .slots) s)) (x ∷ c)) (x ∷ c)
         ∙ ap (λ (z : ℕ). onlyIf (all (λ (s : ℕ). blank (slotAt (m .slots) s)) (x ∷ c)) (Met (0 + suc (length c)) z)) (last-or x c)
 
 -- a log's chain: what is left to compute after n slots, the last of which is `last` at position `floor`
@@ -79,7 +79,7 @@ module _ (slots : List Slot) (r : Row) where
   abbrev pub fitsRest : ℕ → ℕ → List ℕ → Bool
   fitsRest floor last c = risingFrom (suc floor) (positionsOf slots c) && eqb (lastOr floor (positionsOf slots c)) (r .high) && eqb (lastOr last c) (r .last)
 
-  abbrev pub logRest : ℕ → ℕ → ℕ → Option (List ℕ) → Run
+  abbrev pub logRest : ℕ → ℕ → ℕ → Option (List ℕ) → Walk
   logRest n floor last none = Broken
   logRest n floor last (some c) = onlyIf (fitsRest floor last c) (Met (n + length c) (lastOr last c))
 
@@ -120,39 +120,39 @@ module _ (slots : List Slot) (r : Row) where
         (and-yes (risingFrom (r .low) (p ∷ positionsOf slots c)) (and-yes (leb (r .low) (r .high)) (le-leb 1 (r .low) one) ∙ le-leb (r .low) (r .high) order)
         ∙ ap (λ (b : ℕ). risingFrom b (p ∷ positionsOf slots c)) (sym e))
 
-    pub log-first : startedRun slots g r ≡ logRest 0 (r .low - 1) 0 (walk slots (suc g) (length slots) (r .first))
+    pub log-first : startedWalk slots g r ≡ logRest 0 (r .low - 1) 0 (walk slots (suc g) (length slots) (r .first))
     unfolding reaches chain lastOf
     log-first = go (walk slots (suc g) (length slots) (r .first))
       where
-        go : (w : Option (List ℕ)) → runOf (reached w && started r (slotsMet w) (positionsOf slots (slotsMet w))) (slotsMet w) ≡ logRest 0 (r .low - 1) 0 w
+        go : (w : Option (List ℕ)) → walkOf (reached w && started r (slotsMet w) (positionsOf slots (slotsMet w))) (slotsMet w) ≡ logRest 0 (r .low - 1) 0 w
         go none = refl
-        go (some []) = ap (λ (t : Bool). runOf t []) (started-rest []) ∙ only-run (fitsRest (r .low - 1) 0 []) []
+        go (some []) = ap (λ (t : Bool). walkOf t []) (started-rest []) ∙ only-walk (fitsRest (r .low - 1) 0 []) []
         go (some (x ∷ c)) =
-            ap (λ (t : Bool). runOf t (x ∷ c)) (started-rest (x ∷ c))
-            ∙ only-run (fitsRest (r .low - 1) 0 (x ∷ c)) (x ∷ c)
+            ap (λ (t : Bool). walkOf t (x ∷ c)) (started-rest (x ∷ c))
+            ∙ only-walk (fitsRest (r .low - 1) 0 (x ∷ c)) (x ∷ c)
             ∙ ap (λ (z : ℕ). onlyIf (fitsRest (r .low - 1) 0 (x ∷ c)) (Met (0 + suc (length c)) z)) (last-or x c)
 
 -- a row's cases
 module _ (slots : List Slot) (g : ℕ) (r : Row) where
-  pub row-fresh : fresh r ≡ true → rowRun slots g r ≡ Met 0 0
+  pub row-fresh : fresh r ≡ true → rowWalk slots g r ≡ Met 0 0
   unfolding rowOk lastOf
   row-fresh e =
-      ap₂ (λ (t : Bool) (c : List ℕ). runOf (t || (reaches slots (suc g) (r .first) && started r (chain slots (suc g) (r .first)) (positionsOf slots (chain slots (suc g) (r .first))))) c)
+      ap₂ (λ (t : Bool) (c : List ℕ). walkOf (t || (reaches slots (suc g) (r .first) && started r (chain slots (suc g) (r .first)) (positionsOf slots (chain slots (suc g) (r .first))))) c)
       e (chain-none slots (suc g) (r .first) (fresh-empty r e .0))
 
-  pub row-started : fresh r ≡ false → rowRun slots g r ≡ startedRun slots g r
+  pub row-started : fresh r ≡ false → rowWalk slots g r ≡ startedWalk slots g r
   unfolding rowOk
   row-started e =
-      ap (λ (t : Bool). runOf (t || (reaches slots (suc g) (r .first) && started r (chain slots (suc g) (r .first)) (positionsOf slots (chain slots (suc g) (r .first))))) (chain slots (suc g) (r .first))) e
+      ap (λ (t : Bool). walkOf (t || (reaches slots (suc g) (r .first) && started r (chain slots (suc g) (r .first)) (positionsOf slots (chain slots (suc g) (r .first))))) (chain slots (suc g) (r .first))) e
 
-  broken : started r (chain slots (suc g) (r .first)) (positionsOf slots (chain slots (suc g) (r .first))) ≡ false → startedRun slots g r ≡ Broken
-  broken e = ap (λ (t : Bool). runOf t (chain slots (suc g) (r .first))) (and-not (reaches slots (suc g) (r .first)) e)
+  broken : started r (chain slots (suc g) (r .first)) (positionsOf slots (chain slots (suc g) (r .first))) ≡ false → startedWalk slots g r ≡ Broken
+  broken e = ap (λ (t : Bool). walkOf t (chain slots (suc g) (r .first))) (and-not (reaches slots (suc g) (r .first)) e)
 
-  pub row-zero : fresh r ≡ false → r .low ≡ 0 → rowRun slots g r ≡ Broken
+  pub row-zero : fresh r ≡ false → r .low ≡ 0 → rowWalk slots g r ≡ Broken
   unfolding started
   row-zero e z = row-started e ∙ broken (and-no _ (and-no _ (and-no _ (and-no _ (lt-leb 1 (r .low) (omega arith))))))
 
-  pub row-crossed : fresh r ≡ false → r .high < r .low → rowRun slots g r ≡ Broken
+  pub row-crossed : fresh r ≡ false → r .high < r .low → rowWalk slots g r ≡ Broken
   unfolding started
   row-crossed e h =
       let c : List ℕ = chain slots (suc g) (r .first) in

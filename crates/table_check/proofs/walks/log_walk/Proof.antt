@@ -1,6 +1,6 @@
--- `table_check::walks::log_run` meets its contract.
+-- `table_check::walks::log_walk` meets its contract.
 use Rattle.table.proofs.WalkLaws.{len, size}
-use Rattle.table.specs.Runs.{startedRun}
+use Rattle.table.specs.Walks.{startedWalk}
 use Rattle.table.specs.Chains.{walk}
 use Rattle.layout.specs.Layout.{readTable}
 use Rattle.layout.specs.Image.{Slot}
@@ -8,15 +8,15 @@ use mathlib.Core.List.{List}
 use native.Mathlib.Omega.{arith}
 use Prim.Native.Nat.{ℕ, suc, _≤_, _-_}
 use mathlib.Core.Path.{_≡_, ap, _∙_}
-use Rattle.table.proofs.RunLaws.{logRest, log-first}
+use Rattle.table.proofs.WalkedLaws.{logRest, log-first}
 use Rattle.table.proofs.TurnLaws.{log-other-high, log-other-last, log-done, log-long, log-out, log-owner, log-low, log-on}
 use borrow.Author.Needs.{needs}
-use Rattle.table_check.proofs.walks.log_run.Statement.{statement}
-use Rattle.table_check.proofs.walks.log_run.Tie as tie
+use Rattle.table_check.proofs.walks.log_walk.Statement.{statement}
+use Rattle.table_check.proofs.walks.log_walk.Tie as tie
 
 abbrev Inv-loop : tie.InvT-loop
 Inv-loop table logs slots g row s₀ n₀ floor₀ last₀ s n floor last =
-    (n ≤ slots) × (startedRun (readTable table .slots) g row ≡ logRest (readTable table .slots) row n floor last (walk (readTable table .slots) (suc g) (slots - n) s))
+    (n ≤ slots) × (startedWalk (readTable table .slots) g row ≡ logRest (readTable table .slots) row n floor last (walk (readTable table .slots) (suc g) (slots - n) s))
 
 abbrev μ-loop : tie.MeasureT-loop
 μ-loop table logs slots g row s₀ n₀ floor₀ last₀ s n floor last = slots - n
@@ -63,8 +63,8 @@ returns-6 c = let a = c .before .before .before .before .before .before .before 
 returns-7 : tie.Need-returns-7 Inv-loop μ-loop
 returns-7 c = let a = c .before .before .before .before .before .before .before .before .args in let l = c .before .before .before .before .before .loop in log-done (readTable (a .table .now) .slots) (a .row) (a .g) (a .slots) (len (a .table .now) (a .logs) (a .slots) (c .before .before .before .before .before .before .before .before .pre .0)) _ (l .n) (l .floor) (l .last) (l .s) (l .inv .1) (c .before .before .before .before .loop-test .left) (c .before .before .if5 .left) (c .if6 .left)
 
-pub log-run-spec : {M : Type 1} → statement M
-log-run-spec =
+pub log-walk-spec : {M : Type 1} → statement M
+log-walk-spec =
     tie.close
     (tie.spec
     Inv-loop
