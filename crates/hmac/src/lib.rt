@@ -1,11 +1,9 @@
 // HMAC (RFC 2104) with SHA-256, for a key of any length.
 ghost use mathlib.Core.Path.{_≡_};
 ghost use Prim.Native.Nat.{_+_, _^_, _<_};
-ghost use mathlib.Core.List.{_++_};
 ghost use lib.ListN.{length};
 ghost use Rattle.refusal.specs.Number.{outcomeNumber};
 ghost use Rattle.refusal.specs.Order.{answerOf, afterwards};
-ghost use Rattle.sha256.specs.Sha256.{sha256};
 ghost use Rattle.hmac.specs.Hmac.{shortKey, padded, masked, hmac, tagRefusal};
 use octets::put;
 use refusal::Outcome;

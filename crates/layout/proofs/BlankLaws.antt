@@ -1,27 +1,22 @@
 -- Blank slots, as the code finds them.
-use Prim.Native.Nat.{ℕ, suc, _+_, _-_, _≤_, _<_}
-use mathlib.Core.Path.{_≡_, refl, sym, ap, ap₂, _∙_}
-use mathlib.Core.Bool.{Bool, true, false, _&&_}
+use Prim.Native.Nat.{ℕ, _+_, _-_, _≤_}
+use mathlib.Core.Path.{_≡_, sym, ap, ap₂, _∙_}
+use mathlib.Core.Bool.{Bool, _&&_}
 use mathlib.Core.List.{List, _++_}
-use native.Mathlib.Numerals.{add-one}
 use native.Mathlib.Omega.{arith}
-use borrow.Author.Tests.{eq-eqb, ne-eqb}
-use lib.Bits.{bitOr, bitXor, xor-zero-r}
 use lib.Dec.{eqb}
-use lib.ListN.{length, getD, take, drop, getD-replicate}
+use lib.ListN.{length, take, drop}
 use Rattle.octets.specs.Octets.{part, same, zeros}
 use Rattle.octets.proofs.Tests.{and-assoc}
 use Rattle.octets.proofs.Parts.{part-between, part-part, part-add, length-part}
-use Rattle.octets.proofs.Same.{same-more, same-all}
 use Rattle.bigendian.specs.BigEndian.{unbe}
-use Rattle.layout.specs.declared.Row.{Row}
-use Rattle.layout.specs.Image.{Slot, slotAt}
+use Rattle.layout.specs.Image.{slotAt}
 use Rattle.layout.specs.Layout.{slotSize, slotOffset, readSlot, readTable}
 use Rattle.layout.specs.Fits.{Counted}
 use Rattle.octets.proofs.Zeros.{length-zeros}
 use Rattle.layout.proofs.CodeLaws.{slot-there}
 use Rattle.layout.specs.Tests.{blank}
-use Rattle.layout.proofs.TestLaws.{and-yes, and-no, and-not, and-split, zeros-add, same-append, zero-bytes}
+use Rattle.layout.proofs.TestLaws.{zeros-add, same-append, zero-bytes}
 
 -- bytes 4–75 of a slot's part
 blank-bytes : (l : List ℕ) → length l ≡ slotSize → same (part l 4 72) (zeros 72) ≡ blank (readSlot l)

@@ -1,6 +1,6 @@
 -- The tests on header and zero bytes, test by test as the code makes them, and what they tell when passed.
-use Prim.Native.Nat.{ℕ, zero, suc, _+_, _-_, _*_, _^_, _≤_, _<_}
-use mathlib.Core.Path.{_≡_, refl, sym, ap, ap₂, _∙_, subst}
+use Prim.Native.Nat.{ℕ, suc, _+_, _-_, _*_, _≤_, _<_}
+use mathlib.Core.Path.{_≡_, sym, ap, ap₂, _∙_}
 use mathlib.Core.Bool.{Bool, true, false, not, _&&_}
 use mathlib.Core.List.{List}
 use mathlib.Core.Logic.{_≢_}
@@ -9,10 +9,9 @@ use borrow.Author.Tests.{eq-eqb, ne-eqb, le-leb, lt-leb, eqb-true, leb-true, not
 use lib.Dec.{eqb, leb}
 use lib.ListN.{length}
 use Rattle.octets.specs.Octets.{Bytes, part, same, zeros}
-use Rattle.octets.proofs.Same.{same-eq, eq-same}
-use Rattle.bigendian.specs.BigEndian.{be, unbe}
+use Rattle.bigendian.specs.BigEndian.{unbe}
 use Rattle.layout.specs.Layout.{mark, headerSize, slotSize, zeroOffset, zerosOffset, rowOffset, padOffset, tableSize, logsOf, slotsOf}
-use Rattle.layout.specs.Fits.{Counted, Formed}
+use Rattle.layout.specs.Fits.{Counted}
 use Rattle.layout.proofs.CodeLaws.{zero-one, zero-two, mark-four}
 use Rattle.layout.specs.Fits.{Range}
 use Rattle.layout.specs.Tests.{inRange, constantsFit, headerFits, allBelow, padsFit}

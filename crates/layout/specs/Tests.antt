@@ -1,7 +1,7 @@
 -- Document 01, "the length, constants and counts are as above", and "bytes 4–75 zero", as tests that the code makes.
 use Prim.Native.Nat.{ℕ, zero, suc}
 use mathlib.Core.List.{List}
-use mathlib.Core.Bool.{Bool, true, false, _&&_}
+use mathlib.Core.Bool.{Bool, true, _&&_}
 use lib.ListN.{length}
 use lib.Dec.{eqb, leb}
 use Rattle.octets.specs.Octets.{part, same, zeros}

@@ -1,12 +1,12 @@
 -- The window of 16 words that moves on with the rounds computes the rounds over the message schedule.
 --
-use mathlib.Core.Path.{_≡_, refl, sym, ap, ap₂, _∙_, subst}
-use Prim.Native.Nat.{ℕ, zero, suc, _+_, _-_, _*_, _≤_, _<_}
+use mathlib.Core.Path.{_≡_, refl, sym, ap, ap₂, _∙_}
+use Prim.Native.Nat.{ℕ, zero, suc, _+_, _-_, _≤_, _<_}
 use native.Mathlib.Nat.{add-zero, zero-add, add-suc, add-assoc}
 use native.Mathlib.Numerals.{add-one}
 use native.Mathlib.Omega.{arith}
-use mathlib.Core.List.{List, [], _∷_, _++_}
-use lib.ListN.{length, getD, take, drop, length-append, List·getD-append}
+use mathlib.Core.List.{List, [], _∷_}
+use lib.ListN.{length, getD, take, length-append, List·getD-append}
 use lib.Seq.{getD-at, take-all, take-append-le}
 use Rattle.octets.proofs.Parts.{run, part-run}
 use Rattle.sha256.specs.Words.{_⊞_, σ0, σ1}

@@ -1,6 +1,6 @@
 -- The message schedule as a window of 16 words that moves on with the rounds: what the code keeps.
 --
-use Prim.Native.Nat.{ℕ, zero, suc, _+_, _*_}
+use Prim.Native.Nat.{ℕ, zero, suc, _+_}
 use mathlib.Core.List.{List, [], _∷_}
 use lib.ListN.{getD}
 use Rattle.sha256.specs.Words.{_⊞_, σ0, σ1}

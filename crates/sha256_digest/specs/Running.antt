@@ -1,7 +1,7 @@
 -- A running hash: what has been absorbed so far, and what absorbing and finishing give.
 --
 use Prim.Native.Nat.{ℕ, _+_, _*_, _/_, _%_}
-use mathlib.Core.List.{List, [], _∷_, _++_}
+use mathlib.Core.List.{List, [], _++_}
 use lib.ListN.{length, take, drop}
 use Rattle.sha256.specs.Sha256.{H0, blocks, padding, bytes}
 use Rattle.sha256_digest.specs.declared.Running.{Running}

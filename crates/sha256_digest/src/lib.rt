@@ -1,7 +1,7 @@
 // Digests by SHA-256 (FIPS 180-4): of a message at once, and of parts fed in turn.
 
 ghost use mathlib.Core.Path.{_≡_};
-ghost use Prim.Native.Nat.{_+_, _^_, _≤_, _<_, _%_};
+ghost use Prim.Native.Nat.{_+_, _^_, _<_, _%_};
 ghost use mathlib.Core.List.{_++_};
 ghost use lib.ListN.{length};
 ghost use Rattle.refusal.specs.Number.{outcomeNumber};

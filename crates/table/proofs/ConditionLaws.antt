@@ -1,8 +1,8 @@
 -- The test `whole` and the conditions `Whole` agree, both ways.
 use Prim.Native.Nat.{ℕ, zero, suc, _+_, _≤_, _<_}
-use mathlib.Core.Path.{_≡_, refl, sym, ap, ap₂, _∙_, subst}
+use mathlib.Core.Path.{_≡_, refl, sym, ap, ap₂, _∙_}
 use mathlib.Core.Logic.{_⊎_, inl, inr}
-use mathlib.Core.List.{List, [], _∷_, _++_}
+use mathlib.Core.List.{List, [], _∷_}
 use mathlib.Core.Bool.{Bool, true, false, _&&_, _||_}
 use native.Mathlib.Omega.{arith}
 use borrow.Author.Tests.{eq-eqb, le-leb, eqb-true, eqb-false, leb-true}
@@ -19,8 +19,8 @@ use Rattle.table.specs.Free.{freeChain}
 use Rattle.table.specs.WholeImage.{all, freeOk, fresh, risingFrom, started, rowOk, rowsOk, heldBy, meets, wholeImage}
 use Rattle.layout.specs.Tests.{blank}
 use Rattle.table.specs.Whole.{whole}
-use Rattle.layout.specs.Tests.{inRange, constantsFit, headerFits, allBelow, padsFit}
-use Rattle.table.specs.Conditions.{Links, Blank, Each, Rising, Fresh, Started, Rows, totalOf, Whole}
+use Rattle.layout.specs.Tests.{constantsFit, headerFits, allBelow, padsFit}
+use Rattle.table.specs.Conditions.{Blank, Each, Rising, Fresh, Started, Rows, totalOf, Whole}
 use Rattle.layout.specs.Fits.{Range}
 use Rattle.layout.proofs.TestLaws.{and-yes, and-split}
 use Rattle.table.proofs.WalkLaws.{chain-none}

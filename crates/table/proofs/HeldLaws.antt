@@ -1,15 +1,14 @@
 -- The loop over the rows: what is left to compute from row g on, n slots being counted.
-use Prim.Native.Nat.{ℕ, zero, suc, _+_, _≤_, _<_}
-use mathlib.Core.Path.{_≡_, refl, sym, ap, ap₂, _∙_, subst}
-use mathlib.Core.List.{List, [], _∷_, _++_}
+use Prim.Native.Nat.{ℕ, suc, _+_, _≤_, _<_}
+use mathlib.Core.Path.{_≡_, refl, sym, ap, _∙_}
+use mathlib.Core.List.{List, _++_}
 use mathlib.Core.Bool.{Bool, true, false, _&&_}
 use native.Mathlib.Nat.{zero-add, add-zero}
 use native.Mathlib.Omega.{arith}
-use lib.ListN.{length, getD, drop, length-append, drop-of-length-le}
+use lib.ListN.{length, drop, length-append, drop-of-length-le}
 use lib.Seq.{drop-cons}
 use Rattle.layout.specs.declared.Row.{Row}
 use Rattle.layout.specs.Image.{Slot, rowAt, freshRow}
-use Rattle.table.specs.declared.Walk.{Walk}
 use Rattle.table.specs.declared.Walk.the-variants.{Met, Broken}
 use Rattle.table.specs.declared.Held.{Held}
 use Rattle.table.specs.declared.Held.the-variants as held

@@ -1,10 +1,10 @@
 -- The loops of the check, way out by way out: x is what the function answers, and the invariant says what is left of it to compute.
 use Prim.Native.Nat.{ℕ, suc, _+_, _-_, _≤_, _<_}
-use mathlib.Core.Path.{_≡_, refl, sym, ap, ap₂, _∙_, subst}
+use mathlib.Core.Path.{_≡_, sym, ap, _∙_, subst}
 use mathlib.Core.List.{List, _∷_}
 use mathlib.Core.Bool.{Bool, true, false, not, _&&_}
 use mathlib.Core.Logic.{_≢_}
-use mathlib.Core.Option.{Option, none, Option·map}
+use mathlib.Core.Option.{none, Option·map}
 use native.Mathlib.Numerals.{add-one}
 use native.Mathlib.Omega.{arith}
 use borrow.Author.Tests.{eq-eqb, ne-eqb, not-true, not-false}
@@ -12,7 +12,7 @@ use lib.ListN.{length}
 use lib.Dec.{eqb}
 use Rattle.layout.specs.declared.Row.{Row}
 use Rattle.layout.specs.declared.Link.{Link}
-use Rattle.layout.specs.Image.{Slot, Image, slotAt}
+use Rattle.layout.specs.Image.{Slot, slotAt}
 use Rattle.layout.specs.Changes.{linkOf}
 use Rattle.table.specs.declared.Walk.{Walk}
 use Rattle.table.specs.declared.Walk.the-variants.{Met, Broken}

@@ -1,6 +1,6 @@
 -- What a whole table tells its callers: its bytes are its image's table; and whole bytes of an image are a whole image.
 use Prim.Native.Nat.{ℕ}
-use mathlib.Core.Path.{_≡_, refl, sym, ap, ap₂, _∙_, subst}
+use mathlib.Core.Path.{_≡_, refl, ap, _∙_}
 use mathlib.Core.List.{List}
 use mathlib.Core.Bool.{Bool, true, false, _&&_}
 use native.Mathlib.Omega.{arith}
@@ -11,7 +11,6 @@ use Rattle.layout.specs.Layout.{logsOf, slotsOf, readTable, writeTable}
 use Rattle.layout.specs.Fits.{Fits, Formed}
 use Rattle.layout.proofs.TableLaws.{logs-written, slots-written, read-write, formed-write}
 use Rattle.layout.proofs.HoldsLaws.{Holds, holds-read}
-use Rattle.table.specs.declared.Check.{Check}
 use Rattle.table.specs.declared.Check.the-variants as check
 use Rattle.table.specs.Chains.{lastOf}
 use Rattle.table.specs.Free.{freeChain}

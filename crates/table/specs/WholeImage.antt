@@ -1,7 +1,7 @@
 -- Document 01, "A table is whole if ..", as far as it speaks of rows, slots and chains: a test that a reader can compute.
 use Prim.Native.Nat.{ℕ, suc}
 use mathlib.Core.List.{List, [], _∷_, _++_}
-use mathlib.Core.Bool.{Bool, true, false, _&&_, _||_}
+use mathlib.Core.Bool.{Bool, true, _&&_, _||_}
 use lib.ListN.{length}
 use lib.Dec.{eqb, leb}
 use Rattle.layout.specs.declared.Row.{Row}

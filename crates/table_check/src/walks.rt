@@ -7,14 +7,13 @@ use layout_slots::link_at;
 use table::Held;
 use table::Walk;
 ghost use mathlib.Core.Path.{_≡_};
-ghost use Prim.Native.Nat.{suc, _≤_, _<_};
+ghost use Prim.Native.Nat.{_≤_, _<_};
 ghost use Rattle.layout.specs.Image.{rowAt};
 ghost use Rattle.layout.specs.Layout.{readTable};
 ghost use Rattle.layout.specs.Fits.{Counted};
-ghost use Rattle.table.specs.Chains.{chain};
 ghost use Rattle.table.specs.Free.{freeChain};
 ghost use Rattle.table.specs.Walks.{walkOf, heldOf, rowWalk, startedWalk};
-ghost use Rattle.table.specs.WholeImage.{fresh, freeOk, rowOk, rowsOk, heldBy};
+ghost use Rattle.table.specs.WholeImage.{fresh, freeOk, rowsOk, heldBy};
 
 // Whether a row is a fresh log's.
 fn is_fresh(row: Row) -> bool
