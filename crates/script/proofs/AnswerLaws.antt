@@ -9,7 +9,7 @@ use lib.ListN.{getD}
 use borrow.Author.Tests.{eq-eqb, ne-eqb}
 use Rattle.octets.specs.Octets.{Bytes, part, splice, zeros}
 use Rattle.octets.proofs.Parts.{part-part}
-use Rattle.bigendian.specs.BigEndian.{be, unbe}
+use Rattle.bigendian.specs.BigEndian.{be, unbe, placed}
 use Rattle.refusal.specs.Number.{numberOf}
 use Rattle.receipt.specs.Attestation.{readAttestation}
 use Rattle.layout.specs.declared.Row.{Row}
@@ -23,7 +23,7 @@ use Rattle.a2m.specs.TableCalls.{tableRefusal, tableStep}
 use Rattle.a2m.specs.Opened.{changeReply}
 use Rattle.a2m.proofs.Unchanged.{Reads, refused-unchanged, read-unchanged}
 use Rattle.script.specs.declared.Answer.the-variants.{Plain, Bounded, Attested}
-use Rattle.script.specs.Answer.{placed, letterOf, numberIn, attestedAnswer, replyAnswer, callAnswer}
+use Rattle.script.specs.Answer.{letterOf, numberIn, attestedAnswer, replyAnswer, callAnswer}
 use Rattle.script.specs.Named.{Named, ChangeNamed, changeAnswer}
 use Rattle.script.proofs.CallLaws.{accepted-named, refused-named, Changes, done-row}
 

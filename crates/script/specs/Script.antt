@@ -19,7 +19,7 @@ use Rattle.line.specs.Answer.{lineText}
 use Rattle.script.specs.declared.Turn.{Turn}
 use Rattle.script.specs.declared.Answer.{Answer}
 use Rattle.script.specs.declared.Answer.the-variants.{Plain, Bounded, Attested}
-use Rattle.script.specs.Answer.{placed, callAnswer}
+use Rattle.script.specs.Answer.{callAnswer}
 
 -- "Fields of format: G, S, keeper"; the buffer has the size of that table, and "Key and nonce are zero"
 abbrev pub formatFault : ℕ → ℕ → Option ℕ

@@ -15,6 +15,7 @@ ghost use mathlib.Core.Bool.{true};
 ghost use Prim.Native.Nat.{_<_};
 ghost use lib.ListN.{length};
 ghost use Rattle.octets.specs.Octets.{zeros};
+ghost use Rattle.bigendian.specs.BigEndian.{placed as placedIn};
 ghost use Rattle.refusal.specs.Number.{numberOf};
 ghost use Rattle.receipt.specs.Attestation.{readAttestation};
 ghost use Rattle.layout.specs.Layout.{logsOf, readTable};
@@ -23,7 +24,7 @@ ghost use Rattle.a2m.specs.Call.{append as appends, advance as advances, trunca
 ghost use Rattle.a2m.specs.Call.{refused as refuses};
 ghost use Rattle.a2m.specs.ImageCalls.{rowIn};
 ghost use Rattle.a2m.specs.TableCalls.{tableStep};
-ghost use Rattle.script.specs.Answer.{placed as placedIn, letterOf, attestedAnswer, replyAnswer, callAnswer};
+ghost use Rattle.script.specs.Answer.{letterOf, attestedAnswer, replyAnswer, callAnswer};
 ghost use Rattle.script.specs.Named.{Named, ChangeNamed, changeAnswer};
 
 // A number in the last 8 of 32 bytes.
