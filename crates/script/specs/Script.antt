@@ -5,6 +5,7 @@ use mathlib.Core.List.{List, [], _∷_}
 use mathlib.Core.Option.{Option}
 use lib.ListN.{length, take}
 use Rattle.octets.specs.Octets.{splice, zeros}
+use Rattle.bigendian.specs.BigEndian.{placed}
 use Rattle.refusal.specs.Order.{answerOf, afterwards}
 use Rattle.layout.specs.Layout.{tableSize, writeTable}
 use Rattle.table.specs.Format.{formatted, formatRefusal}
