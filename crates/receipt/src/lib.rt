@@ -1,6 +1,9 @@
 // Receipts (document 01, "Receipt bytes"): what their bytes say, which are possible, and the verdict on one. No code.
 use refusal::Refusal;
 
+// The size of a receipt.
+pub const RECEIPT: usize = 160;
+
 // The name in a receipt's bytes 0 to 5.
 pub enum Name {
     Lookup,

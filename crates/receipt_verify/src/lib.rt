@@ -5,39 +5,46 @@ mod possible;
 ghost use mathlib.Core.Path.{_≡_};
 ghost use lib.ListN.{length};
 ghost use Rattle.receipt.specs.Answer.{answer};
-ghost use Rattle.receipt.specs.Attestation.{readAttestation};
+ghost use Rattle.receipt.specs.Attestation.{receiptSize, readAttestation};
 ghost use Rattle.receipt.specs.Verdict.{carried, isTagged, verdict, verdictAnswer};
 use crate::answers::is_answer;
 use crate::possible::is_possible;
-use bigendian::get_u64;
-use hmac::tag_of;
 use octets::equal;
 use receipt::Question;
+use receipt::RECEIPT;
 use receipt::Verdict;
+use receipt_fields::attested_of;
+use receipt_fields::keeper_of;
+use receipt_fields::kind_of;
+use receipt_fields::log_of;
+use receipt_fields::position_of;
+use receipt_fields::reference_of;
 use refusal::Refusal;
 
-// Whether bytes 128 to 159 are the tag of the bytes before them.
+// Whether the tag is that of the bytes before it.
 fn is_tagged(key: &[u8], r: &[u8]) -> bool
-    requires { ⌜ (length (now key) ≡ 32) × (length (now r) ≡ 160) ⌝ }
+    requires { ⌜ (length (now key) ≡ 32) × (length (now r) ≡ receiptSize) ⌝ }
     ensures { λ b. ⌜ b ≡ isTagged (now (key .entry)) (now (r .entry)) ⌝ }
 {
-    let tag = tag_of(key, &r[0..128]);
-    equal(&r[128..160], &tag)
+    let attested = attested_of(r);
+    let carried = receipt_fields::tag_of(r);
+    let tag = hmac::tag_of(key, attested);
+    equal(carried, &tag)
 }
 
 // What an accepted receipt says.
 fn accepted(r: &[u8]) -> Verdict
-    requires { ⌜ length (now r) ≡ 160 ⌝ }
+    requires { ⌜ length (now r) ≡ receiptSize ⌝ }
     ensures { λ v. ⌜ verdictAnswer v ≡ answer 0 (carried (readAttestation (now (r .entry)))) ⌝ }
 {
-    let keeper = get_u64(r, 8);
-    let position = get_u64(r, 16);
-    let reference = get_u64(r, 24);
+    let keeper = keeper_of(r);
+    let position = position_of(r);
+    let reference = reference_of(r);
     Verdict::Accepted {
         keeper,
-        log: r[7],
+        log: log_of(r),
         position,
-        kind: r[6],
+        kind: kind_of(r),
         reference,
     }
 }
@@ -53,7 +60,7 @@ pub fn verify(key: &[u8], receipt: &[u8], nonce: &[u8], q: Question) -> Verdict
     if nonce.len() != 32 {
         return Verdict::Refused(Refusal::Length);
     }
-    if receipt.len() != 160 {
+    if receipt.len() != RECEIPT {
         return Verdict::Refused(Refusal::NoReceipt);
     }
     if !is_possible(receipt) {

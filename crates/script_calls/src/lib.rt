@@ -7,6 +7,10 @@ use layout::Row;
 use layout_header::logs_of;
 use layout_header::slots_of;
 use layout_rows::row_at;
+use receipt_fields::kind_of;
+use receipt_fields::position_of;
+use receipt_fields::reference_of;
+use receipt_fields::value_of;
 use refusal::Outcome;
 use refusal::Refusal;
 use script::Answer;
@@ -15,15 +19,16 @@ ghost use mathlib.Core.Bool.{true};
 ghost use Prim.Native.Nat.{_<_};
 ghost use lib.ListN.{length};
 ghost use Rattle.octets.specs.Octets.{zeros};
+ghost use Rattle.bigendian.specs.BigEndian.{placed as placedIn};
 ghost use Rattle.refusal.specs.Number.{numberOf};
-ghost use Rattle.receipt.specs.Attestation.{readAttestation};
+ghost use Rattle.receipt.specs.Attestation.{receiptSize, readAttestation};
 ghost use Rattle.layout.specs.Layout.{logsOf, readTable};
 ghost use Rattle.table.specs.Whole.{whole};
 ghost use Rattle.a2m.specs.Call.{append as appends, advance as advances, truncate as truncates, lookup as looks, end as ends};
 ghost use Rattle.a2m.specs.Call.{refused as refuses};
 ghost use Rattle.a2m.specs.ImageCalls.{rowIn};
 ghost use Rattle.a2m.specs.TableCalls.{tableStep};
-ghost use Rattle.script.specs.Answer.{placed as placedIn, letterOf, attestedAnswer, replyAnswer, callAnswer};
+ghost use Rattle.script.specs.Answer.{letterOf, attestedAnswer, replyAnswer, callAnswer};
 ghost use Rattle.script.specs.Named.{Named, ChangeNamed, changeAnswer};
 
 // A number in the last 8 of 32 bytes.
@@ -99,13 +104,13 @@ fn letter(kind: u8) -> u8
 // The answer that a receipt gives.
 fn attested(table: &[u8], log: u64, receipt: &[u8]) -> Answer
     requires { ⌜ (whole (now table) ≡ true) × (log < logsOf (now table)) ⌝ }
-    requires { ⌜ length (now receipt) ≡ 160 ⌝ }
+    requires { ⌜ length (now receipt) ≡ receiptSize ⌝ }
     ensures { λ r. ⌜ r ≡ attestedAnswer (readAttestation (now (receipt .entry))) (rowIn (readTable (now (table .entry))) log) ⌝ }
 {
-    let kind = letter(receipt[6]);
-    let position = get_u64(receipt, 16);
-    let reference = get_u64(receipt, 24);
-    let value = get_u64(receipt, 88);
+    let kind = letter(kind_of(receipt));
+    let position = position_of(receipt);
+    let reference = reference_of(receipt);
+    let value = get_u64(value_of(receipt), 24);
     let row = row_of(table, log);
     Answer::Attested {
         kind,

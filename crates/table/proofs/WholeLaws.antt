@@ -5,12 +5,10 @@ use mathlib.Core.List.{List}
 use mathlib.Core.Bool.{Bool, true, false, _&&_}
 use native.Mathlib.Omega.{arith}
 use lib.ListN.{length}
-use Rattle.octets.specs.Octets.{Bytes}
 use Rattle.layout.specs.Image.{Image}
 use Rattle.layout.specs.Layout.{logsOf, slotsOf, readTable, writeTable}
 use Rattle.layout.specs.Fits.{Fits, Formed}
 use Rattle.layout.proofs.TableLaws.{logs-written, slots-written, read-write, formed-write}
-use Rattle.layout.proofs.HoldsLaws.{Holds, holds-read}
 use Rattle.table.specs.declared.Check.the-variants as check
 use Rattle.table.specs.Chains.{lastOf}
 use Rattle.table.specs.Free.{freeChain}
@@ -31,12 +29,6 @@ whole-range b e = whole-conditions b e .counts
 pub whole-image : (b : List ℕ) → whole b ≡ true → wholeImage (readTable b) ≡ true
 unfolding whole
 whole-image b e = and-split (headerFits b && padsFit b (logsOf b) (slotsOf b)) (wholeImage (readTable b)) e .1
-
--- a whole table is its image's
-pub whole-holds : (b : List ℕ) (logs slots : ℕ) → Bytes b → whole b ≡ true → logs ≡ logsOf b → slots ≡ slotsOf b → Holds b (readTable b) logs slots
-whole-holds b logs slots h e l s =
-    let r = whole-range b e in
-    holds-read b logs slots h (whole-formed b e) l s (omega (arith, r .logs-most)) (omega (arith, r .slots-most))
 
 -- bytes of a table's length, constants and counts are whole when their image is
 pub formed-whole : (b : List ℕ) → Formed b → Range (logsOf b) (slotsOf b) → whole b ≡ wholeImage (readTable b)

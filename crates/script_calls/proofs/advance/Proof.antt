@@ -1,6 +1,6 @@
 -- `script_calls::advance` meets its contract.
 use native.Mathlib.Omega.{arith}
-use Rattle.script.specs.Answer.{placed}
+use Rattle.bigendian.specs.BigEndian.{placed}
 use Rattle.a2m.specs.Call.{advance}
 use Rattle.script.proofs.CallLaws.{advance-changes}
 use Rattle.script.proofs.AnswerLaws.{advance-sized, change-named, change-answers}

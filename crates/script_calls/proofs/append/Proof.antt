@@ -1,6 +1,6 @@
 -- `script_calls::append` meets its contract.
 use native.Mathlib.Omega.{arith}
-use Rattle.script.specs.Answer.{placed}
+use Rattle.bigendian.specs.BigEndian.{placed}
 use Rattle.a2m.specs.Call.{append}
 use Rattle.script.proofs.CallLaws.{append-changes}
 use Rattle.script.proofs.AnswerLaws.{append-sized, change-named, change-answers}

@@ -1,12 +1,12 @@
 -- `receipt_verify::answers::is_asked` meets its contract.
-use Rattle.receipt.proofs.Cases.{other-name, by-position, by-end}
-use Rattle.receipt.specs.Verdict.{asks}
-use Rattle.receipt.specs.declared.Ask.{Ask}
-use lib.Dec.{eqb}
-use Prim.Native.Nat.{ℕ}
-use borrow.Author.Tests.{not-true, not-false}
-use mathlib.Core.Path.{sym, ap, _∙_}
 use Rattle.receipt.specs.Attestation.{readAttestation}
+use mathlib.Core.Path.{sym, ap, _∙_}
+use borrow.Author.Tests.{not-true, not-false}
+use Prim.Native.Nat.{ℕ}
+use lib.Dec.{eqb}
+use Rattle.receipt.specs.declared.Ask.{Ask}
+use Rattle.receipt.specs.Verdict.{asks}
+use Rattle.receipt.proofs.Cases.{other-name, by-position, by-end}
 use borrow.Author.Needs.{needs}
 use Rattle.receipt_verify.proofs.answers.is_asked.Statement.{statement}
 use Rattle.receipt_verify.proofs.answers.is_asked.Tie as tie
@@ -20,8 +20,8 @@ is-lookup-requires c κs = search needs
 returns : tie.Need-returns
 returns c = other-name (readAttestation (c .before .before .before .before .before .before .args .r .now)) _ (sym (c .before .is-lookup .ensures) ∙ not-true _ (c .if1 .taken)) ∙ ap (λ (a : Ask). asks a (readAttestation (c .before .before .before .before .before .before .args .r .now))) (sym (c .before .before .before .ask .given .1))
 
-get-u64-requires : tie.Need-get-u64-requires
-get-u64-requires c κs = search needs
+position-of-requires : tie.Need-position-of-requires
+position-of-requires c κs = search needs
 
 enum-told : tie.Need-enum-told
 enum-told c = search needs
@@ -30,8 +30,7 @@ is-end-requires : tie.Need-is-end-requires
 is-end-requires c κs = search needs
 
 returns-2 : tie.Need-returns-2
-unfolding readAttestation
-returns-2 c = ap (λ (p : ℕ). eqb p (c .before .before .before .before .ask .given .0 .0)) (c .get-u64 .ensures) ∙ by-position (readAttestation (c .before .before .before .before .before .before .before .args .r .now)) _ (sym (c .before .before .is-lookup .ensures) ∙ not-false _ (c .before .if1 .left)) ∙ ap (λ (a : Ask). asks a (readAttestation (c .before .before .before .before .before .before .before .args .r .now))) (sym (c .before .before .before .before .ask .given .1))
+returns-2 c = ap (λ (p : ℕ). eqb p (c .before .before .before .before .ask .given .0 .0)) (c .position-of .ensures) ∙ by-position (readAttestation (c .before .before .before .before .before .before .before .args .r .now)) _ (sym (c .before .before .is-lookup .ensures) ∙ not-false _ (c .before .if1 .left)) ∙ ap (λ (a : Ask). asks a (readAttestation (c .before .before .before .before .before .before .before .args .r .now))) (sym (c .before .before .before .before .ask .given .1))
 
 returns-3 : tie.Need-returns-3
 returns-3 c = c .is-end .ensures ∙ by-end (readAttestation (c .before .before .before .before .args .r .now)) ∙ ap (λ (a : Ask). asks a (readAttestation (c .before .before .before .before .args .r .now))) (sym (c .before .enum-told .given .1))
@@ -43,7 +42,7 @@ is-asked-spec =
     enum-known-ask
     is-lookup-requires
     returns
-    get-u64-requires
+    position-of-requires
     enum-told
     is-end-requires
     returns-2

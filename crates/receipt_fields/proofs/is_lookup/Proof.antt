@@ -1,8 +1,8 @@
--- `receipt_verify::possible::is_lookup` meets its contract.
+-- `receipt_fields::is_lookup` meets its contract.
 use Rattle.receipt.specs.Attestation.{LOOKUP, readAttestation}
 use borrow.Author.Needs.{needs}
-use Rattle.receipt_verify.proofs.possible.is_lookup.Statement.{statement}
-use Rattle.receipt_verify.proofs.possible.is_lookup.Tie as tie
+use Rattle.receipt_fields.proofs.is_lookup.Statement.{statement}
+use Rattle.receipt_fields.proofs.is_lookup.Tie as tie
 
 sub-equal : tie.Need-sub-equal
 sub-equal c = search needs

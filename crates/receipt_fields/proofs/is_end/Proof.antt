@@ -1,8 +1,8 @@
--- `receipt_verify::possible::is_end` meets its contract.
+-- `receipt_fields::is_end` meets its contract.
 use Rattle.receipt.specs.Attestation.{END, readAttestation}
 use borrow.Author.Needs.{needs}
-use Rattle.receipt_verify.proofs.possible.is_end.Statement.{statement}
-use Rattle.receipt_verify.proofs.possible.is_end.Tie as tie
+use Rattle.receipt_fields.proofs.is_end.Statement.{statement}
+use Rattle.receipt_fields.proofs.is_end.Tie as tie
 
 sub-equal : tie.Need-sub-equal
 sub-equal c = search needs
