@@ -164,7 +164,7 @@ fn parse_field(s: &[u8], turn: u64, store: &mut [u8], i: u64, to: u64) -> u64 {
     f.value
 }
 
-// Writes the values and bytes of a line's fields and its form, and answers the form's length.
+// Writes the values and bytes of a line's fields and its form, and answers the form's length: 0 if there are too many fields.
 fn parse_fields(line: &[u8], turn: u64, store: &mut [u8], values: &mut [u64]) -> usize
     requires { ⌜ length (now values) ≡ 11 ⌝ }
 {
@@ -181,6 +181,9 @@ fn parse_fields(line: &[u8], turn: u64, store: &mut [u8], values: &mut [u64]) ->
         to += 2;
         at = e + 1;
         i += 1;
+    }
+    if at < line.len() {
+        return 0;
     }
     to
 }

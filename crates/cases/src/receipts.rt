@@ -5,6 +5,7 @@ use crate::fields::slot;
 use crate::report::show;
 use hmac::tag;
 use octets::wide;
+use printing::text;
 use quorum::Station;
 use quorum::certify;
 use receipt::Ask;
@@ -14,6 +15,7 @@ use receipt::Question;
 use receipt::Verdict;
 use receipt::verify;
 use receipt::write;
+use refusal::Outcome;
 
 // Writes a receipt into a slot of the pile.
 pub fn written(name: Name, v: Values, store: &[u8], pile: &mut [u8]) {
@@ -26,7 +28,7 @@ pub fn written(name: Name, v: Values, store: &[u8], pile: &mut [u8]) {
         position: v.e,
         reference: v.f,
     };
-    let _done = write(
+    let answer = write(
         &mut r,
         slot(store, 7, v.g),
         f,
@@ -34,6 +36,9 @@ pub fn written(name: Name, v: Values, store: &[u8], pile: &mut [u8]) {
         slot(store, 9, v.i),
         slot(store, 10, v.j),
     );
+    if let Outcome::Refused(why) = answer {
+        show(b"? refused: %d\n", &[wide(why.number())]);
+    }
     keep(pile, v.a, 0, &r);
 }
 
@@ -44,6 +49,8 @@ pub fn flip(pile: &mut [u8], i: u64, place: u64) {
     if at < r.len() {
         let b = r[at] ^ 1;
         keep(pile, i, place, &[b]);
+    } else {
+        text(b"? no such byte\n");
     }
 }
 

@@ -37,6 +37,8 @@ pub fn spoiled(table: &mut [u8], place: u64, b: u64, n: u64) {
         table[at] = (b % 256) as u8;
         checked(slot(table, 0, n));
         table[at] = held;
+    } else {
+        text(b"? no such byte\n");
     }
 }
 

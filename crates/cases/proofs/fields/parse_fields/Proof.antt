@@ -1,3 +1,4 @@
+-- `fields::parse_fields` is safe: at most ten fields, each adding two bytes to the form.
 use Prim.Native.Nat.{_+_, _-_, _*_, _≤_}
 use mathlib.Core.Path.{_≡_, _∙_}
 use lib.ListN.{length, length-set}
@@ -87,6 +88,15 @@ same-length-4 c = search needs
 returns-2 : tie.Need-returns-2 Inv-loop μ-loop
 returns-2 c = search needs
 
+same-length-5 : tie.Need-same-length-5 Inv-loop μ-loop
+same-length-5 c = search needs
+
+same-length-6 : tie.Need-same-length-6 Inv-loop μ-loop
+same-length-6 c = search needs
+
+returns-3 : tie.Need-returns-3 Inv-loop μ-loop
+returns-3 c = search needs
+
 pub parse-fields-spec : {M : Type 1} → statement M
 parse-fields-spec =
     tie.close
@@ -117,4 +127,7 @@ parse-fields-spec =
     loop-again
     same-length-3
     same-length-4
-    returns-2)
+    returns-2
+    same-length-5
+    same-length-6
+    returns-3)

@@ -1,4 +1,5 @@
-use Prim.Native.Nat.{_+_, _-_, _≤_}
+-- `receipts::gather` ends: a turn for each receipt.
+use Prim.Native.Nat.{_-_, _≤_}
 use mathlib.Core.Path.{_≡_}
 use lib.ListN.{length}
 use borrow.Author.Needs.{needs}
