@@ -87,7 +87,31 @@ fn unknown(form: &[u8]) {
 fn call(form: &[u8], v: Values, store: &[u8], table: &mut [u8], pile: &mut [u8]) -> Step {
     match place(
         form,
-        b"each n\nnext\ntable n\nset n x\ncheck n\nspoil n n n\nformatted n n n x\nformat n n n x\nappend n x\nadvance n n x x\ntruncate n n\nlookup n n x n n\nend n x n n\nanswer n x n n\ndigest\nreceipt n n n n n n x x x x\nend-receipt n n n n n n x x x x\nput n x\nflip n n\ntag n x\nverify n n x x n n n\nverify n n x x n n\ncertify n n x n n x n\ncompare x n x x n x n n\n",
+        b"each n
+next
+table n
+set n x
+check n
+spoil n n n
+formatted n n n x
+format n n n x
+append n x
+advance n n x x
+truncate n n
+lookup n n x n n
+end n x n n
+answer n x n n
+digest
+receipt n n n n n n x x x x
+end-receipt n n n n n n x x x x
+put n x
+flip n n
+tag n x
+verify n n x x n n n
+verify n n x x n n
+certify n n x n n x n
+compare x n x x n x n n
+",
     ) {
         0 => return Step::Each(v.a),
         1 => return Step::Next,
