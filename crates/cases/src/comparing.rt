@@ -3,8 +3,7 @@
 use crate::fields::Values;
 use crate::fields::slot;
 use crate::fields::slot_mut;
-use crate::report::show;
-use octets::wide;
+use crate::report::refused;
 use printing::hex;
 use printing::text;
 use runs::Comparison;
@@ -15,7 +14,7 @@ fn said(answer: Comparison) {
         Comparison::Differ => text(b"digests differ\n  "),
         Comparison::Agree => text(b"agree\n  "),
         Comparison::Collision => text(b"collision\n  "),
-        Comparison::Refused(why) => show(b"refused with %d\n  ", &[wide(why.number())]),
+        Comparison::Refused(why) => refused(b"refused with %d\n  ", why),
     }
 }
 

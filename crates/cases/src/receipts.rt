@@ -2,6 +2,7 @@
 use crate::fields::Values;
 use crate::fields::keep;
 use crate::fields::slot;
+use crate::report::refused;
 use crate::report::show;
 use hmac::tag;
 use octets::wide;
@@ -37,7 +38,7 @@ pub fn written(name: Name, v: Values, store: &[u8], pile: &mut [u8]) {
         slot(store, 10, v.j),
     );
     if let Outcome::Refused(why) = answer {
-        show(b"? refused: %d\n", &[wide(why.number())]);
+        refused(b"? refused: %d\n", why);
     }
     keep(pile, v.a, 0, &r);
 }
@@ -83,7 +84,7 @@ pub fn verified(v: Values, store: &[u8], pile: &[u8], ask: Ask) {
             b"accepted: keeper %d, log %d, position %d, kind %d, reference %d\n",
             &[keeper, wide(log), position, wide(kind), reference],
         ),
-        Verdict::Refused(why) => show(b"refused: %d\n", &[wide(why.number())]),
+        Verdict::Refused(why) => refused(b"refused: %d\n", why),
     }
 }
 
@@ -110,6 +111,6 @@ pub fn certified(v: Values, store: &[u8], pile: &[u8]) {
             b"certified: place %d, members %4\n",
             &[place as u64, mask as u64],
         ),
-        Station::Refused(why) => show(b"refused: %d\n", &[wide(why.number())]),
+        Station::Refused(why) => refused(b"refused: %d\n", why),
     }
 }

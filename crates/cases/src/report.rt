@@ -2,7 +2,9 @@
 use bigendian::get_u64;
 use libc::STDOUT_FILENO;
 use line::find;
+use octets::wide;
 use printing::text;
+use refusal::Refusal;
 
 // A number as decimal, or in so many bytes as hexadecimal.
 fn value(kind: u8, n: u64) {
@@ -29,6 +31,11 @@ pub fn show(t: &[u8], values: &[u64]) {
         }
         at = e + 2;
     }
+}
+
+// A text with the number of a refusal.
+pub fn refused(t: &[u8], why: Refusal) {
+    show(t, &[wide(why.number())]);
 }
 
 // The words of 8 bytes each from a place on.

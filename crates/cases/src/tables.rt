@@ -2,6 +2,7 @@
 use crate::fields::Values;
 use crate::fields::slot;
 use crate::fields::slot_mut;
+use crate::report::refused;
 use crate::report::show;
 use crate::report::words;
 use a2m::Change;
@@ -54,7 +55,7 @@ fn changed(word: &[u8], answer: Change, table: &[u8]) {
     text(word);
     match answer {
         Change::Done { low, high } => show(b" 00 %8 %8", &[low, high]),
-        Change::Refused(why) => show(b" %1", &[wide(why.number())]),
+        Change::Refused(why) => refused(b" %1", why),
     }
     table_after(table);
 }
@@ -82,7 +83,7 @@ pub fn looked_up(v: Values, store: &[u8], table: &[u8], pile: &mut [u8]) {
             show(b"lookup 00 %8", &[examined]);
             receipt_fields(slot(pile, v.d, v.e));
         }
-        Finding::Refused(why) => show(b"lookup %1", &[wide(why.number())]),
+        Finding::Refused(why) => refused(b"lookup %1", why),
     }
     table_after(table);
 }
