@@ -22,7 +22,7 @@ use Rattle.layout.proofs.HoldsLaws.{Holds, holds-read}
 use Rattle.table.specs.declared.Check.the-variants as check
 use Rattle.table.specs.Chains.{chain, reaches, lastOf, entriesOf}
 use Rattle.table.specs.Free.{freeChain, joint}
-use Rattle.table.specs.Whole.{whole, checked, checkOf}
+use Rattle.table.specs.Whole.{whole, checkOf}
 use Rattle.a2m.specs.declared.View.{View}
 use Rattle.a2m.specs.declared.Opening.the-variants as opening
 use Rattle.a2m.specs.Call.{Call, logOf}
@@ -34,34 +34,17 @@ use Rattle.a2m.proofs.Lists.{In, in-last}
 use Rattle.a2m.proofs.Links.{links-in, reaches-links}
 use Rattle.table.specs.Conditions.{Links}
 use Rattle.a2m.proofs.Chained.{Chained, whole-chained}
-use Rattle.table.proofs.WholeLaws.{whole-range, whole-formed, whole-image}
+use Rattle.table.proofs.WholeLaws.{whole-range, whole-formed, whole-image, check-torn, check-whole as found-whole}
 
 -- ---- opening
 
 module _ (b : List ℕ) (g : ℕ) where
   pub open-torn : check.Torn ≡ checkOf b → opening.Refused why.Torn ≡ openingOf b g
-  unfolding openingOf checkOf checked
-  open-torn h = go (whole b) refl
-    where
-      go : (t : Bool) → whole b ≡ t → opening.Refused why.Torn ≡ openingOf b g
-      go true e =
-          let q : check.Torn ≡ check.Whole (length (freeChain (readTable b))) (lastOf (freeChain (readTable b))) = rw (checkOf, e) at h in
-          let z : _≡_ {A = ℕ} 0 1 = cc in
-          absurd (omega arith)
-      go false e = rw (openingOf, e)
+  unfolding openingOf
+  open-torn h = rw (openingOf, check-torn b h)
 
   pub check-whole : (free last : ℕ) → check.Whole free last ≡ checkOf b → (whole b ≡ true) × (last ≡ joint (readTable b))
-  unfolding checkOf checked
-  check-whole free last h = go (whole b) refl
-    where
-      go : (t : Bool) → whole b ≡ t → (whole b ≡ true) × (last ≡ joint (readTable b))
-      go true e =
-          let q : check.Whole free last ≡ check.Whole (length (freeChain (readTable b))) (lastOf (freeChain (readTable b))) = rw (checkOf, e) at h in
-          (e, let p : last ≡ lastOf (freeChain (readTable b)) = cc in p)
-      go false e =
-          let q : check.Whole free last ≡ check.Torn = rw (checkOf, e) at h in
-          let z : _≡_ {A = ℕ} 0 1 = cc in
-          absurd (omega arith)
+  check-whole free last h = let w = found-whole b free last h in (w .0, sym (w .2))
 
   pub open-beyond : whole b ≡ true → logsOf b ≤ g → opening.Refused why.NoLog ≡ openingOf b g
   unfolding openingOf

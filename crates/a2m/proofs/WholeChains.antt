@@ -13,7 +13,8 @@ use Rattle.layout.specs.declared.Row.{Row}
 use Rattle.layout.specs.Image.{Slot, Image, slotAt, rowAt}
 use Rattle.table.specs.Chains.{chain, reaches, lastOf, positionsOf}
 use Rattle.table.specs.Free.{freeChain}
-use Rattle.table.specs.WholeImage.{all, blank, freeOk, fresh, risingFrom, started, rowOk, rowsOk, meets, wholeImage}
+use Rattle.table.specs.WholeImage.{all, freeOk, fresh, risingFrom, started, rowOk, rowsOk, meets, wholeImage}
+use Rattle.layout.specs.Tests.{blank}
 use Rattle.a2m.proofs.Lists.{lastOf-nil}
 use Rattle.table.specs.Conditions.{Links}
 use Rattle.table.proofs.LinkLaws.{reach-links}

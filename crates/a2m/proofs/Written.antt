@@ -7,7 +7,7 @@ use Rattle.layout.specs.Image.{Image}
 use Rattle.layout.specs.Layout.{writeTable}
 use Rattle.layout.specs.Fits.{Fits}
 use Rattle.layout.proofs.TableLaws.{read-write}
-use Rattle.table.specs.Conditions.{Range}
+use Rattle.layout.specs.Fits.{Range}
 use Rattle.table.proofs.WholeLaws.{written-whole}
 use Rattle.a2m.specs.Call.{Call}
 use Rattle.a2m.specs.ImageCalls.{imageRefusal, imageStep}

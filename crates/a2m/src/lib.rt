@@ -1,15 +1,5 @@
-// The five calls of an attested append-only memory on a lent table: append, advance, truncate, lookup, end.
-// Each tests the lengths, opens the table at its log, and then reads or changes it: one call, one check of the table.
-pub mod advance;
-pub mod append;
-mod attest;
-mod digest;
-pub mod end;
-mod entering;
-pub mod lookup;
-mod open;
-mod search;
-pub mod truncate;
+// The five calls of an attested append-only memory on a lent table (append, advance, truncate, lookup, end): what each does
+// to an image and to bytes, and what it answers. No code.
 
 use layout::Row;
 use refusal::Refusal;

@@ -1,7 +1,8 @@
 -- Big-endian numbers: the bytes of a number at a width, most significant first, and the number that bytes make.
 use Prim.Native.Nat.{ℕ, zero, suc, _+_, _*_, _/_, _%_, _^_}
-use mathlib.Core.List.{List, [], _∷_}
+use mathlib.Core.List.{List, [], _∷_, _++_}
 use lib.ListN.{length}
+use Rattle.octets.specs.Octets.{zeros}
 
 -- the low w bytes of n, most significant first
 unfoldable pub be : ℕ → ℕ → List ℕ
@@ -12,3 +13,7 @@ be (suc w) n = n / 256 ^ w % 256 ∷ be w n
 unfoldable pub unbe : List ℕ → ℕ
 unbe [] = 0
 unbe (b ∷ bs) = b * 256 ^ length bs + unbe bs
+
+-- "A value or digest is a number placed in the last 8 of 32 bytes, the rest zero."
+unfoldable pub placed : ℕ → List ℕ
+placed n = zeros 24 ++ be 8 n

@@ -1,28 +1,12 @@
 // The five calls on a table.
-use a2m::Change;
 use a2m::Finding;
+use capi_results::changed;
 ghost use mathlib.Core.Path.{_≡_};
 ghost use lib.ListN.{length};
 ghost use Rattle.a2m.specs.Call.{append as appends, advance as advances, truncate as truncates, lookup as looks, end as ends};
 ghost use Rattle.a2m.specs.TableCalls.{tableStep};
-ghost use Rattle.a2m.specs.Opened.{changeReply, receiptAfter};
-ghost use Rattle.capi.specs.Results.{replyNumber, lowAfter, highAfter, examinedAfter};
-
-// The number of a change, and the results of one that was accepted.
-fn changed(change: Change, low: &mut u64, high: &mut u64) -> u8
-    ensures answer { λ r. ⌜ r ≡ replyNumber (changeReply change) ⌝ }
-    ensures low { λ _. ⌜ now (low .exit) ≡ lowAfter (changeReply change) (now (low .entry)) ⌝ }
-    ensures high { λ _. ⌜ now (high .exit) ≡ highAfter (changeReply change) (now (high .entry)) ⌝ }
-{
-    match change {
-        Change::Done { low: l, high: h } => {
-            *low = l;
-            *high = h;
-            0
-        }
-        Change::Refused(why) => why.number(),
-    }
-}
+ghost use Rattle.a2m.specs.Opened.{receiptAfter};
+ghost use Rattle.capi_results.specs.Results.{replyNumber, lowAfter, highAfter, examinedAfter};
 
 #[no_mangle]
 pub extern "C" fn keeper_append(
@@ -37,7 +21,7 @@ pub extern "C" fn keeper_append(
     ensures low { λ _. ⌜ now (low .exit) ≡ lowAfter (tableStep (now (table .entry)) (appends log (now (value .entry))) .reply) (now (low .entry)) ⌝ }
     ensures high { λ _. ⌜ now (high .exit) ≡ highAfter (tableStep (now (table .entry)) (appends log (now (value .entry))) .reply) (now (high .entry)) ⌝ }
 {
-    let change = a2m::append::append(table, log, value);
+    let change = a2m_put::append::append(table, log, value);
     changed(change, low, high)
 }
 
@@ -56,7 +40,7 @@ pub extern "C" fn keeper_advance(
     ensures low { λ _. ⌜ now (low .exit) ≡ lowAfter (tableStep (now (table .entry)) (advances log position (now (digest .entry)) (now (value .entry))) .reply) (now (low .entry)) ⌝ }
     ensures high { λ _. ⌜ now (high .exit) ≡ highAfter (tableStep (now (table .entry)) (advances log position (now (digest .entry)) (now (value .entry))) .reply) (now (high .entry)) ⌝ }
 {
-    let change = a2m::advance::advance(table, log, position, digest, value);
+    let change = a2m_put::advance::advance(table, log, position, digest, value);
     changed(change, low, high)
 }
 
@@ -73,7 +57,7 @@ pub extern "C" fn keeper_truncate(
     ensures low { λ _. ⌜ now (low .exit) ≡ lowAfter (tableStep (now (table .entry)) (truncates log position) .reply) (now (low .entry)) ⌝ }
     ensures high { λ _. ⌜ now (high .exit) ≡ highAfter (tableStep (now (table .entry)) (truncates log position) .reply) (now (high .entry)) ⌝ }
 {
-    let change = a2m::truncate::truncate(table, log, position);
+    let change = a2m_truncate::truncate(table, log, position);
     changed(change, low, high)
 }
 
@@ -90,7 +74,7 @@ pub extern "C" fn keeper_lookup(
     ensures bytes { λ _. ⌜ now (receipt .exit) ≡ receiptAfter (tableStep (now (table .entry)) (looks log position (now (nonce .entry)) (length (now (receipt .entry)))) .reply) (now (receipt .entry)) ⌝ }
     ensures examined { λ _. ⌜ now (examined .exit) ≡ examinedAfter (tableStep (now (table .entry)) (looks log position (now (nonce .entry)) (length (now (receipt .entry)))) .reply) (now (examined .entry)) ⌝ }
 {
-    match a2m::lookup::lookup(table, log, position, nonce, receipt) {
+    match a2m_read::lookup::lookup(table, log, position, nonce, receipt) {
         Finding::Found { examined: n } => {
             *examined = n;
             0
@@ -104,6 +88,6 @@ pub extern "C" fn keeper_end(table: &[u8], log: u64, nonce: &[u8], receipt: &mut
     ensures answer { λ r. ⌜ r ≡ replyNumber (tableStep (now (table .entry)) (ends log (now (nonce .entry)) (length (now (receipt .entry)))) .reply) ⌝ }
     ensures bytes { λ _. ⌜ now (receipt .exit) ≡ receiptAfter (tableStep (now (table .entry)) (ends log (now (nonce .entry)) (length (now (receipt .entry)))) .reply) (now (receipt .entry)) ⌝ }
 {
-    let outcome = a2m::end::end(table, log, nonce, receipt);
+    let outcome = a2m_read::end::end(table, log, nonce, receipt);
     outcome.number()
 }

@@ -3,7 +3,7 @@ use runs::Comparison;
 ghost use mathlib.Core.Path.{_≡_};
 ghost use Rattle.runs.specs.Run.{run};
 ghost use Rattle.runs.specs.Call.{compareAnswer, compareBytes};
-ghost use Rattle.capi.specs.Results.{codeAfter};
+ghost use Rattle.capi_results.specs.Results.{codeAfter};
 
 #[no_mangle]
 pub extern "C" fn keeper_compare(

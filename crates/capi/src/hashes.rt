@@ -10,7 +10,7 @@ pub extern "C" fn keeper_hash(message: &[u8], digest: &mut [u8]) -> u8
     ensures answer { λ r. ⌜ r ≡ answerOf (hashRefusal (now (message .entry)) (now (digest .entry))) ⌝ }
     ensures bytes { λ _. ⌜ now (digest .exit) ≡ afterwards (hashRefusal (now (message .entry)) (now (digest .entry))) (sha256 (now (message .entry))) (now (digest .entry)) ⌝ }
 {
-    let outcome = sha256::hash(message, digest);
+    let outcome = sha256_digest::hash(message, digest);
     outcome.number()
 }
 

@@ -4,7 +4,7 @@ ghost use mathlib.Core.Path.{_≡_};
 ghost use lib.ListN.{length};
 ghost use Rattle.refusal.specs.Order.{answerOf};
 ghost use Rattle.table.specs.Format.{formatRefusal, formatBytes};
-ghost use Rattle.capi.specs.Results.{checkRefusal};
+ghost use Rattle.capi_results.specs.Results.{checkRefusal};
 
 #[no_mangle]
 pub extern "C" fn keeper_format(
@@ -17,7 +17,7 @@ pub extern "C" fn keeper_format(
     ensures answer { λ r. ⌜ r ≡ answerOf (formatRefusal (length (now (table .entry))) logs slots (length (now (key .entry)))) ⌝ }
     ensures bytes { λ _. ⌜ now (table .exit) ≡ formatBytes (now (table .entry)) logs slots keeper (now (key .entry)) ⌝ }
 {
-    let outcome = table::format::format(table, logs, slots, keeper, key);
+    let outcome = table_format::format(table, logs, slots, keeper, key);
     outcome.number()
 }
 
@@ -25,7 +25,7 @@ pub extern "C" fn keeper_format(
 pub extern "C" fn keeper_check(table: &[u8]) -> u8
     ensures { λ r. ⌜ r ≡ answerOf (checkRefusal (now (table .entry))) ⌝ }
 {
-    match table::whole::check(table) {
+    match table_check::check(table) {
         Check::Torn => 1,
         Check::Whole { free: _, last: _ } => 0,
     }

@@ -1,33 +1,12 @@
 // The verifier and certificates.
-use octets::wide;
+use capi_results::judged;
 use quorum::Station;
 use receipt::Ask;
 use receipt::Question;
-use receipt::Verdict;
 ghost use mathlib.Core.Path.{_≡_};
-ghost use Rattle.receipt.specs.Verdict.{verdictAnswer, verdict as verdictOn};
+ghost use Rattle.receipt.specs.Verdict.{verdict as verdictOn};
 ghost use Rattle.quorum.specs.Certificate.{certificate as certificateFor};
-ghost use Rattle.capi.specs.Results.{lookupOf, endOf, verdictAfter, placeAfter, maskAfter};
-
-// The number of a verdict, and what an accepted one says: C's keeper_verdict is its five numbers in a row.
-fn judged(judgement: Verdict, verdict: &mut [u64; 5]) -> u8
-    ensures answer { λ r. ⌜ r ≡ verdictAnswer judgement .number ⌝ }
-    ensures verdict { λ _. ⌜ now (verdict .exit) ≡ verdictAfter (verdictAnswer judgement) (now (verdict .entry)) ⌝ }
-{
-    match judgement {
-        Verdict::Accepted {
-            keeper,
-            log,
-            position,
-            kind,
-            reference,
-        } => {
-            *verdict = [keeper, wide(log), position, wide(kind), reference];
-            0
-        }
-        Verdict::Refused(why) => why.number(),
-    }
-}
+ghost use Rattle.capi_results.specs.Results.{lookupOf, endOf, verdictAfter, placeAfter, maskAfter};
 
 #[no_mangle]
 pub extern "C" fn keeper_verify_lookup(
@@ -47,7 +26,7 @@ pub extern "C" fn keeper_verify_lookup(
         log,
         ask: Ask::Lookup(position),
     };
-    let judgement = receipt::verify(key, receipt, nonce, question);
+    let judgement = receipt_verify::verify(key, receipt, nonce, question);
     judged(judgement, verdict)
 }
 
@@ -68,7 +47,7 @@ pub extern "C" fn keeper_verify_end(
         log,
         ask: Ask::End,
     };
-    let judgement = receipt::verify(key, receipt, nonce, question);
+    let judgement = receipt_verify::verify(key, receipt, nonce, question);
     judged(judgement, verdict)
 }
 

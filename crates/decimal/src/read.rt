@@ -1,7 +1,6 @@
 // A strict decimal: digits only, no leading zeros, below 2^64.
 ghost use mathlib.Core.Path.{_≡_};
 ghost use Prim.Native.Nat.{_<_};
-ghost use lib.ListN.{length};
 ghost use Rattle.decimal.specs.Decimal.{numberOf, moreOf, readAfter};
 use crate::Number;
 

@@ -1,6 +1,6 @@
 -- HMAC (RFC 2104) with SHA-256: B = 64 bytes a block, L = 32 bytes a tag.
 use Prim.Native.Nat.{ℕ, _+_, _-_}
-use mathlib.Core.Bool.{Bool, not, cond}
+use mathlib.Core.Bool.{not, cond}
 use mathlib.Core.List.{List, [], _∷_, _++_, map}
 use mathlib.Core.Option.{Option}
 use lib.ListN.{length}

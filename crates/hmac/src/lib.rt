@@ -1,17 +1,15 @@
 // HMAC (RFC 2104) with SHA-256, for a key of any length.
 ghost use mathlib.Core.Path.{_≡_};
 ghost use Prim.Native.Nat.{_+_, _^_, _<_};
-ghost use mathlib.Core.List.{_++_};
 ghost use lib.ListN.{length};
 ghost use Rattle.refusal.specs.Number.{outcomeNumber};
 ghost use Rattle.refusal.specs.Order.{answerOf, afterwards};
-ghost use Rattle.sha256.specs.Sha256.{sha256};
 ghost use Rattle.hmac.specs.Hmac.{shortKey, padded, masked, hmac, tagRefusal};
 use octets::put;
 use refusal::Outcome;
 use refusal::Refusal;
-use sha256::digest_after;
-use sha256::digest_of;
+use sha256_digest::digest_of;
+use sha256_digest::prefixed_digest;
 
 // The key as a block: hashed if it is longer than a block, and zero bytes after it.
 fn key_block(key: &[u8]) -> [u8; 64]
@@ -47,9 +45,9 @@ pub fn tag_of(key: &[u8], text: &[u8]) -> [u8; 32]
 {
     let block = key_block(key);
     let inner_block = mask(block, 0x36);
-    let inner = digest_after(&inner_block, text);
+    let inner = prefixed_digest(&inner_block, text);
     let outer_block = mask(block, 0x5c);
-    digest_after(&outer_block, &inner)
+    prefixed_digest(&outer_block, &inner)
 }
 
 // Writes the tag of a text into a buffer of 32 bytes. Refused with 7, the buffer as it was: a buffer of another length, or

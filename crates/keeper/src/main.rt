@@ -20,7 +20,7 @@ fn flushed(out: &[u8], p: Progress) -> Progress
     ensures { λ r. ⌜ Flushed (length (now (out .entry))) p r ⌝ }
 {
     let to = p.to;
-    if out.len() - to < script::ROOM {
+    if out.len() - to < script_lines::ROOM {
         io::write_all(STDOUT_FILENO, &out[..to]);
         return Progress {
             at: p.at,
@@ -47,7 +47,7 @@ fn answer_all(
     let mut s = p;
     while s.at < text.len() {
         let q = flushed(out, s);
-        s = script::feed(text, table, held, out, q);
+        s = script_lines::feed(text, table, held, out, q);
     }
     Progress {
         at: 0,
@@ -100,7 +100,7 @@ fn answer_last(table: &mut [u8], held: &[u8], out: &mut [u8], p: Progress) -> us
     if kept == 0 {
         return to;
     }
-    let next = script::answer_line(table, p.size, out, to, p.number, &held[..kept]);
+    let next = script_lines::answer_line(table, p.size, out, to, p.number, &held[..kept]);
     next.to
 }
 

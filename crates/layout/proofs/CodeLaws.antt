@@ -1,21 +1,22 @@
 -- What the functions of this crate read and write, over plain values: one law for each kind of place.
-use Prim.Native.Nat.{ℕ, _+_, _-_, _*_, _^_, _≤_, _<_}
-use mathlib.Core.Path.{_≡_, refl, sym, ap, ap₂, _∙_}
-use mathlib.Core.List.{List, [], _∷_, _++_, append-assoc}
-use native.Mathlib.Nat.{mod-eq-of-lt, div-one}
+use Prim.Native.Nat.{ℕ, _+_, _-_, _≤_, _<_}
+use mathlib.Core.Path.{_≡_, refl, sym, ap, _∙_}
+use mathlib.Core.List.{List, _++_, append-assoc}
+use native.Mathlib.Nat.{mod-eq-of-lt}
 use native.Mathlib.Omega.{arith}
 use borrow.Rule.Slice.PartMut.{putMid}
 use lib.ListN.{length, take, drop, set, length-append}
 use Rattle.octets.specs.Octets.{part, splice, zeros}
 use Rattle.octets.proofs.Parts.{part-between, part-part, put-back, splice-then, splice-whole}
-use Rattle.bigendian.specs.BigEndian.{be, unbe}
+use Rattle.bigendian.specs.BigEndian.{be}
 use Rattle.bigendian.proofs.Laws.{length-be, put-byte}
 use Rattle.layout.specs.declared.Row.{Row}
-use Rattle.layout.specs.Image.{Slot, Image, slotAt, rowAt}
+use Rattle.layout.specs.Image.{Slot, slotAt, rowAt}
 use Rattle.layout.specs.Changes.{slotOf}
-use Rattle.layout.specs.Layout.{mark, headerSize, rowSize, slotSize, rowOffset, slotOffset, logsOf, slotsOf, readRow, rowBytes, readSlot, slotBytes, readTable, countBytes, headerBytes, putRow, putSlot, putNext}
+use Rattle.layout.specs.Layout.{mark, headerSize, rowSize, slotSize, rowOffset, slotOffset, readRow, rowBytes, readSlot, slotBytes, readTable, countBytes, headerBytes, putRow, putSlot, putNext}
 use Rattle.layout.specs.Fits.{SlotFits, Counted}
-use Rattle.layout.proofs.FieldLaws.{length-zeros, length-rowBytes, length-slotBytes}
+use Rattle.layout.proofs.FieldLaws.{length-rowBytes, length-slotBytes}
+use Rattle.octets.proofs.Zeros.{length-zeros}
 use Rattle.layout.proofs.TableLaws.{row-read, slot-read}
 
 -- reading

@@ -1,23 +1,20 @@
 -- A row, a slot and a header, field by field: what was written is read, and what was read is written.
-use Prim.Native.Nat.{ℕ, _+_, _-_, _*_, _^_, _≤_, _<_}
+use Prim.Native.Nat.{ℕ, _+_, _-_, _≤_}
 use mathlib.Core.Path.{_≡_, refl, sym, ap, ap₂, _∙_}
-use mathlib.Core.List.{List, [], _∷_, _++_}
+use mathlib.Core.List.{List, _++_}
 use native.Mathlib.Omega.{arith}
-use lib.ListN.{length, length-append, length-replicate}
+use lib.ListN.{length, length-append}
 use lib.Seq.{take-at, take-all}
 use Rattle.octets.specs.Octets.{Bytes, part, splice, zeros}
-use Rattle.octets.proofs.Parts.{length-part, part-append-right, part-add, splice-left, splice-right, splice-whole}
+use Rattle.octets.proofs.Parts.{part-append-right, part-add, splice-left, splice-right, splice-whole}
+use Rattle.octets.proofs.Zeros.{length-zeros}
 use Rattle.bigendian.specs.BigEndian.{be, unbe}
-use Rattle.bigendian.proofs.Laws.{length-be, unbe-be, unbe-part-lt, be-unbe-part}
+use Rattle.bigendian.proofs.Laws.{length-be, unbe-be, be-unbe-part}
 use Rattle.layout.specs.declared.Row.{Row}
 use Rattle.layout.specs.Image.{Slot}
 use Rattle.layout.specs.Layout.{mark, headerSize, rowSize, slotSize, freeOffset, zeroOffset, zerosOffset, readRow, rowBytes, readSlot, slotBytes, headerBytes}
 use Rattle.layout.specs.Changes.{withNext}
 use Rattle.layout.specs.Fits.{RowFits, SlotFits}
-
-pub length-zeros : (n : ℕ) → length (zeros n) ≡ n
-unfolding zeros
-length-zeros n = length-replicate n 0
 
 pub length-rowBytes : (r : Row) → length (rowBytes r) ≡ rowSize
 unfolding rowBytes

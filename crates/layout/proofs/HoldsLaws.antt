@@ -1,6 +1,6 @@
 -- Bytes that are an image's table, through calls that change them: what a caller of this crate carries from call to call, with no offset.
 use Prim.Native.Nat.{ℕ, zero, suc, _^_, _≤_, _<_}
-use mathlib.Core.Path.{_≡_, refl, sym, ap, ap₂, _∙_, subst}
+use mathlib.Core.Path.{_≡_, refl, sym, ap, ap₂, _∙_}
 use mathlib.Core.List.{List}
 use native.Mathlib.Omega.{arith}
 use lib.ListN.{length, length-set}
@@ -10,7 +10,7 @@ use Rattle.layout.specs.Image.{Slot, Image, slotAt, setSlot}
 use Rattle.layout.specs.Layout.{logsOf, slotsOf, tableSize, readTable, writeTable, putRow, putSlot, putNext, putFree}
 use Rattle.layout.specs.Changes.{withRow, withSlot, withFree, withNext}
 use Rattle.layout.specs.Fits.{RowFits, SlotFits, Fits, Formed, Counted}
-use Rattle.layout.proofs.TableLaws.{length-rows, length-slots, length-write, logs-written, slots-written, read-write, formed-write, write-read, fits-read}
+use Rattle.layout.proofs.TableLaws.{length-rows, length-slots, length-write, logs-written, slots-written, read-write, write-read, fits-read}
 use Rattle.layout.proofs.SpliceLaws.{fits-row, fits-slot, fits-free, next-fits, write-row, write-slot, write-next, write-free}
 
 -- b is the table of the image m
@@ -48,9 +48,6 @@ module _ (b : List ℕ) (m : Image) (logs slots : ℕ) (h : Holds b m logs slots
 
   pub holds-image : readTable b ≡ m
   holds-image = ap readTable (h .is) ∙ read-write m (h .fits)
-
-  pub holds-formed : Formed b
-  holds-formed = subst Formed (sym (h .is)) (formed-write m (h .fits))
 
   -- one more call: a is the table after it
   pub holds-row : (a : List ℕ) (g : ℕ) (r : Row) → a ≡ putRow b g r → g < logs → RowFits r → Holds a (withRow m g r) logs slots

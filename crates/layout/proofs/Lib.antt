@@ -4,3 +4,6 @@ pub mod TableLaws
 pub mod SpliceLaws
 pub mod HoldsLaws
 pub mod CodeLaws
+pub mod TestLaws
+pub mod HeaderLaws
+pub mod BlankLaws

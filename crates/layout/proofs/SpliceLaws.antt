@@ -1,22 +1,22 @@
 -- A row, a slot, a next or the first free slot put into a table's bytes is that one set in its image; first on images, then on bytes.
 use Prim.Native.Nat.{ℕ, zero, suc, _+_, _-_, _*_, _^_, _≤_, _<_}
-use mathlib.Core.Path.{_≡_, refl, sym, ap, ap₂, _∙_, subst}
-use mathlib.Core.List.{List, [], _∷_, _++_}
+use mathlib.Core.Path.{_≡_, sym, ap, _∙_, subst}
+use mathlib.Core.List.{List, _++_}
 use native.Mathlib.Omega.{arith}
 use lib.ListN.{length, getD, set, length-set}
-use Rattle.octets.specs.Octets.{Bytes, part, splice}
+use Rattle.octets.specs.Octets.{Bytes, splice}
 use Rattle.octets.proofs.Parts.{splice-left, splice-whole}
 use Rattle.bigendian.specs.BigEndian.{be}
 use Rattle.bigendian.proofs.Laws.{length-be}
 use Rattle.layout.specs.declared.Row.{Row}
 use Rattle.layout.specs.Image.{Slot, Image, slotAt, setSlot, rowAt, freshRow, freeSlot}
 use Rattle.layout.specs.Lists.{flat}
-use Rattle.layout.specs.Layout.{headerSize, rowSize, slotSize, freeOffset, rowOffset, cellOffset, slotOffset, nextOffset, tableSize, logsOf, slotsOf, rowBytes, slotBytes, readTable, headerBytes, writeTable, putRow, putSlot, putNext, putFree}
+use Rattle.layout.specs.Layout.{headerSize, rowSize, slotSize, freeOffset, cellOffset, slotOffset, nextOffset, logsOf, slotsOf, rowBytes, slotBytes, readTable, headerBytes, writeTable, putRow, putSlot, putNext, putFree}
 use Rattle.layout.specs.Changes.{withRow, withSlot, withFree, withNext}
 use Rattle.layout.specs.Fits.{RowFits, SlotFits, Fits, Formed}
 use Rattle.layout.proofs.ListLaws.{every-set, splice-flat}
 use Rattle.layout.proofs.FieldLaws.{length-rowBytes, length-slotBytes, over, splice-next, splice-free}
-use Rattle.layout.proofs.TableLaws.{length-rows, length-slots, length-header, slot-lengths, length-rows-written, logs-written, read-write, formed-write, free-fits, write-read, fits-read}
+use Rattle.layout.proofs.TableLaws.{length-rows, length-slots, length-header, slot-lengths, length-rows-written, logs-written, read-write, free-fits, write-read, fits-read}
 
 -- the image still fits
 

@@ -1,21 +1,21 @@
 -- Bytes and images determine each other: what was written is read back, and bytes of a table's length and constants are what their image writes.
 use Prim.Native.Nat.{ℕ, zero, suc, _+_, _-_, _*_, _^_, _≤_, _<_}
-use mathlib.Core.Path.{_≡_, refl, sym, ap, ap₂, _∙_, subst}
-use mathlib.Core.List.{List, [], _∷_, _++_}
+use mathlib.Core.Path.{_≡_, sym, ap, ap₂, _∙_, subst}
+use mathlib.Core.List.{List, _++_}
 use native.Mathlib.Omega.{arith}
 use lib.ListN.{length, getD, length-append}
 use lib.Seq.{take-all}
 use Rattle.octets.specs.Octets.{Bytes, part, zeros}
 use Rattle.octets.proofs.Parts.{length-part, part-append-left, part-part, part-add, bytes-part}
-use Rattle.bigendian.specs.BigEndian.{be, unbe}
+use Rattle.bigendian.specs.BigEndian.{unbe}
 use Rattle.bigendian.proofs.Laws.{unbe-be, unbe-part-lt}
-use Rattle.layout.specs.declared.Row.{Row}
-use Rattle.layout.specs.Image.{Slot, Image, slotAt, rowAt, freshRow, freeSlot}
+use Rattle.layout.specs.Image.{Image, slotAt, rowAt, freshRow, freeSlot}
 use Rattle.layout.specs.Lists.{tabulate, flat}
-use Rattle.layout.specs.Layout.{mark, headerSize, rowSize, slotSize, freeOffset, zeroOffset, zerosOffset, rowOffset, cellOffset, slotOffset, padOffset, tableSize, logsOf, slotsOf, keeperOf, freeOf, keyOf, readRow, rowBytes, readSlot, slotBytes, rowsOf, cellsOf, readTable, headerBytes, writeTable}
+use Rattle.layout.specs.Layout.{headerSize, rowSize, slotSize, freeOffset, zeroOffset, zerosOffset, rowOffset, cellOffset, slotOffset, padOffset, tableSize, logsOf, slotsOf, keeperOf, freeOf, keyOf, readRow, rowBytes, readSlot, slotBytes, rowsOf, cellsOf, readTable, headerBytes, writeTable}
 use Rattle.layout.specs.Fits.{RowFits, SlotFits, Fits, Formed}
 use Rattle.layout.proofs.ListLaws.{length-tabulate, getD-tabulate, tabulate-ext, tabulate-getD, every-tabulate, length-flat, part-flat, flat-tabulate}
-use Rattle.layout.proofs.FieldLaws.{length-zeros, length-rowBytes, length-slotBytes, length-headerBytes, skip, read-row, write-row, read-slot, write-slot, pad-written, mark-header, logs-header, zero-header, slots-header, keeper-header, free-header, zeros-header, key-header, write-header}
+use Rattle.layout.proofs.FieldLaws.{length-rowBytes, length-slotBytes, length-headerBytes, skip, read-row, write-row, read-slot, write-slot, pad-written, mark-header, logs-header, zero-header, slots-header, keeper-header, free-header, zeros-header, key-header, write-header}
+use Rattle.octets.proofs.Zeros.{length-zeros}
 
 -- one row or slot of the image of bytes
 

@@ -6,7 +6,7 @@ use lib.ListN.{set}
 use lib.Dec.{eqb}
 use Rattle.layout.specs.declared.Row.{Row}
 use Rattle.layout.specs.declared.Link.{Link}
-use Rattle.layout.specs.Image.{Slot, Image, slotAt, setSlot}
+use Rattle.layout.specs.Image.{Slot, Image, setSlot}
 
 -- the image with another row of log g
 abbrev pub withRow : Image → ℕ → Row → Image

@@ -41,6 +41,13 @@ pub record Formed (b : List ℕ) : Type 0 where
   pub pads : (i : ℕ) → i < slotsOf b → part b (padOffset (logsOf b) i) 1 ≡ zeros 1
   pub sized : length b ≡ tableSize (logsOf b) (slotsOf b)
 
+-- "1 to 16 logs over one shared pool of 1 to 800 slots"
+pub record Range (logs slots : ℕ) : Type 0 where
+  pub logs-least : 1 ≤ logs
+  pub logs-most : logs ≤ 16
+  pub slots-least : 1 ≤ slots
+  pub slots-most : slots ≤ 800
+
 -- a table of so many logs and slots, both in range: what the functions on rows and slots ask
 pub record Counted (b : List ℕ) (logs slots : ℕ) : Type 0 where
   pub logs-are : logs ≡ logsOf b

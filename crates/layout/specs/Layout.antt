@@ -1,7 +1,7 @@
 -- Document 01, "Table bytes": where each field of a table stands, a table read off its bytes, and written. Sizes and offsets are named here and nowhere else.
 use Prim.Native.Nat.{ℕ, _+_, _-_, _*_}
 use mathlib.Core.List.{List, [], _∷_, _++_}
-use lib.ListN.{length, getD}
+use lib.ListN.{length}
 use Rattle.octets.specs.Octets.{part, splice, zeros}
 use Rattle.bigendian.specs.BigEndian.{be, unbe}
 use Rattle.layout.specs.declared.Row.{Row}

@@ -3,3 +3,4 @@ pub mod Fits
 pub mod Image
 pub mod Layout
 pub mod Lists
+pub mod Tests

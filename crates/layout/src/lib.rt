@@ -1,9 +1,6 @@
-// The table's bytes (document 01, "Table bytes"): its header, rows and slots read and written, each an equation with `Layout`.
-pub mod cells;
+// The table's bytes (document 01, "Table bytes"): what they say, where its parts stand, and a row as a value.
 mod changes;
-pub mod head;
 pub mod places;
-pub mod rows;
 
 // A log's row: low and high position, first and last slot of its chain.
 pub struct Row {

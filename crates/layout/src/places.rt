@@ -53,7 +53,7 @@ pub fn pair_at(s: &[u8], at: usize) -> usize
 }
 
 // Puts a number into the byte at a place.
-pub(crate) fn put_byte(out: &mut [u8], at: usize, n: usize)
+pub fn put_byte(out: &mut [u8], at: usize, n: usize)
     requires { ⌜ (at + 1 ≤ length (now out)) × (n < 256) ⌝ }
     ensures { λ _. ⌜ now (out .exit) ≡ splice (now (out .entry)) at (be 1 n) ⌝ }
 {
@@ -61,7 +61,7 @@ pub(crate) fn put_byte(out: &mut [u8], at: usize, n: usize)
 }
 
 // Puts a number into the two bytes at a place.
-pub(crate) fn put_pair(out: &mut [u8], at: usize, n: usize)
+pub fn put_pair(out: &mut [u8], at: usize, n: usize)
     requires { ⌜ (at + 2 ≤ length (now out)) × (n < 65536) ⌝ }
     ensures { λ _. ⌜ now (out .exit) ≡ splice (now (out .entry)) at (be 2 n) ⌝ }
 {

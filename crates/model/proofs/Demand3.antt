@@ -12,10 +12,11 @@ use Rattle.octets.proofs.Tests.{and-left}
 use Rattle.refusal.specs.Order.{afterwards}
 use Rattle.refusal.proofs.OrderLaws.{peel}
 use Rattle.layout.specs.Layout.{tableSize, readTable, writeTable}
-use Rattle.table.specs.Whole.{inRange, whole}
+use Rattle.table.specs.Whole.{whole}
+use Rattle.layout.specs.Tests.{inRange}
 use Rattle.table.specs.Format.{formatted, formatRefusal, formatBytes}
-use Rattle.table.specs.Conditions.{Range}
-use Rattle.table.proofs.HeaderLaws.{in-range}
+use Rattle.layout.specs.Fits.{Range}
+use Rattle.layout.proofs.HeaderLaws.{in-range}
 use Rattle.table.proofs.FormattedLaws.{formatted-fits}
 use Rattle.a2m.specs.Call.{Call, AllWide, replies, after}
 use Rattle.a2m.specs.TableCalls.{tableStep}

@@ -4,7 +4,7 @@ use mathlib.Core.Path.{_≡_, refl}
 use mathlib.Core.List.{List, map}
 use lib.Dec.{lit<}
 use Rattle.octets.specs.Octets.{same, zeros}
-use Rattle.bigendian.specs.BigEndian.{be, unbe}
+use Rattle.bigendian.specs.BigEndian.{be, unbe, placed}
 use Rattle.refusal.specs.Order.{firstFault}
 use Rattle.receipt.specs.Attestation.{LOOKUP, END, attestedBytes, receiptBytes, readAttestation}
 use Rattle.layout.specs.Image.{Image, slotAt, setSlot}
@@ -13,7 +13,8 @@ use Rattle.layout.specs.Lists.{tabulate}
 use Rattle.table.specs.Chains.{walk, reaches, chain, lastOf}
 use Rattle.table.specs.Free.{queue, queuedNext}
 use Rattle.table.specs.Format.{formatted}
-use Rattle.table.specs.WholeImage.{all, blank, freeOk, fresh, risingFrom, started, rowOk, rowsOk, heldBy, meets, wholeImage}
+use Rattle.table.specs.WholeImage.{all, freeOk, fresh, risingFrom, started, rowOk, rowsOk, heldBy, meets, wholeImage}
+use Rattle.layout.specs.Tests.{blank}
 use Rattle.a2m.specs.Call.{Call, replies, after}
 use Rattle.entry.specs.Digest.{entryDigest}
 use Rattle.a2m.specs.Search.{search, lookedUp}
@@ -21,7 +22,7 @@ use Rattle.a2m.specs.ImageCalls.{rowIn, entriesIn, wrongLength, misplaced, spen
 use Rattle.model.specs.Log.{lastEntry, keepFrom, keepBelow, entered, cutAt, standingAmong, standing, kindOf, referenceOf, examinedFor}
 use Rattle.model.specs.Model.{rules01, Model, newModel, logAt, total, isNil, modelRefusal, modelReceipt, shownFor, lookupReply, endReply, modelDone, modelAccept, modelStep}
 use Rattle.model.specs.Claim.{ShowsAt, SkipsAt, ForgetsAt}
-use Rattle.model.specs.Marked.{Line, placed, zero32, marked, answered}
+use Rattle.model.specs.Marked.{Line, zero32, marked, answered}
 
 pub marked-image : answered imageStep (λ (m : Image) (g : ℕ). rowIn m g .low) (λ (m : Image) (g : ℕ). rowIn m g .high) (formatted 2 3 7 (zeros 32)) marked ≡ marked
 unfolding formatted marked answered placed zero32 same zeros be unbe firstFault LOOKUP END attestedBytes receiptBytes readAttestation slotAt setSlot advancedRow truncatedRow tabulate walk reaches chain lastOf queue queuedNext all blank freeOk fresh risingFrom started rowOk rowsOk heldBy meets wholeImage entryDigest search lookedUp entriesIn wrongLength misplaced spent nothingHeld full faults imageRefusal joined put release releases lowered lookupAttested endAttested imageDone imageAccept imageStep

@@ -18,7 +18,7 @@ use Rattle.layout.proofs.ListLaws.{length-tabulate, getD-tabulate}
 use Rattle.layout.proofs.TableLaws.{length-rows, length-slots, write-read, fits-read, read-write}
 use Rattle.table.specs.Chains.{chain, lastOf, entriesOf}
 use Rattle.table.specs.Free.{freeChain}
-use Rattle.table.specs.Conditions.{Range}
+use Rattle.layout.specs.Fits.{Range}
 use Rattle.table.specs.Whole.{whole}
 use Rattle.table.proofs.WholeLaws.{whole-formed, whole-range, whole-image}
 use Rattle.table.specs.WholeImage.{heldBy, meets, wholeImage}

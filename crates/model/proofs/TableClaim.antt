@@ -8,7 +8,7 @@ use Rattle.layout.specs.Image.{Image}
 use Rattle.layout.specs.Layout.{readTable, writeTable}
 use Rattle.layout.specs.Fits.{Fits}
 use Rattle.layout.proofs.TableLaws.{read-write}
-use Rattle.table.specs.Conditions.{Range}
+use Rattle.layout.specs.Fits.{Range}
 use Rattle.table.specs.Whole.{whole}
 use Rattle.table.proofs.WholeLaws.{written-whole}
 use Rattle.a2m.specs.Call.{Call, AllWide, Reply, replies, after}

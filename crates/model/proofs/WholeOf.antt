@@ -1,9 +1,8 @@
 -- An image that says a sound model is whole.
 use Prim.Native.Nat.{ℕ, suc, _+_}
 use mathlib.Core.Path.{_≡_, refl, sym, ap, ap₂, _∙_}
-use mathlib.Core.Logic.{_≢_}
 use mathlib.Core.List.{List, [], _∷_, cons≢nil, tail-eq-of-cons-eq, head-eq-of-cons-eq}
-use mathlib.Core.Bool.{Bool, true, false, _&&_, _||_}
+use mathlib.Core.Bool.{true, _&&_}
 use native.Mathlib.Omega.{arith}
 use native.Mathlib.Nat.{zero-add, add-zero, add-suc, suc-add}
 use native.Mathlib.Decide.{ℕ-discrete}
@@ -11,12 +10,13 @@ use lib.ListN.{length, length-append, replicate}
 use lib.Dec.{eqb}
 use borrow.Author.Tests.{eqb-true, eq-eqb, le-leb}
 use Rattle.octets.specs.Octets.{same, zeros}
-use Rattle.octets.proofs.Tests.{and-left, and-right, and-both}
+use Rattle.octets.proofs.Tests.{and-left, and-right, and-both, or-right}
 use Rattle.octets.proofs.Same.{same-eq, same-refl}
 use Rattle.layout.specs.declared.Row.{Row}
 use Rattle.layout.specs.Image.{Entry, Slot, Image, entryOf, blankEntry, slotAt, rowAt}
 use Rattle.table.specs.Chains.{chain, lastOf, entriesOf}
-use Rattle.table.specs.WholeImage.{all, blank, freeOk, fresh, started, rowOk, rowsOk, heldBy, meets, wholeImage}
+use Rattle.table.specs.WholeImage.{all, freeOk, fresh, started, rowOk, rowsOk, heldBy, meets, wholeImage}
+use Rattle.layout.specs.Tests.{blank}
 use Rattle.a2m.proofs.Lists.{lastOf-nil}
 use Rattle.table.specs.Conditions.{Links}
 use Rattle.a2m.proofs.Links.{chain-links, reaches-links}
@@ -25,10 +25,6 @@ use Rattle.model.specs.Model.{Model, logAt, total}
 use Rattle.model.proofs.Represents.{Rep, RowRep, LogOk, Sound}
 use Rattle.model.proofs.Reading.{row-length, row-chain, free-chain}
 use Rattle.model.proofs.Positions.{positions, positions-of, rising-of, last-position, ok-empty, ok-low}
-
-or-right : (a b : Bool) → b ≡ true → a || b ≡ true
-or-right true b h = refl
-or-right false b h = h
 
 -- ---- blank slots
 

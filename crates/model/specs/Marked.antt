@@ -1,8 +1,8 @@
 -- Document 01's marked set: the 11 log calls of its script and the lines answered, as one table.
 use Prim.Native.Nat.{ℕ}
-use mathlib.Core.List.{List, [], _∷_, _++_}
+use mathlib.Core.List.{List, [], _∷_}
 use Rattle.octets.specs.Octets.{zeros}
-use Rattle.bigendian.specs.BigEndian.{be, unbe}
+use Rattle.bigendian.specs.BigEndian.{unbe, placed}
 use Rattle.receipt.specs.Attestation.{Attestation, readAttestation}
 use Rattle.a2m.specs.Call.{Call, append, advance, truncate, lookup, end, logOf, Reply, refused, done, found, ended, Outcome}
 
@@ -35,10 +35,6 @@ S = 2
 
 abbrev pub F : ℕ
 F = 3
-
--- "A value or digest is a number placed in the last 8 of 32 bytes, the rest zero."
-unfoldable pub placed : ℕ → List ℕ
-placed n = zeros 24 ++ be 8 n
 
 -- "Key and nonce are zero"; a lent receipt has 160 bytes
 unfoldable pub zero32 : List ℕ

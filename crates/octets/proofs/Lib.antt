@@ -1,3 +1,4 @@
 pub mod Tests
 pub mod Same
 pub mod Parts
+pub mod Zeros

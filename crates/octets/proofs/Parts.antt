@@ -6,7 +6,7 @@ use native.Mathlib.Nat.{add-zero, zero-add}
 use native.Mathlib.Numerals.{add-one}
 use native.Mathlib.Omega.{arith}
 use lib.ListN.{length, getD, take, drop, set, length-append, length-take, length-drop, drop-of-length-le, take-append-drop}
-use lib.Seq.{sets, sets-eq, set-split, drop-cons, take-add, drop-drop, take-take, length-take-le, take-at, drop-at, take-length, take-append-le, take-append-add, drop-append-le, drop-append-add, take-append-seam, getD-drop}
+use lib.Seq.{set-split, drop-cons, take-add, drop-drop, take-take, length-take-le, take-at, drop-at, take-length, take-append-le, take-append-add, drop-append-le, drop-append-add, take-append-seam, getD-drop}
 use borrow.Rule.Slice.PartMut.{putMid}
 use Rattle.octets.specs.Octets.{Bytes, part, splice}
 
@@ -127,11 +127,7 @@ pub splice-whole : (l x : List ℕ) → length x ≡ length l → splice l 0 x �
 unfolding splice
 splice-whole l x h = ap (λ (p : List ℕ). x ++ p) (drop-of-length-le l {i = 0 + length x} (omega arith)) ∙ append-nil x
 
--- one store after another
-pub sets-splice : (l : List ℕ) (at : ℕ) (x : List ℕ) → at + length x ≤ length l → sets l at x ≡ splice l at x
-unfolding splice
-sets-splice l at x h = sets-eq x l at h ∙ append-assoc (take at l) x (drop (at + length x) l)
-
+-- one store
 pub splice-byte : (l : List ℕ) (at b : ℕ) → at < length l → set l at b ≡ splice l at (b ∷ [])
 unfolding splice
 splice-byte l at b h = set-split l at b h ∙ ap (λ (k : ℕ). take at l ++ (b ∷ drop k l)) (sym (add-one at))
@@ -140,9 +136,6 @@ splice-byte l at b h = set-split l at b h ∙ ap (λ (k : ℕ). take at l ++ (b 
 
 pub part-between : (l : List ℕ) (at n : ℕ) → take (at + n - at) (drop at l) ≡ part l at n
 part-between l at n = let e : at + n - at ≡ n = omega arith in ap (λ (k : ℕ). take k (drop at l)) e
-
-pub between-size : (l : List ℕ) (at n : ℕ) → at + n ≤ length l → length (take (at + n - at) (drop at l)) ≡ n
-between-size l at n h = ap length (part-between l at n) ∙ length-part l at n h
 
 -- the whole after its part from at to at + n was lent and came back as y, which is x of n elements
 pub put-back : (l y x : List ℕ) (at n : ℕ) → y ≡ x → length x ≡ n → putMid at (at + n - at) l y ≡ splice l at x

@@ -1,4 +1,4 @@
--- Tests that are true or false: conjunctions taken apart and put together.
+-- Tests that are true or false: conjunctions and disjunctions taken apart and put together.
 use Prim.Native.Nat.{ℕ}
 use mathlib.Core.Path.{_≡_, refl, sym, ap, _∙_}
 use mathlib.Core.Bool.{Bool, true, false, not, _&&_, _||_}
@@ -31,6 +31,17 @@ and-false false = refl
 pub and-assoc : (a b c : Bool) → a && (b && c) ≡ a && b && c
 and-assoc true b c = refl
 and-assoc false b c = refl
+
+pub or-left : (a b : Bool) → a ≡ true → a || b ≡ true
+or-left a b h = simp h
+
+pub or-right : (a b : Bool) → b ≡ true → a || b ≡ true
+or-right true b h = refl
+or-right false b h = h
+
+pub or-cases : (a b : Bool) → a || b ≡ true → (a ≡ true) ⊎ (b ≡ true)
+or-cases true b h = inl refl
+or-cases false b h = inr h
 
 pub or-none : (a b : Bool) → a || b ≡ false → (a ≡ false) × (b ≡ false)
 or-none true b h = absurd (let z : _≡_ {A = ℕ} 0 1 = cc in omega arith)

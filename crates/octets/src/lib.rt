@@ -1,8 +1,8 @@
-// Byte slices: equality, and a copy into a part of a lent slice.
+// Byte slices: equality, zero bytes, and a copy into a part of a lent slice.
 ghost use mathlib.Core.Path.{_≡_};
 ghost use Prim.Native.Nat.{_+_, _≤_, _<_};
 ghost use lib.ListN.{length};
-ghost use Rattle.octets.specs.Octets.{splice, same};
+ghost use Rattle.octets.specs.Octets.{splice, same, zeros};
 
 // Whether a and b hold the same bytes. All bytes are looked at, so the time does not tell where they differ.
 pub fn equal(a: &[u8], b: &[u8]) -> bool
@@ -37,4 +37,17 @@ pub fn wide(b: u8) -> u64
     ensures { λ r. ⌜ (r ≡ b) × (r < 256) ⌝ }
 {
     b as u64
+}
+
+// Whether every byte is zero. All bytes are joined, with no branch in the loop.
+pub fn is_zero(s: &[u8]) -> bool
+    ensures { λ r. ⌜ r ≡ same (now (s .entry)) (zeros (length (now (s .entry)))) ⌝ }
+{
+    let mut any: u8 = 0;
+    let mut i = 0;
+    while i < s.len() {
+        any = any | s[i];
+        i += 1;
+    }
+    any == 0
 }

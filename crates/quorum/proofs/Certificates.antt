@@ -2,8 +2,7 @@
 -- first such receipt and exactly those members; a member's receipts count once; if no member has good receipts with different
 -- pairs, at most one pair is certified.
 use mathlib.Core.Path.{_≡_, refl, sym, ap, _∙_}
-use mathlib.Core.Logic.{_⊎_, ⊎-elim, _↔_}
-use mathlib.Core.Logic._⊎_.{inl, inr}
+use mathlib.Core.Logic.{⊎-elim, _↔_}
 use Prim.Native.Nat.{ℕ, zero, suc, _+_, _*_, _/_, _%_, _^_, _≤_, _<_}
 use native.Mathlib.Nat.{not-suc-le-zero}
 use native.Mathlib.Omega.{arith}
@@ -14,7 +13,7 @@ use lib.Dec.{eqb}
 use lib.ListN.{length}
 use borrow.Author.Tests.{eqb-true, leb-true, le-leb, not-false}
 use Rattle.octets.specs.Octets.{same}
-use Rattle.octets.proofs.Tests.{and-left, and-right, and-both, equal-or-not}
+use Rattle.octets.proofs.Tests.{and-left, and-right, and-both, or-left, or-right, or-cases, equal-or-not}
 use Rattle.octets.proofs.Same.{same-eq, eq-same, same-not}
 use Rattle.receipt.specs.Answer.{Answer, answer}
 use Rattle.receipt.proofs.AnswerLaws.{no-fault}
@@ -25,17 +24,6 @@ use Rattle.quorum.proofs.RosterLaws.{roster-odd, majority-most, majorit
 use Rattle.quorum.proofs.Masks.{mask-lt, mask-bit, count-eq, any-at}
 use Rattle.quorum.proofs.Good.{good-once}
 use Rattle.quorum.proofs.Tallies.{placed, by-first}
-
-or-cases : (a b : Bool) → a || b ≡ true → (a ≡ true) ⊎ (b ≡ true)
-or-cases true b h = inl refl
-or-cases false b h = inr h
-
-or-left : (a b : Bool) → a ≡ true → a || b ≡ true
-or-left a b h = simp h
-
-or-right : (a b : Bool) → b ≡ true → a || b ≡ true
-or-right true b h = refl
-or-right false b h = h
 
 -- a set that is counted has a member
 some-member : (n : ℕ) (f : ℕ → Bool) → 1 ≤ countBelow n f → (i : ℕ) × (i < n) × (f i ≡ true)

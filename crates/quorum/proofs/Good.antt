@@ -8,8 +8,7 @@ use mathlib.Core.List.{List, [], _∷_}
 use lib.Dec.{eqb}
 use lib.ListN.{length, getD, take, drop}
 use borrow.Author.Tests.{eqb-true, eq-eqb, ne-eqb}
-use Rattle.bigendian.specs.BigEndian.{unbe}
-use Rattle.octets.specs.Octets.{Bytes, part}
+use Rattle.octets.specs.Octets.{Bytes}
 use Rattle.octets.proofs.Tests.{and-left, and-right, and-both}
 use Rattle.refusal.specs.Number.{numberOf}
 use Rattle.refusal.specs.declared.Refusal.{Refusal}
@@ -32,10 +31,6 @@ refused-some : (w : Refusal) → numberOf w ≡ 0 → ⊥
 refused-some w e =
     let o : Turned w ≡ Done = outcomeNumber-injective (Turned w) Done e in
     let z : _≡_ {A = ℕ} 0 1 = cc in omega arith
-
-keeper-of : (r : List ℕ) → readAttestation r .keeper ≡ unbe (part r 8 8)
-unfolding readAttestation
-keeper-of r = refl
 
 kind-in : (a : Attestation) (k l p d f : ℕ) → carried a ≡ k ∷ l ∷ p ∷ d ∷ f ∷ [] → a .kind ≡ d
 unfolding carried
@@ -78,10 +73,10 @@ module _ (roster nonce : List ℕ) (log position : ℕ) (r : List ℕ) where
       (eqb-true (verdictBy i .number) 0 (and-left (eqb (verdictBy i .number) 0) _ h), eqb-true (readAttestation r .kind) 1 (and-right (eqb (verdictBy i .number) 0) _ h))
 
   -- it has the member's keeper number
-  good-keeper : (i : ℕ) → goodBy roster nonce log position r i ≡ true → unbe (part r 8 8) ≡ keeperAt roster i
+  good-keeper : (i : ℕ) → goodBy roster nonce log position r i ≡ true → readAttestation r .keeper ≡ keeperAt roster i
   good-keeper i h =
       let q : Question = askedOf roster nonce log position i in
-      sym (keeper-of r) ∙ answers-keeper (readAttestation r) q nonce (passes (keyAt roster i) r nonce q (good-number i h .0) .answers)
+      answers-keeper (readAttestation r) q nonce (passes (keyAt roster i) r nonce q (good-number i h .0) .answers)
 
   -- so it is good by one member at most
   pub good-once : distinct roster (size roster) ≡ true → (i j : ℕ) → i < size roster → j < size roster
@@ -104,21 +99,21 @@ module _ (roster nonce : List ℕ) (log position : ℕ) (r : List ℕ) where
 
   -- the member found by the keeper number
 
-  if-good : (f : Found) (i : ℕ) → member roster (unbe (part r 8 8)) (size roster) ≡ f → ifGood roster nonce log position r f ≡ At i
+  if-good : (f : Found) (i : ℕ) → member roster (readAttestation r .keeper) (size roster) ≡ f → ifGood roster nonce log position r f ≡ At i
       → (i < size roster) × (goodBy roster nonce log position r i ≡ true)
   if-good (At j) i m h = by (goodBy roster nonce log position r j) refl h
     where
       by : (b : Bool) → goodBy roster nonce log position r j ≡ b → cond b (At j) Nothing ≡ At i → (i < size roster) × (goodBy roster nonce log position r i ≡ true)
       by true e k =
           let z : j ≡ i = cc in
-          let l = member-below roster (unbe (part r 8 8)) (size roster) j m in
+          let l = member-below roster (readAttestation r .keeper) (size roster) j m in
           (omega arith, ap (goodBy roster nonce log position r) (sym z) ∙ e)
       by false e k = let z : _≡_ {A = ℕ} 0 1 = cc in absurd (omega arith)
   if-good Nothing i m h = let z : _≡_ {A = ℕ} 0 1 = cc in absurd (omega arith)
 
   pub member-good : (i : ℕ) → goodMember roster nonce log position r ≡ At i → (i < size roster) × (goodBy roster nonce log position r i ≡ true)
   unfolding goodMember
-  member-good i h = if-good (member roster (unbe (part r 8 8)) (size roster)) i refl h
+  member-good i h = if-good (member roster (readAttestation r .keeper) (size roster)) i refl h
 
   pub good-member : distinct roster (size roster) ≡ true → (i : ℕ) → i < size roster → goodBy roster nonce log position r i ≡ true → goodMember roster nonce log position r ≡ At i
   unfolding goodMember
@@ -151,15 +146,15 @@ module _ (roster nonce : List ℕ) (log position : ℕ) (r : List ℕ) where
 
   -- what the program notes for a receipt: no member, refused, of another kind, or good
 
-  pub of-none : (k : ℕ) → k ≡ unbe (part r 8 8) → member roster k (length roster / 40) ≡ Nothing → Nothing ≡ goodMember roster nonce log position r
+  pub of-none : (k : ℕ) → k ≡ readAttestation r .keeper → member roster k (length roster / 40) ≡ Nothing → Nothing ≡ goodMember roster nonce log position r
   unfolding goodMember size
   of-none k e h = ap (ifGood roster nonce log position r) (sym (ap (λ (x : ℕ). member roster x (length roster / 40)) (sym e) ∙ h))
 
-  of-item : (k i : ℕ) → k ≡ unbe (part r 8 8) → member roster k (length roster / 40) ≡ At i → cond (goodBy roster nonce log position r i) (At i) Nothing ≡ goodMember roster nonce log position r
+  of-item : (k i : ℕ) → k ≡ readAttestation r .keeper → member roster k (length roster / 40) ≡ At i → cond (goodBy roster nonce log position r i) (At i) Nothing ≡ goodMember roster nonce log position r
   unfolding goodMember size
   of-item k i e h = ap (ifGood roster nonce log position r) (sym (ap (λ (x : ℕ). member roster x (length roster / 40)) (sym e) ∙ h))
 
-  module _ (k i n : ℕ) (e : k ≡ unbe (part r 8 8)) (h : member roster k (length roster / 40) ≡ At i) (size-is : n ≡ 32) where
+  module _ (k i n : ℕ) (e : k ≡ readAttestation r .keeper) (h : member roster k (length roster / 40) ≡ At i) (size-is : n ≡ 32) where
     -- the question asked with the keeper number that was read
     asked : {a : Answer} → a ≡ verdict (take n (drop (i * 40 + 8) roster)) r nonce (record { keeper = k; log = log; ask = askedOf roster nonce log position i .ask }) → a ≡ verdictBy i
     unfolding keyAt

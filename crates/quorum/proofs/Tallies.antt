@@ -16,6 +16,7 @@ use Rattle.octets.specs.Octets.{same}
 use Rattle.octets.proofs.Tests.{equal-or-not}
 use Rattle.refusal.specs.Order.{firstFault}
 use Rattle.receipt.specs.Answer.{Answer, answer, answerWith}
+use Rattle.receipt.specs.Attestation.{receiptSize}
 use Rattle.quorum.specs.Bits.{anyBelow, maskBelow}
 use Rattle.quorum.specs.Roster.{size, isRoster, distinct, majority}
 use Rattle.quorum.specs.Certificate.{receiptCount, isCertificate, receiptAt, pairAt, isNone, goodBy, showsIn, shows, certified, goodAt, firstOf, firstPlace, named, certificateRefusal, certificate}
@@ -208,13 +209,13 @@ module _ (roster nonce : List ℕ) (log position : ℕ) (cert : List ℕ) where
     no-roster h = simp (eq-eqb (length nonce) 32 n, h)
 
     module _ (r : isRoster roster ≡ true) where
-      pub not-whole : (length cert % 160 ≡ 0 → ⊥) → answer 9 [] ≡ certificate roster nonce log position cert
+      pub not-whole : (length cert % receiptSize ≡ 0 → ⊥) → answer 9 [] ≡ certificate roster nonce log position cert
       unfolding certificate certificateRefusal firstFault answerWith isCertificate
-      not-whole h = simp (eq-eqb (length nonce) 32 n, r, ne-eqb (length cert % 160) 0 h)
+      not-whole h = simp (eq-eqb (length nonce) 32 n, r, ne-eqb (length cert % receiptSize) 0 h)
 
-      pub too-many-receipts : length cert % 160 ≡ 0 → 32 < length cert / 160 → answer 9 [] ≡ certificate roster nonce log position cert
+      pub too-many-receipts : length cert % receiptSize ≡ 0 → 32 < length cert / receiptSize → answer 9 [] ≡ certificate roster nonce log position cert
       unfolding certificate certificateRefusal firstFault answerWith isCertificate receiptCount
-      too-many-receipts w h = simp (eq-eqb (length nonce) 32 n, r, eq-eqb (length cert % 160) 0 w, lt-leb (length cert / 160) 32 h)
+      too-many-receipts w h = simp (eq-eqb (length nonce) 32 n, r, eq-eqb (length cert % receiptSize) 0 w, lt-leb (length cert / receiptSize) 32 h)
 
       by-place : (o : Option ℕ) → placed roster nonce log position cert [] o ≡ cond (isNone o) (answer 13 []) (answer 0 (named roster nonce log position cert o))
       by-place none = refl
@@ -240,6 +241,6 @@ module _ (roster nonce : List ℕ) (log position : ℕ) (cert : List ℕ) where
           first-is roster nonce log position cert t (roster-distinct roster r) (omega (arith, roster-most roster r)) c (majority (size roster)) (receiptCount cert) 0 (omega arith)
           ∙ by-first h
 
-  pub is-certificate : length cert % 160 ≡ 0 → length cert / 160 ≤ 32 → isCertificate cert ≡ true
+  pub is-certificate : length cert % receiptSize ≡ 0 → length cert / receiptSize ≤ 32 → isCertificate cert ≡ true
   unfolding isCertificate receiptCount
-  is-certificate w h = simp (eq-eqb (length cert % 160) 0 w, le-leb (length cert / 160) 32 h)
+  is-certificate w h = simp (eq-eqb (length cert % receiptSize) 0 w, le-leb (length cert / receiptSize) 32 h)

@@ -11,7 +11,7 @@ use Rattle.octets.specs.Octets.{part, same}
 use Rattle.refusal.specs.Number.{numberOf}
 use Rattle.refusal.specs.Order.{fault, firstFault}
 use Rattle.receipt.specs.Answer.{Answer, answer, answerWith}
-use Rattle.receipt.specs.Attestation.{readAttestation}
+use Rattle.receipt.specs.Attestation.{receiptSize, readAttestation, pairIn}
 use Rattle.receipt.specs.Verdict.{verdict}
 use Rattle.receipt.specs.declared.Ask.the-variants.{Lookup}
 use Rattle.receipt.specs.declared.Question.{Question}
@@ -27,19 +27,19 @@ stationAnswer (Refused why) = answer (numberOf why) []
 
 -- the number of receipts in a certificate
 unfoldable pub receiptCount : List ℕ → ℕ
-receiptCount cert = length cert / 160
+receiptCount cert = length cert / receiptSize
 
 -- "A certificate is 0 to 32 receipts on end"
 unfoldable pub isCertificate : List ℕ → Bool
-isCertificate cert = eqb (length cert % 160) 0 && leb (receiptCount cert) 32
+isCertificate cert = eqb (length cert % receiptSize) 0 && leb (receiptCount cert) 32
 
 -- the receipt at a place: "Places of receipts count from 0 too"
 unfoldable pub receiptAt : List ℕ → ℕ → List ℕ
-receiptAt cert p = part cert (p * 160) 160
+receiptAt cert p = part cert (p * receiptSize) receiptSize
 
--- its value and digest, "64–95 value; 96–127 digest"
+-- its value and digest
 unfoldable pub pairAt : List ℕ → ℕ → List ℕ
-pairAt cert p = part cert (p * 160 + 64) 64
+pairAt cert p = pairIn (receiptAt cert p)
 
 -- no place was found
 abbrev pub isNone : Option ℕ → Bool

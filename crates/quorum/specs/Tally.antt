@@ -7,9 +7,9 @@ use lib.ListN.{getD, set}
 use lib.Dec.{eqb, leb}
 use lib.Bits.{bitOr}
 use lib.Count.{ones}
-use Rattle.bigendian.specs.BigEndian.{unbe}
-use Rattle.octets.specs.Octets.{part, same}
+use Rattle.octets.specs.Octets.{same}
 use Rattle.receipt.specs.Answer.{Answer, answer}
+use Rattle.receipt.specs.Attestation.{readAttestation}
 use Rattle.quorum.specs.Bits.{maskBelow}
 use Rattle.quorum.specs.Roster.{size, keeperAt}
 use Rattle.quorum.specs.Certificate.{goodBy, receiptAt, pairAt}
@@ -30,7 +30,7 @@ module _ (roster nonce : List ℕ) (log position : ℕ) where
   ifGood r Nothing = Nothing
 
   unfoldable pub goodMember : List ℕ → Found
-  goodMember r = ifGood r (member roster (unbe (part r 8 8)) (size roster))
+  goodMember r = ifGood r (member roster (readAttestation r .keeper) (size roster))
 
 abbrev pub codeOf : Found → ℕ
 codeOf (At i) = i + 1

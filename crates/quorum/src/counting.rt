@@ -2,16 +2,18 @@
 ghost use mathlib.Core.Path.{_≡_};
 ghost use Prim.Native.Nat.{_*_, _≤_, _<_};
 ghost use lib.ListN.{length};
+ghost use Rattle.receipt.specs.Attestation.{receiptSize};
 ghost use Rattle.quorum.specs.Roster.{size};
 ghost use Rattle.quorum.specs.Tally.{goodMember, noted, Codes};
 use super::Found;
 use super::Tally;
 use super::members::find;
-use bigendian::get_u64;
+use super::receipts::receipt_at;
 use receipt::Ask;
 use receipt::Question;
 use receipt::Verdict;
-use receipt::verify;
+use receipt_fields::keeper_of;
+use receipt_verify::verify;
 
 // The tally with the receipt r, of place p, in it. The verifier's answer is taken apart: a good receipt's member is noted at
 // its place, and a receipt that does not check leaves the tally as it is.
@@ -24,10 +26,10 @@ fn count_receipt(
     position: u64,
     r: &[u8],
 ) -> Tally
-    requires { ⌜ (p < 32) × ((length (now r) ≡ 160) × (size (now roster) ≤ 32)) ⌝ }
+    requires { ⌜ (p < 32) × ((length (now r) ≡ receiptSize) × (size (now roster) ≤ 32)) ⌝ }
     ensures { λ t. ⌜ t .codes ≡ noted (tally .codes) p (goodMember (now (roster .entry)) (now (nonce .entry)) log position (now (r .entry))) ⌝ }
 {
-    let keeper = get_u64(r, 8);
+    let keeper = keeper_of(r);
     let n = roster.len() / 40;
     let Found::At(i) = find(roster, n, keeper) else {
         return tally;
@@ -63,15 +65,14 @@ pub fn tally_of(
     cert: &[u8],
     count: usize,
 ) -> Tally
-    requires { ⌜ (count * 160 ≤ length (now cert)) × ((count ≤ 32) × (size (now roster) ≤ 32)) ⌝ }
+    requires { ⌜ (count * receiptSize ≤ length (now cert)) × ((count ≤ 32) × (size (now roster) ≤ 32)) ⌝ }
     ensures { λ r. ⌜ (length (r .codes) ≡ 32) × Codes (now (roster .entry)) (now (nonce .entry)) log position (now (cert .entry)) count (r .codes) ⌝ }
 {
     let mut tally = Tally { codes: [0u8; 32] };
     let mut p = 0;
     while p < count {
-        let at = p * 160;
-        let end = at + 160;
-        tally = count_receipt(tally, p, roster, nonce, log, position, &cert[at..end]);
+        let r = receipt_at(cert, p);
+        tally = count_receipt(tally, p, roster, nonce, log, position, r);
         p += 1;
     }
     tally

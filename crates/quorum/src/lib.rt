@@ -2,6 +2,7 @@
 mod counting;
 mod members;
 mod places;
+mod receipts;
 
 ghost use mathlib.Core.Path.{_≡_};
 ghost use Rattle.quorum.specs.Certificate.{certificate, stationAnswer};
@@ -9,6 +10,7 @@ use counting::tally_of;
 use members::is_roster;
 use members::majority;
 use places::first_place;
+use receipt::RECEIPT;
 use refusal::Refusal;
 
 // The verdict on a certificate: the place of the first good receipt whose pair is certified and the members that show the
@@ -46,10 +48,10 @@ pub fn certify(roster: &[u8], nonce: &[u8], log: u64, position: u64, cert: &[u8]
     if !is_roster(roster) {
         return Station::Refused(Refusal::Roster);
     }
-    if cert.len() % 160 != 0 {
+    if cert.len() % RECEIPT != 0 {
         return Station::Refused(Refusal::NoReceipt);
     }
-    let count = cert.len() / 160;
+    let count = cert.len() / RECEIPT;
     if 32 < count {
         return Station::Refused(Refusal::NoReceipt);
     }

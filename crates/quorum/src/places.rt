@@ -4,10 +4,12 @@ ghost use Prim.Native.Nat.{_+_, _-_, _*_, _^_, _≤_, _<_};
 ghost use lib.Bits.{bitOr};
 ghost use lib.ListN.{length, getD};
 ghost use Rattle.octets.specs.Octets.{same};
+ghost use Rattle.receipt.specs.Attestation.{receiptSize};
 ghost use Rattle.quorum.specs.Certificate.{pairAt, stationAnswer};
 ghost use Rattle.quorum.specs.Tally.{Bounded, withCode, maskAt, triedAt, firstIn};
 use super::Station;
 use super::Tried;
+use super::receipts::pair_at;
 use octets::equal;
 use refusal::Refusal;
 
@@ -23,18 +25,16 @@ fn with_bit(mask: u32, code: u8) -> u32
 // The mask with the member of place q in it, if its receipt is good and shows the pair of place p.
 fn with_place(mask: u32, tally: &[u8], cert: &[u8], p: usize, q: usize) -> u32
     requires { ⌜ (q < length (now tally)) × (getD (now tally) q 0 ≤ 32) ⌝ }
-    requires { ⌜ (p * 160 + 160 ≤ length (now cert)) × (q * 160 + 160 ≤ length (now cert)) ⌝ }
+    requires { ⌜ (p * receiptSize + receiptSize ≤ length (now cert)) × (q * receiptSize + receiptSize ≤ length (now cert)) ⌝ }
     ensures { λ r. ⌜ r ≡ withCode mask (getD (now (tally .entry)) q 0) (same (pairAt (now (cert .entry)) q) (pairAt (now (cert .entry)) p)) ⌝ }
 {
     let code = tally[q];
     if code == 0 {
         return mask;
     }
-    let a = q * 160 + 64;
-    let b = p * 160 + 64;
-    let a_end = a + 64;
-    let b_end = b + 64;
-    if !equal(&cert[a..a_end], &cert[b..b_end]) {
+    let a = pair_at(cert, q);
+    let b = pair_at(cert, p);
+    if !equal(a, b) {
         return mask;
     }
     with_bit(mask, code)
@@ -42,7 +42,7 @@ fn with_place(mask: u32, tally: &[u8], cert: &[u8], p: usize, q: usize) -> u32
 
 // The members that show the pair of place p, one bit each.
 fn mask_of(tally: &[u8], cert: &[u8], count: usize, p: usize) -> u32
-    requires { ⌜ (count ≤ length (now tally)) × ((count * 160 ≤ length (now cert)) × (p < count)) ⌝ }
+    requires { ⌜ (count ≤ length (now tally)) × ((count * receiptSize ≤ length (now cert)) × (p < count)) ⌝ }
     requires { ⌜ Bounded (now tally) count ⌝ }
     ensures { λ r. ⌜ r ≡ maskAt (now (tally .entry)) (now (cert .entry)) count p ⌝ }
 {
@@ -57,7 +57,7 @@ fn mask_of(tally: &[u8], cert: &[u8], count: usize, p: usize) -> u32
 
 // Whether place p has a good receipt whose pair `need` members show.
 fn try_place(tally: &[u8], cert: &[u8], need: u32, count: usize, p: usize) -> Tried
-    requires { ⌜ (count ≤ length (now tally)) × ((count * 160 ≤ length (now cert)) × (p < count)) ⌝ }
+    requires { ⌜ (count ≤ length (now tally)) × ((count * receiptSize ≤ length (now cert)) × (p < count)) ⌝ }
     requires { ⌜ Bounded (now tally) count ⌝ }
     ensures { λ r. ⌜ r ≡ triedAt (now (tally .entry)) (now (cert .entry)) need count p ⌝ }
 {
@@ -74,7 +74,7 @@ fn try_place(tally: &[u8], cert: &[u8], need: u32, count: usize, p: usize) -> Tr
 
 // The first good receipt whose pair is certified.
 pub fn first_place(tally: &[u8], cert: &[u8], need: u32, count: usize) -> Station
-    requires { ⌜ (count ≤ length (now tally)) × (count * 160 ≤ length (now cert)) ⌝ }
+    requires { ⌜ (count ≤ length (now tally)) × (count * receiptSize ≤ length (now cert)) ⌝ }
     requires { ⌜ Bounded (now tally) count ⌝ }
     ensures { λ r. ⌜ stationAnswer r ≡ firstIn (now (tally .entry)) (now (cert .entry)) need count count 0 ⌝ }
 {

@@ -10,7 +10,7 @@ use Rattle.bigendian.proofs.Laws.{length-be, unbe-be, unbe-part-lt, be-unbe-par
 use Rattle.hmac.specs.Hmac.{hmac}
 use Rattle.octets.specs.Octets.{Bytes, part}
 use Rattle.octets.proofs.Parts.{length-part, part-add, part-run}
-use Rattle.receipt.specs.Attestation.{Attestation, attestedBytes, receiptBytes, readAttestation, Sized}
+use Rattle.receipt.specs.Attestation.{Attestation, attestedBytes, receiptBytes, readAttestation, pairIn, Sized}
 
 -- two attestations are equal by their fields
 made : List ℕ → ℕ → ℕ → ℕ → ℕ → ℕ → List ℕ → List ℕ → List ℕ → Attestation
@@ -57,6 +57,11 @@ read-attested a s t =
     let value = next l (a .value) t8 64 32 (nonce .1) (s .value) in
     let digest = next l (a .digest) t 96 32 (value .1) (s .digest) in
     by-fields (readAttestation l) a (name .0) kind log (keeper .0) (position .0) (reference .0) (nonce .0) (value .0) (digest .0)
+
+-- value and digest stand on end
+pub pair-bytes : (b : List ℕ) → part b 64 64 ≡ pairIn b
+unfolding pairIn readAttestation
+pair-bytes b = part-add b 64 32 32
 
 -- a receipt's bytes say what it attests
 pub read-receipt : (key : List ℕ) (a : Attestation) → Sized a → readAttestation (receiptBytes key a) ≡ a

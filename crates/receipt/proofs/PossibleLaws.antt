@@ -1,16 +1,16 @@
 -- The tests agree with the conditions: possible entries, and what a question asks.
-use mathlib.Core.Path.{_≡_, refl, sym, ap, _∙_}
+use mathlib.Core.Path.{_≡_, sym, ap, _∙_}
 use mathlib.Core.Logic.{_⊎_, ⊎-elim, _↔_}
 use mathlib.Core.Logic._⊎_.{inl, inr}
 use Prim.Native.Nat.{ℕ, _≤_, _<_}
 use native.Mathlib.Omega.{arith}
-use mathlib.Core.Bool.{Bool, true, false, _&&_, _||_}
+use mathlib.Core.Bool.{Bool, true, _&&_}
 use mathlib.Core.List.{List}
 use lib.ListN.{getD}
 use lib.Dec.{eqb, ltb, leb}
 use borrow.Author.Tests.{lt-ltb, eq-eqb, ne-eqb, eqb-true, ltb-true, leb-true}
 use Rattle.octets.specs.Octets.{same, zeros}
-use Rattle.octets.proofs.Tests.{and-left, and-right, and-both, equal-or-not}
+use Rattle.octets.proofs.Tests.{and-left, and-right, and-both, or-right, or-cases, equal-or-not}
 use Rattle.octets.proofs.Same.{same-eq, eq-same}
 use Rattle.receipt.specs.Attestation.{Attestation, LOOKUP, END}
 use Rattle.receipt.specs.Possible.{isName, referenceFits, isBlank, blankFits, possible, Possible}
@@ -18,14 +18,6 @@ use Rattle.receipt.specs.Verdict.{asks, Asks}
 use Rattle.receipt.specs.declared.Ask.{Ask}
 use Rattle.receipt.specs.declared.Ask.the-variants.{Lookup, End}
 use Rattle.receipt.proofs.Cases.{reference-at, reference-below, reference-above, assigned-fits, by-blank, by-kind}
-
-or-cases : (a b : Bool) → a || b ≡ true → (a ≡ true) ⊎ (b ≡ true)
-or-cases true b h = inl refl
-or-cases false b h = inr h
-
-or-right : (a : Bool) → a || true ≡ true
-or-right true = refl
-or-right false = refl
 
 lookup-is-not-end : LOOKUP ≡ END → ⊥
 unfolding LOOKUP END
@@ -38,7 +30,7 @@ name-sound n h = ⊎-elim (λ k. inl (same-eq n LOOKUP k)) (λ k. inr (same-eq n
 name-complete : (n : List ℕ) → (n ≡ LOOKUP) ⊎ (n ≡ END) → isName n ≡ true
 unfolding isName
 name-complete n (inl h) = simp (eq-same n LOOKUP h)
-name-complete n (inr h) = rw (eq-same n END h) (or-right (same n LOOKUP))
+name-complete n (inr h) = or-right (same n LOOKUP) (same n END) (eq-same n END h)
 
 module _ (a : Attestation) where
   abbrev reference-test : Bool

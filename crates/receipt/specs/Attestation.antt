@@ -7,6 +7,10 @@ use Rattle.octets.specs.Octets.{part}
 use Rattle.bigendian.specs.BigEndian.{be, unbe}
 use Rattle.hmac.specs.Hmac.{hmac}
 
+-- the size of a receipt
+abbrev pub receiptSize : ℕ
+receiptSize = 160
+
 -- what a receipt attests: document 01's "entry" of a receipt. Kinds: 0 unassigned, 1 assigned, 2 skipped, 3 forgotten
 pub record Attestation : Type 0 where
   pub name : List ℕ
@@ -48,6 +52,17 @@ readAttestation b = record {
   value = part b 64 32;
   digest = part b 96 32;
 }
+
+-- its value and digest, on end
+unfoldable pub pairIn : List ℕ → List ℕ
+pairIn b = readAttestation b .value ++ readAttestation b .digest
+
+-- bytes 0–127, and the tag behind them
+abbrev pub attestedIn : List ℕ → List ℕ
+attestedIn b = part b 0 128
+
+abbrev pub tagIn : List ℕ → List ℕ
+tagIn b = part b 128 32
 
 -- every field fits its bytes
 pub record Sized (a : Attestation) : Type 0 where

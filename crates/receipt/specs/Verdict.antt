@@ -6,12 +6,12 @@ use mathlib.Core.List.{List, [], _∷_}
 use mathlib.Core.Option.{Option}
 use lib.ListN.{length}
 use lib.Dec.{eqb}
-use Rattle.octets.specs.Octets.{part, same}
+use Rattle.octets.specs.Octets.{same}
 use Rattle.refusal.specs.Number.{numberOf}
 use Rattle.refusal.specs.Order.{fault, firstFault}
 use Rattle.hmac.specs.Hmac.{hmac}
 use Rattle.receipt.specs.Answer.{Answer, answer, answerWith}
-use Rattle.receipt.specs.Attestation.{Attestation, LOOKUP, END, readAttestation, receiptBytes, Sized}
+use Rattle.receipt.specs.Attestation.{receiptSize, Attestation, LOOKUP, END, readAttestation, attestedIn, tagIn, receiptBytes, Sized}
 use Rattle.receipt.specs.Possible.{Possible, possible}
 use Rattle.receipt.specs.declared.Ask.{Ask}
 use Rattle.receipt.specs.declared.Ask.the-variants.{Lookup, End}
@@ -37,9 +37,9 @@ asks End a = same (a .name) END
 unfoldable pub answers : Attestation → Question → List ℕ → Bool
 answers a q nonce = eqb (a .keeper) (q .keeper) && (eqb (a .log) (q .log) && (same (a .nonce) nonce && asks (q .ask) a))
 
--- "HMAC-SHA-256 of bytes 0–127 under the key follows": bytes 128–159
+-- "HMAC-SHA-256 of bytes 0–127 under the key follows"
 unfoldable pub isTagged : List ℕ → List ℕ → Bool
-isTagged key r = same (part r 128 32) (hmac key (part r 0 128))
+isTagged key r = same (tagIn r) (hmac key (attestedIn r))
 
 -- "verifier 7, 9, 10, 11, its receipt's length falling under 9"
 unfoldable pub verifyRefusal : List ℕ → List ℕ → List ℕ → Question → Option ℕ
@@ -47,7 +47,7 @@ verifyRefusal key r nonce q =
     firstFault
     (fault 7 (not (eqb (length key) 32)) ∷
     fault 7 (not (eqb (length nonce) 32)) ∷
-    fault 9 (not (eqb (length r) 160)) ∷
+    fault 9 (not (eqb (length r) receiptSize)) ∷
     fault 9 (not (possible (readAttestation r))) ∷
     fault 10 (not (isTagged key r)) ∷
     fault 11 (not (answers (readAttestation r) q nonce)) ∷ [])

@@ -7,7 +7,7 @@ use lib.ListN.{length}
 use lib.Dec.{eqb}
 use Rattle.bigendian.specs.BigEndian.{be}
 use Rattle.refusal.specs.Order.{fault, firstFault}
-use Rattle.receipt.specs.Attestation.{Attestation, LOOKUP, END}
+use Rattle.receipt.specs.Attestation.{receiptSize, Attestation, LOOKUP, END}
 use Rattle.receipt.specs.declared.Name.{Name}
 use Rattle.receipt.specs.declared.Name.the-variants.{Lookup, End}
 use Rattle.receipt.specs.declared.Facts.{Facts}
@@ -44,4 +44,4 @@ writeRefusal key nonce value digest out =
     fault 7 (not (eqb (length nonce) 32)) ∷
     fault 7 (not (eqb (length value) 32)) ∷
     fault 7 (not (eqb (length digest) 32)) ∷
-    fault 7 (not (eqb (length out) 160)) ∷ [])
+    fault 7 (not (eqb (length out) receiptSize)) ∷ [])

@@ -5,13 +5,11 @@ use mathlib.Core.Bool.{true, false}
 use mathlib.Core.List.{List}
 use mathlib.Core.Option.{Option, none, some}
 use native.Mathlib.Omega.{arith}
-use lib.ListN.{getD}
 use borrow.Author.Tests.{eq-eqb, ne-eqb}
 use Rattle.octets.specs.Octets.{Bytes, part, splice, zeros}
-use Rattle.octets.proofs.Parts.{part-part}
-use Rattle.bigendian.specs.BigEndian.{be, unbe}
+use Rattle.bigendian.specs.BigEndian.{be, unbe, placed}
 use Rattle.refusal.specs.Number.{numberOf}
-use Rattle.receipt.specs.Attestation.{readAttestation}
+use Rattle.receipt.specs.Attestation.{Attestation}
 use Rattle.layout.specs.declared.Row.{Row}
 use Rattle.layout.specs.Layout.{logsOf, readTable}
 use Rattle.table.specs.Whole.{whole}
@@ -23,7 +21,7 @@ use Rattle.a2m.specs.TableCalls.{tableRefusal, tableStep}
 use Rattle.a2m.specs.Opened.{changeReply}
 use Rattle.a2m.proofs.Unchanged.{Reads, refused-unchanged, read-unchanged}
 use Rattle.script.specs.declared.Answer.the-variants.{Plain, Bounded, Attested}
-use Rattle.script.specs.Answer.{placed, letterOf, numberIn, attestedAnswer, replyAnswer, callAnswer}
+use Rattle.script.specs.Answer.{letterOf, numberIn, attestedAnswer, replyAnswer, callAnswer}
 use Rattle.script.specs.Named.{Named, ChangeNamed, changeAnswer}
 use Rattle.script.proofs.CallLaws.{accepted-named, refused-named, Changes, done-row}
 
@@ -72,19 +70,18 @@ module _ (k : ℕ) where
   unfolding letterOf
   letter-f n m o = rw (ne-eqb k 0 n, ne-eqb k 1 m, ne-eqb k 2 o)
 
--- the value as a number, read off the receipt
-pub value-read : (receipt : List ℕ) → unbe (part receipt 88 8) ≡ numberIn (readAttestation receipt .value)
-unfolding numberIn readAttestation
-value-read receipt = ap unbe (sym (part-part receipt 64 32 24 8 (omega arith)))
-
 -- the answer that a receipt gives, field by field
-pub attested-fields : (receipt : List ℕ) (row row′ : Row) (k p r v : ℕ) → row ≡ row′ → k ≡ letterOf (getD receipt 6 0) → p ≡ unbe (part receipt 16 8)
-    → r ≡ unbe (part receipt 24 8) → v ≡ unbe (part receipt 88 8) → Attested k p r v (row .low) (row .high) ≡ attestedAnswer (readAttestation receipt) row′
-unfolding readAttestation
-attested-fields receipt row row′ k p r v e a b c d =
-    ap₂ (λ (x y : ℕ). Attested x y r v (row .low) (row .high)) a b
-    ∙ ap₂ (λ (x y : ℕ). Attested (letterOf (getD receipt 6 0)) (unbe (part receipt 16 8)) x y (row .low) (row .high)) c (d ∙ value-read receipt)
-    ∙ ap (λ (x : Row). Attested (letterOf (getD receipt 6 0)) (unbe (part receipt 16 8)) (unbe (part receipt 24 8)) (numberIn (readAttestation receipt .value)) (x .low) (x .high)) e
+pub attested-fields : (a : Attestation) (row row′ : Row) (k p r v : ℕ) → row ≡ row′ → k ≡ letterOf (a .kind) → p ≡ a .position → r ≡ a .reference → v ≡ numberIn (a .value)
+    → Attested k p r v (row .low) (row .high) ≡ attestedAnswer a row′
+attested-fields a row row′ k p r v e ek ep er ev =
+    ap₂ (λ (x y : ℕ). Attested x y r v (row .low) (row .high)) ek ep
+    ∙ ap₂ (λ (x y : ℕ). Attested (letterOf (a .kind)) (a .position) x y (row .low) (row .high)) er ev
+    ∙ ap (λ (x : Row). attestedAnswer a x) e
+
+-- the value as a number, read in a list that is the value's
+pub value-read : (x y : List ℕ) (n : ℕ) → n ≡ unbe (part x 24 8) → x ≡ y → n ≡ numberIn y
+unfolding numberIn
+value-read x y n e h = e ∙ ap numberIn h
 
 -- ---- a change
 

@@ -7,7 +7,8 @@ use mathlib.Core.Option.{Option, some}
 use Rattle.octets.specs.Octets.{same}
 use Rattle.refusal.specs.Order.{firstFault}
 use Rattle.layout.specs.Layout.{readTable}
-use Rattle.table.specs.Whole.{constantsFit, headerFits, whole}
+use Rattle.table.specs.Whole.{whole}
+use Rattle.layout.specs.Tests.{constantsFit, headerFits}
 use Rattle.a2m.specs.Call.{Call, Reply, refused}
 use Rattle.a2m.specs.ImageCalls.{wrongLength, faults}
 use Rattle.a2m.specs.TableCalls.{tableRefusal, tableStep}

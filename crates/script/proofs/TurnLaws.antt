@@ -16,7 +16,7 @@ use Rattle.octets.proofs.Parts.{bytes-part}
 use Rattle.octets.proofs.Tests.{and-false}
 use Rattle.refusal.specs.Order.{firstFault, answerOf, afterwards}
 use Rattle.layout.specs.Layout.{tableSize, writeTable}
-use Rattle.table.specs.Whole.{inRange}
+use Rattle.layout.specs.Tests.{inRange}
 use Rattle.table.specs.Format.{formatted, formatRefusal, formatBytes}
 use Rattle.line.specs.declared.Command.{Command}
 use Rattle.line.specs.declared.Command.the-variants.{Format}

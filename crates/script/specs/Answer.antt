@@ -1,10 +1,10 @@
 -- Document 01, "The script program": what a call is answered in a script.
 use Prim.Native.Nat.{ℕ}
 use mathlib.Core.Bool.{cond, _||_}
-use mathlib.Core.List.{List, _++_}
+use mathlib.Core.List.{List}
 use lib.Dec.{eqb}
-use Rattle.octets.specs.Octets.{part, zeros}
-use Rattle.bigendian.specs.BigEndian.{be, unbe}
+use Rattle.octets.specs.Octets.{part}
+use Rattle.bigendian.specs.BigEndian.{unbe}
 use Rattle.receipt.specs.Attestation.{Attestation, readAttestation}
 use Rattle.layout.specs.declared.Row.{Row}
 use Rattle.layout.specs.Layout.{readTable}
@@ -13,10 +13,6 @@ use Rattle.a2m.specs.ImageCalls.{rowIn}
 use Rattle.a2m.specs.TableCalls.{tableStep}
 use Rattle.script.specs.declared.Answer.{Answer}
 use Rattle.script.specs.declared.Answer.the-variants.{Plain, Bounded, Attested}
-
--- "A value or digest is a number placed in the last 8 of 32 bytes, the rest zero."
-unfoldable pub placed : ℕ → List ℕ
-placed n = zeros 24 ++ be 8 n
 
 -- "kind (U, A, S, F)": 0 unassigned, 1 assigned, 2 skipped, 3 forgotten, in ASCII
 unfoldable pub letterOf : ℕ → ℕ

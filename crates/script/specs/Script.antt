@@ -5,6 +5,7 @@ use mathlib.Core.List.{List, [], _∷_}
 use mathlib.Core.Option.{Option}
 use lib.ListN.{length, take}
 use Rattle.octets.specs.Octets.{splice, zeros}
+use Rattle.bigendian.specs.BigEndian.{placed}
 use Rattle.refusal.specs.Order.{answerOf, afterwards}
 use Rattle.layout.specs.Layout.{tableSize, writeTable}
 use Rattle.table.specs.Format.{formatted, formatRefusal}
@@ -19,7 +20,7 @@ use Rattle.line.specs.Answer.{lineText}
 use Rattle.script.specs.declared.Turn.{Turn}
 use Rattle.script.specs.declared.Answer.{Answer}
 use Rattle.script.specs.declared.Answer.the-variants.{Plain, Bounded, Attested}
-use Rattle.script.specs.Answer.{placed, callAnswer}
+use Rattle.script.specs.Answer.{callAnswer}
 
 -- "Fields of format: G, S, keeper"; the buffer has the size of that table, and "Key and nonce are zero"
 abbrev pub formatFault : ℕ → ℕ → Option ℕ

@@ -1,19 +1,4 @@
 // Scripts (document 01, "The script program"): a line is answered, and what it says is done to a table; a script may come in pieces.
-mod calls;
-mod lines;
-mod pieces;
-mod tables;
-
-pub use lines::answer_line;
-pub use pieces::feed;
-
-// The bytes of the largest table: each script has a buffer of so many, the first of which are its table, at first none.
-pub const LARGEST: usize = 61172;
-
-// The room that an answer line takes at most, and the bytes of a line that are kept: one more than a line may have.
-pub const ROOM: usize = 168;
-
-pub const KEPT: usize = 201;
 
 // What a line is answered: a number alone; with its log's low and high position; or 0 with these and what a receipt says.
 pub enum Answer {

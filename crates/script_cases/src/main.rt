@@ -18,7 +18,7 @@ fn answers(text: &[u8])
         size: 0,
         to: 0,
     };
-    let q = script::feed(text, &mut table, &mut held, &mut out, p);
+    let q = script_lines::feed(text, &mut table, &mut held, &mut out, p);
     let to = q.to;
     io::write_all(STDOUT_FILENO, &out[..to]);
 }

@@ -1,4 +1,3 @@
-pub mod Absorb
 pub mod HashCases
 pub mod Bitwise
 pub mod Bytes
@@ -6,5 +5,4 @@ pub mod Choice
 pub mod Majority
 pub mod Padding
 pub mod Rotations
-pub mod Schedule
 pub mod Sizes

@@ -1,30 +1,27 @@
 -- The check, way out by way out.
 use Prim.Native.Nat.{ℕ, _+_, _-_, _≤_, _<_}
-use mathlib.Core.Path.{_≡_, refl, sym, ap, ap₂, _∙_}
+use mathlib.Core.Path.{_≡_, sym, ap, ap₂, _∙_}
 use mathlib.Core.Bool.{Bool, true, false, not, _&&_}
-use mathlib.Core.List.{List, _++_}
+use mathlib.Core.List.{List}
 use mathlib.Core.Logic.{_≢_}
 use native.Mathlib.Omega.{arith}
 use borrow.Author.Tests.{eq-eqb, ne-eqb, not-true, not-false}
-use lib.Dec.{eqb}
 use lib.ListN.{length, length-append}
 use Rattle.layout.specs.Image.{Image}
 use Rattle.layout.specs.Layout.{logsOf, slotsOf, readTable}
 use Rattle.layout.specs.Fits.{Counted}
-use Rattle.table.specs.declared.Run.{Run}
-use Rattle.table.specs.declared.Run.the-variants as run
-use Rattle.table.specs.declared.Held.{Held}
+use Rattle.table.specs.declared.Walk.the-variants as walked
 use Rattle.table.specs.declared.Held.the-variants as held
-use Rattle.table.specs.declared.Check.{Check}
 use Rattle.table.specs.declared.Check.the-variants as check
 use Rattle.table.specs.Chains.{lastOf}
 use Rattle.table.specs.Free.{freeChain}
-use Rattle.table.specs.Runs.{runOf, heldOf}
+use Rattle.table.specs.Walks.{walkOf, heldOf}
 use Rattle.table.specs.WholeImage.{freeOk, rowsOk, heldBy, meets, wholeImage}
-use Rattle.table.specs.Whole.{headerFits, padsFit, whole, checked, checkOf}
-use Rattle.table.proofs.TestLaws.{and-yes, and-no, and-not}
+use Rattle.table.specs.Whole.{whole, checked, checkOf}
+use Rattle.layout.specs.Tests.{headerFits, padsFit}
+use Rattle.layout.proofs.TestLaws.{and-yes, and-no, and-not}
 use Rattle.table.proofs.WalkLaws.{len}
-use Rattle.table.proofs.HeldLaws.{run-broken, run-met, held-broken, held-slots}
+use Rattle.table.proofs.HeldLaws.{walk-broken, walk-met, held-broken, held-slots}
 
 -- the slots that all chains meet
 pub length-meets : (m : Image) → length (meets m) ≡ length (freeChain m) + length (heldBy (m .slots) 0 (m .rows))
@@ -51,19 +48,19 @@ module _ (b : List ℕ) (logs slots : ℕ) (c : Counted b logs slots) where
   unfolding whole
   torn-pads t e h = torn b (and-no _ (and-not (headerFits b) (sym (e ∙ pads-as) ∙ not-true t h)))
 
-  pub torn-free : run.Broken ≡ runOf (freeOk (readTable b)) (freeChain (readTable b)) → check.Torn ≡ checkOf b
+  pub torn-free : walked.Broken ≡ walkOf (freeOk (readTable b)) (freeChain (readTable b)) → check.Torn ≡ checkOf b
   unfolding wholeImage
-  torn-free e = torn-image b (and-no _ (and-no _ (run-broken (freeOk (readTable b)) (freeChain (readTable b)) e)))
+  torn-free e = torn-image b (and-no _ (and-no _ (walk-broken (freeOk (readTable b)) (freeChain (readTable b)) e)))
 
   pub torn-held : held.Broken ≡ heldOf (rowsOk (readTable b .slots) 0 (readTable b .rows)) (heldBy (readTable b .slots) 0 (readTable b .rows)) → check.Torn ≡ checkOf b
   unfolding wholeImage
   torn-held e =
       torn-image b (and-no _ (and-not (freeOk (readTable b)) (held-broken (rowsOk (readTable b .slots) 0 (readTable b .rows)) (heldBy (readTable b .slots) 0 (readTable b .rows)) e)))
 
-  module _ (count last n : ℕ) (free : run.Met count last ≡ runOf (freeOk (readTable b)) (freeChain (readTable b)))
+  module _ (count last n : ℕ) (free : walked.Met count last ≡ walkOf (freeOk (readTable b)) (freeChain (readTable b)))
       (held : held.Slots n ≡ heldOf (rowsOk (readTable b .slots) 0 (readTable b .rows)) (heldBy (readTable b .slots) 0 (readTable b .rows))) where
     f : (freeOk (readTable b) ≡ true) × (length (freeChain (readTable b)) ≡ count) × (lastOf (freeChain (readTable b)) ≡ last)
-    f = run-met (freeOk (readTable b)) (freeChain (readTable b)) count last free
+    f = walk-met (freeOk (readTable b)) (freeChain (readTable b)) count last free
 
     h : (rowsOk (readTable b .slots) 0 (readTable b .rows) ≡ true) × (length (heldBy (readTable b .slots) 0 (readTable b .rows)) ≡ n)
     h = held-slots (rowsOk (readTable b .slots) 0 (readTable b .rows)) (heldBy (readTable b .slots) 0 (readTable b .rows)) n held

@@ -1,8 +1,8 @@
 -- The test `whole` and the conditions `Whole` agree, both ways.
 use Prim.Native.Nat.{ℕ, zero, suc, _+_, _≤_, _<_}
-use mathlib.Core.Path.{_≡_, refl, sym, ap, ap₂, _∙_, subst}
+use mathlib.Core.Path.{_≡_, refl, sym, ap, ap₂, _∙_}
 use mathlib.Core.Logic.{_⊎_, inl, inr}
-use mathlib.Core.List.{List, [], _∷_, _++_}
+use mathlib.Core.List.{List, [], _∷_}
 use mathlib.Core.Bool.{Bool, true, false, _&&_, _||_}
 use native.Mathlib.Omega.{arith}
 use borrow.Author.Tests.{eq-eqb, le-leb, eqb-true, eqb-false, leb-true}
@@ -16,12 +16,15 @@ use Rattle.layout.specs.Layout.{mark, zeroOffset, zerosOffset, padOffset, logsO
 use Rattle.layout.proofs.TableLaws.{length-slots}
 use Rattle.table.specs.Chains.{reaches, chain, lastOf, positionsOf}
 use Rattle.table.specs.Free.{freeChain}
-use Rattle.table.specs.WholeImage.{all, blank, freeOk, fresh, risingFrom, started, rowOk, rowsOk, heldBy, meets, wholeImage}
-use Rattle.table.specs.Whole.{inRange, constantsFit, headerFits, allBelow, padsFit, whole}
-use Rattle.table.specs.Conditions.{Range, Links, Blank, Each, Rising, Fresh, Started, Rows, totalOf, Whole}
-use Rattle.table.proofs.TestLaws.{and-yes, and-split}
+use Rattle.table.specs.WholeImage.{all, freeOk, fresh, risingFrom, started, rowOk, rowsOk, heldBy, meets, wholeImage}
+use Rattle.layout.specs.Tests.{blank}
+use Rattle.table.specs.Whole.{whole}
+use Rattle.layout.specs.Tests.{constantsFit, headerFits, allBelow, padsFit}
+use Rattle.table.specs.Conditions.{Blank, Each, Rising, Fresh, Started, Rows, totalOf, Whole}
+use Rattle.layout.specs.Fits.{Range}
+use Rattle.layout.proofs.TestLaws.{and-yes, and-split}
 use Rattle.table.proofs.WalkLaws.{chain-none}
-use Rattle.table.proofs.HeaderLaws.{in-range, range-in, header-parts}
+use Rattle.layout.proofs.HeaderLaws.{in-range, range-in, header-parts}
 use Rattle.table.proofs.CheckLaws.{length-meets}
 use Rattle.table.proofs.LinkLaws.{links-reach, reach-links}
 

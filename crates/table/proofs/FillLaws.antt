@@ -1,25 +1,24 @@
 -- Laws for code that writes elements of n bytes one after the other, and the parts of a formatted table.
 use Prim.Native.Nat.{ℕ, zero, suc, _+_, _-_, _*_, _≤_, _<_}
-use mathlib.Core.Path.{_≡_, refl, sym, ap, ap₂, _∙_, subst}
+use mathlib.Core.Path.{_≡_, refl, sym, ap, ap₂, _∙_}
 use mathlib.Core.List.{List, [], _∷_, _++_, append-assoc, append-nil}
-use mathlib.Core.Bool.{Bool, true, false, cond}
+use mathlib.Core.Bool.{Bool, cond}
 use native.Mathlib.Nat.{mul-le-mul-left}
 use native.Mathlib.Numerals.{add-one}
 use native.Mathlib.Omega.{arith}
 use borrow.Author.Tests.{lt-ltb, le-ltb}
 use borrow.Rule.Slice.PartMut.{putMid}
-use lib.Dec.{ltb}
 use lib.ListN.{length, take, getD, replicate, length-append, length-take, length-replicate, getD-replicate}
 use lib.Seq.{take-suc, take-all}
 use Rattle.octets.specs.Octets.{splice}
 use Rattle.octets.proofs.Parts.{length-splice, put-back, splice-nil, splice-then, splice-whole}
 use Rattle.bigendian.proofs.Laws.{length-be}
-use Rattle.layout.specs.declared.Row.{Row}
-use Rattle.layout.specs.Lists.{tabulate, flat}
+use Rattle.layout.specs.Lists.{flat}
 use Rattle.layout.specs.Image.{Slot, freshRow, freeSlot}
 use Rattle.layout.specs.Layout.{headerSize, rowSize, slotSize, rowOffset, tableSize, rowBytes, slotBytes, headerBytes, writeTable}
 use Rattle.layout.proofs.ListLaws.{length-flat, length-tabulate, getD-tabulate, every-tabulate}
-use Rattle.layout.proofs.FieldLaws.{length-zeros, length-rowBytes, length-headerBytes}
+use Rattle.layout.proofs.FieldLaws.{length-rowBytes, length-headerBytes}
+use Rattle.octets.proofs.Zeros.{length-zeros}
 use Rattle.table.specs.Free.{queuedNext, queue}
 use Rattle.table.specs.Format.{formatted}
 

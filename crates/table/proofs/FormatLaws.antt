@@ -1,6 +1,6 @@
 -- Format's answer and bytes by its tests.
 use Prim.Native.Nat.{ℕ}
-use mathlib.Core.Path.{_≡_, refl, sym, ap, ap₂, _∙_}
+use mathlib.Core.Path.{_≡_, sym, ap, ap₂, _∙_}
 use mathlib.Core.List.{List}
 use mathlib.Core.Bool.{Bool, true, false, cond, not, _&&_}
 use mathlib.Core.Logic.{_≢_}
@@ -10,9 +10,9 @@ use lib.Dec.{eqb}
 use lib.ListN.{length}
 use Rattle.refusal.specs.Order.{firstFault, answerOf, afterwards}
 use Rattle.layout.specs.Layout.{tableSize, writeTable}
-use Rattle.table.specs.Whole.{inRange}
+use Rattle.layout.specs.Tests.{inRange}
 use Rattle.table.specs.Format.{formatted, formatRefusal, formatBytes}
-use Rattle.table.proofs.TestLaws.{and-yes, and-no, and-not}
+use Rattle.layout.proofs.TestLaws.{and-yes, and-no, and-not}
 
 -- the two tests, in order
 abbrev by-tests : Bool → Bool → Option ℕ

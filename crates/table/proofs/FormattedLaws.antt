@@ -2,18 +2,17 @@
 use Prim.Native.Nat.{ℕ, zero, suc, _+_, _-_, _^_, _≤_, _<_}
 use mathlib.Core.Path.{_≡_, refl, sym, ap, ap₂, _∙_, subst}
 use mathlib.Core.List.{List, [], _∷_}
-use mathlib.Core.Bool.{Bool, true, false, cond, _&&_}
+use mathlib.Core.Bool.{Bool, true, false, cond}
 use mathlib.Core.Option.{Option, none, some, Option·map}
 use native.Mathlib.Nat.{add-zero}
 use native.Mathlib.Numerals.{add-one}
 use native.Mathlib.Omega.{arith}
-use borrow.Author.Tests.{eq-eqb, lt-ltb, le-ltb}
-use lib.Dec.{eqb, ltb}
-use lib.ListN.{length, getD, replicate, length-replicate, getD-replicate, length-append}
-use Rattle.octets.specs.Octets.{same, zeros}
+use borrow.Author.Tests.{eq-eqb}
+use lib.Dec.{ltb}
+use lib.ListN.{length, getD, replicate, length-replicate, length-append}
+use Rattle.octets.specs.Octets.{zeros}
 use Rattle.octets.proofs.Same.{same-refl}
 use Rattle.refusal.specs.Order.{afterwards}
-use Rattle.layout.specs.declared.Row.{Row}
 use Rattle.layout.specs.Image.{Slot, Image, slotAt, rowAt, freeSlot, freshRow}
 use Rattle.layout.specs.Layout.{readTable, writeTable}
 use Rattle.layout.specs.Fits.{RowFits, SlotFits, Fits}
@@ -22,10 +21,11 @@ use Rattle.layout.proofs.TableLaws.{read-write, fresh-fits, free-fits}
 use Rattle.table.specs.Chains.{walk, reaches, chain}
 use Rattle.table.specs.Free.{freeChain, countUp, queuedNext, queue}
 use Rattle.table.specs.Format.{formatted, formatRefusal, formatBytes}
-use Rattle.table.specs.WholeImage.{all, blank, freeOk, fresh, rowOk, rowsOk, heldBy, meets, wholeImage}
+use Rattle.table.specs.WholeImage.{all, freeOk, fresh, rowOk, rowsOk, heldBy, meets, wholeImage}
+use Rattle.layout.specs.Tests.{blank}
 use Rattle.table.specs.Whole.{whole}
-use Rattle.table.specs.Conditions.{Range}
-use Rattle.table.proofs.TestLaws.{and-yes}
+use Rattle.layout.specs.Fits.{Range}
+use Rattle.layout.proofs.TestLaws.{and-yes}
 use Rattle.table.proofs.WalkLaws.{reached, slotsMet, walk-end, go-on, chain-none}
 use Rattle.table.proofs.CheckLaws.{length-meets}
 use Rattle.table.proofs.FillLaws.{length-queue, getD-queue, next-queued, none-queued}

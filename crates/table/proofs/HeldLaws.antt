@@ -1,20 +1,19 @@
 -- The loop over the rows: what is left to compute from row g on, n slots being counted.
-use Prim.Native.Nat.{ℕ, zero, suc, _+_, _≤_, _<_}
-use mathlib.Core.Path.{_≡_, refl, sym, ap, ap₂, _∙_, subst}
-use mathlib.Core.List.{List, [], _∷_, _++_}
+use Prim.Native.Nat.{ℕ, suc, _+_, _≤_, _<_}
+use mathlib.Core.Path.{_≡_, refl, sym, ap, _∙_}
+use mathlib.Core.List.{List, _++_}
 use mathlib.Core.Bool.{Bool, true, false, _&&_}
 use native.Mathlib.Nat.{zero-add, add-zero}
 use native.Mathlib.Omega.{arith}
-use lib.ListN.{length, getD, drop, length-append, drop-of-length-le}
+use lib.ListN.{length, drop, length-append, drop-of-length-le}
 use lib.Seq.{drop-cons}
 use Rattle.layout.specs.declared.Row.{Row}
 use Rattle.layout.specs.Image.{Slot, rowAt, freshRow}
-use Rattle.table.specs.declared.Run.{Run}
-use Rattle.table.specs.declared.Run.the-variants.{Met, Broken}
+use Rattle.table.specs.declared.Walk.the-variants.{Met, Broken}
 use Rattle.table.specs.declared.Held.{Held}
 use Rattle.table.specs.declared.Held.the-variants as held
 use Rattle.table.specs.Chains.{chain, lastOf}
-use Rattle.table.specs.Runs.{runOf, heldOf, rowRun}
+use Rattle.table.specs.Walks.{walkOf, heldOf, rowWalk}
 use Rattle.table.specs.WholeImage.{rowOk, rowsOk, heldBy}
 use Rattle.table.proofs.WalkLaws.{chain-short}
 
@@ -24,13 +23,13 @@ plus n held.Broken = held.Broken
 plus n (held.Slots k) = held.Slots (n + k)
 
 -- what an answer says of its test
-pub run-broken : (t : Bool) (c : List ℕ) → Broken ≡ runOf t c → t ≡ false
-run-broken true c e = absurd (let z : _≡_ {A = ℕ} 0 1 = cc in omega arith)
-run-broken false c e = refl
+pub walk-broken : (t : Bool) (c : List ℕ) → Broken ≡ walkOf t c → t ≡ false
+walk-broken true c e = absurd (let z : _≡_ {A = ℕ} 0 1 = cc in omega arith)
+walk-broken false c e = refl
 
-pub run-met : (t : Bool) (c : List ℕ) (n last : ℕ) → Met n last ≡ runOf t c → (t ≡ true) × (length c ≡ n) × (lastOf c ≡ last)
-run-met true c n last e = (refl, cc, cc)
-run-met false c n last e = absurd (let z : _≡_ {A = ℕ} 0 1 = cc in omega arith)
+pub walk-met : (t : Bool) (c : List ℕ) (n last : ℕ) → Met n last ≡ walkOf t c → (t ≡ true) × (length c ≡ n) × (lastOf c ≡ last)
+walk-met true c n last e = (refl, cc, cc)
+walk-met false c n last e = absurd (let z : _≡_ {A = ℕ} 0 1 = cc in omega arith)
 
 pub held-broken : (t : Bool) (c : List ℕ) → held.Broken ≡ heldOf t c → t ≡ false
 held-broken true c e = absurd (let z : _≡_ {A = ℕ} 0 1 = cc in omega arith)
@@ -62,18 +61,18 @@ module _ (slots : List Slot) where
       unfolding rowsOk heldBy
       unrolled = inv ∙ ap (λ (l : List Row). plus n (heldFrom g l)) (drop-cons rows g freshRow h)
 
-      pub held-stop : Broken ≡ rowRun slots g (rowAt rows g) → held.Broken ≡ x
+      pub held-stop : Broken ≡ rowWalk slots g (rowAt rows g) → held.Broken ≡ x
       held-stop e =
-          let t : rowOk slots g (rowAt rows g) ≡ false = run-broken (rowOk slots g (rowAt rows g)) (chain slots (suc g) (rowAt rows g .first)) e in
+          let t : rowOk slots g (rowAt rows g) ≡ false = walk-broken (rowOk slots g (rowAt rows g)) (chain slots (suc g) (rowAt rows g .first)) e in
           sym (unrolled ∙ ap (λ (b : Bool). plus n (heldOf (b && rowsOk slots (suc g) (drop (suc g) rows)) (chain slots (suc g) (rowAt rows g .first) ++ heldBy slots (suc g) (drop (suc g) rows)))) t)
 
-      module _ (count last : ℕ) (met : Met count last ≡ rowRun slots g (rowAt rows g)) where
+      module _ (count last : ℕ) (met : Met count last ≡ rowWalk slots g (rowAt rows g)) where
         pub held-most : count ≤ length slots
-        held-most = let m = run-met (rowOk slots g (rowAt rows g)) (chain slots (suc g) (rowAt rows g .first)) count last met in omega (arith, m .1, chain-short slots (suc g) (rowAt rows g .first))
+        held-most = let m = walk-met (rowOk slots g (rowAt rows g)) (chain slots (suc g) (rowAt rows g .first)) count last met in omega (arith, m .1, chain-short slots (suc g) (rowAt rows g .first))
 
         pub held-on : x ≡ plus (n + count) (heldFrom (g + 1) (drop (g + 1) rows))
         held-on =
-            let m = run-met (rowOk slots g (rowAt rows g)) (chain slots (suc g) (rowAt rows g .first)) count last met in
+            let m = walk-met (rowOk slots g (rowAt rows g)) (chain slots (suc g) (rowAt rows g .first)) count last met in
             let c : List ℕ = chain slots (suc g) (rowAt rows g .first) in
             let e : suc g ≡ g + 1 = omega arith in
             unrolled

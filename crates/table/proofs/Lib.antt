@@ -1,10 +1,8 @@
-pub mod TestLaws
-pub mod BlankLaws
+pub mod FreshLaws
 pub mod WalkLaws
-pub mod RunLaws
+pub mod WalkedLaws
 pub mod TurnLaws
 pub mod HeldLaws
-pub mod HeaderLaws
 pub mod CheckLaws
 pub mod FillLaws
 pub mod FormatLaws

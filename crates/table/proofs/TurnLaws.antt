@@ -1,10 +1,10 @@
 -- The loops of the check, way out by way out: x is what the function answers, and the invariant says what is left of it to compute.
 use Prim.Native.Nat.{ℕ, suc, _+_, _-_, _≤_, _<_}
-use mathlib.Core.Path.{_≡_, refl, sym, ap, ap₂, _∙_, subst}
+use mathlib.Core.Path.{_≡_, sym, ap, _∙_, subst}
 use mathlib.Core.List.{List, _∷_}
 use mathlib.Core.Bool.{Bool, true, false, not, _&&_}
 use mathlib.Core.Logic.{_≢_}
-use mathlib.Core.Option.{Option, none, Option·map}
+use mathlib.Core.Option.{none, Option·map}
 use native.Mathlib.Numerals.{add-one}
 use native.Mathlib.Omega.{arith}
 use borrow.Author.Tests.{eq-eqb, ne-eqb, not-true, not-false}
@@ -12,18 +12,18 @@ use lib.ListN.{length}
 use lib.Dec.{eqb}
 use Rattle.layout.specs.declared.Row.{Row}
 use Rattle.layout.specs.declared.Link.{Link}
-use Rattle.layout.specs.Image.{Slot, Image, slotAt}
+use Rattle.layout.specs.Image.{Slot, slotAt}
 use Rattle.layout.specs.Changes.{linkOf}
-use Rattle.table.specs.declared.Run.{Run}
-use Rattle.table.specs.declared.Run.the-variants.{Met, Broken}
+use Rattle.table.specs.declared.Walk.{Walk}
+use Rattle.table.specs.declared.Walk.the-variants.{Met, Broken}
 use Rattle.table.specs.Chains.{walk}
-use Rattle.table.specs.WholeImage.{blank}
-use Rattle.table.proofs.TestLaws.{and-yes, and-no}
+use Rattle.layout.specs.Tests.{blank}
+use Rattle.layout.proofs.TestLaws.{and-yes, and-no}
 use Rattle.table.proofs.WalkLaws.{stop-long, stop-out, stop-owner, go-on}
-use Rattle.table.proofs.RunLaws.{onlyIf, freeRest, free-last, free-blank, free-filled, logRest, log-higher, log-lower, log-last}
+use Rattle.table.proofs.WalkedLaws.{onlyIf, freeRest, free-last, free-blank, free-filled, logRest, log-higher, log-lower, log-last}
 
 -- the free chain, after n of the table's k slots, at slot s
-module _ (slots : List Slot) (k : ℕ) (len : length slots ≡ k) (x : Run) (n last s : ℕ) (inv : x ≡ freeRest slots n last (walk slots 0 (k - n) s)) where
+module _ (slots : List Slot) (k : ℕ) (len : length slots ≡ k) (x : Walk) (n last s : ℕ) (inv : x ≡ freeRest slots n last (walk slots 0 (k - n) s)) where
   pub free-end : s ≡ 0 → Met n last ≡ x
   free-end e = sym (inv ∙ ap (λ (t : ℕ). freeRest slots n last (walk slots 0 (k - n) t)) e ∙ free-last slots n last (k - n))
 
@@ -55,7 +55,7 @@ module _ (slots : List Slot) (k : ℕ) (len : length slots ≡ k) (x : Run) (n l
             ∙ ap (λ (y : Link). freeRest slots (n + 1) s (walk slots 0 (k - (n + 1)) (y .next))) (sym link)
 
 -- the chain of log g, after n of the table's k slots, at slot s, behind position floor
-module _ (slots : List Slot) (r : Row) (g k : ℕ) (len : length slots ≡ k) (x : Run) (n floor last s : ℕ) (inv : x ≡ logRest slots r n floor last (walk slots (suc g) (k - n) s)) where
+module _ (slots : List Slot) (r : Row) (g k : ℕ) (len : length slots ≡ k) (x : Walk) (n floor last s : ℕ) (inv : x ≡ logRest slots r n floor last (walk slots (suc g) (k - n) s)) where
   module _ (ended : s ≡ 0) where
     log-end : x ≡ onlyIf (eqb floor (r .high) && eqb last (r .last)) (Met n last)
     log-end = inv ∙ ap (λ (t : ℕ). logRest slots r n floor last (walk slots (suc g) (k - n) t)) ended ∙ log-last slots r n floor last (suc g) (k - n)

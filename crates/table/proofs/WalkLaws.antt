@@ -13,7 +13,7 @@ use Rattle.layout.specs.Layout.{readTable}
 use Rattle.layout.specs.Fits.{Counted}
 use Rattle.layout.proofs.TableLaws.{length-rows, length-slots}
 use Rattle.table.specs.Chains.{walk, chain}
-use Rattle.table.proofs.TestLaws.{and-yes, and-no}
+use Rattle.layout.proofs.TestLaws.{and-yes, and-no}
 
 -- whether a walk reached 0, and the slots that it met
 abbrev pub reached : Option (List ℕ) → Bool

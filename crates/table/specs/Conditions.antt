@@ -7,15 +7,9 @@ use lib.ListN.{length}
 use Rattle.octets.specs.Octets.{part, zeros}
 use Rattle.layout.specs.declared.Row.{Row}
 use Rattle.layout.specs.Image.{Slot, slotAt}
+use Rattle.layout.specs.Fits.{Range}
 use Rattle.layout.specs.Layout.{mark, zeroOffset, zerosOffset, padOffset, logsOf, slotsOf, tableSize, readTable}
 use Rattle.table.specs.Chains.{lastOf, positionsOf}
-
--- "1 to 16 logs over one shared pool of 1 to 800 slots"
-pub record Range (logs slots : ℕ) : Type 0 where
-  pub logs-least : 1 ≤ logs
-  pub logs-most : logs ≤ 16
-  pub slots-least : 1 ≤ slots
-  pub slots-most : slots ≤ 800
 
 -- a chain from slot s along the slots of c, each of owner o and in the table, to slot e
 abbrev pub Links : List Slot → ℕ → ℕ → List ℕ → ℕ → Type 0

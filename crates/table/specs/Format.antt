@@ -9,7 +9,7 @@ use Rattle.refusal.specs.Order.{fault, firstFault, afterwards}
 use Rattle.layout.specs.Image.{Image, freshRow}
 use Rattle.layout.specs.Layout.{tableSize, writeTable}
 use Rattle.table.specs.Free.{queue}
-use Rattle.table.specs.Whole.{inRange}
+use Rattle.layout.specs.Tests.{inRange}
 
 -- the table that is written: the free chain is the queue 1 to S
 unfoldable pub formatted : ℕ → ℕ → ℕ → List ℕ → Image

@@ -2,6 +2,6 @@ pub mod Chains
 pub mod Conditions
 pub mod Format
 pub mod Free
-pub mod Runs
+pub mod Walks
 pub mod Whole
 pub mod WholeImage

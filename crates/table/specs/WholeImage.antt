@@ -1,21 +1,17 @@
 -- Document 01, "A table is whole if ..", as far as it speaks of rows, slots and chains: a test that a reader can compute.
 use Prim.Native.Nat.{ℕ, suc}
 use mathlib.Core.List.{List, [], _∷_, _++_}
-use mathlib.Core.Bool.{Bool, true, false, _&&_, _||_}
+use mathlib.Core.Bool.{Bool, true, _&&_, _||_}
 use lib.ListN.{length}
 use lib.Dec.{eqb, leb}
-use Rattle.octets.specs.Octets.{same, zeros}
 use Rattle.layout.specs.declared.Row.{Row}
 use Rattle.layout.specs.Image.{Slot, Image, slotAt}
+use Rattle.layout.specs.Tests.{blank}
 use Rattle.table.specs.Chains.{reaches, chain, lastOf, positionsOf}
 
 unfoldable pub all {ℓ} : {A : Type ℓ} → (A → Bool) → List A → Bool
 all p [] = true
 all p (x ∷ xs) = p x && all p xs
-
--- "bytes 4–75 zero"
-unfoldable pub blank : Slot → Bool
-blank s = eqb (s .position) 0 && same (s .value) (zeros 32) && same (s .digest) (zeros 32)
 
 -- "the free chain reaches 0 through slots with owner 0 and bytes 4–75 zero"
 unfoldable pub freeOk : Image → Bool

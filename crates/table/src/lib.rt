@@ -1,8 +1,4 @@
-// Whole tables, and format (document 01, "Table bytes").
-mod blank;
-pub mod format;
-mod runs;
-pub mod whole;
+// Whole tables, the free slots, and what format writes (document 01, "Table bytes"). No code.
 
 // What the check finds: a torn table; or a whole one, how many slots are free, and the last of the free chain (0 if none).
 pub enum Check {
@@ -11,7 +7,7 @@ pub enum Check {
 }
 
 // What a walk along a chain finds: that it is broken; or how many slots it met, and the last.
-pub enum Run {
+pub enum Walk {
     Broken,
     Met { count: usize, last: usize },
 }

@@ -46,19 +46,19 @@ use denote.Exit.{yes}
 use denote.Signature.{plain}
 use Rattle.bigendian.specs.BigEndian.{be}
 use Rattle.bigendian.proofs.Laws.{length-be}
-use Rattle.sha256.specs.Running.{stateOf, start, finished}
-use Rattle.sha256.specs.declared.Running.{Running}
-use Rattle.sha256.proofs.Absorb.{Holds, holds-new, holds-more, holds-count, holds-digest}
-use Rattle.sha256.proofs.Running as T
-use Rattle.sha256.proofs.Running.Laws as T′
-use Rattle.sha256.proofs.Running.new as new
-use Rattle.sha256.proofs.Running.new.Symbol as new-def
-use Rattle.sha256.proofs.Running.new.Symbol.{name as #sha256·new}
-use Rattle.sha256.proofs.Running.new.Met as new-thm
-use Rattle.sha256.proofs.Running.finish as finish
-use Rattle.sha256.proofs.Running.finish.Symbol as finish-def
-use Rattle.sha256.proofs.Running.finish.Symbol.{name as #sha256·finish}
-use Rattle.sha256.proofs.Running.finish.Met as finish-thm
+use Rattle.sha256_digest.specs.Running.{stateOf, start, finished}
+use Rattle.sha256_digest.specs.declared.Running.{Running}
+use Rattle.sha256_digest.proofs.Absorb.{Holds, holds-new, holds-more, holds-count, holds-digest}
+use Rattle.sha256_digest.proofs.Running as T
+use Rattle.sha256_digest.proofs.Running.Laws as T′
+use Rattle.sha256_digest.proofs.Running.new as new
+use Rattle.sha256_digest.proofs.Running.new.Symbol as new-def
+use Rattle.sha256_digest.proofs.Running.new.Symbol.{name as #sha256·new}
+use Rattle.sha256_digest.proofs.Running.new.Met as new-thm
+use Rattle.sha256_digest.proofs.Running.finish as finish
+use Rattle.sha256_digest.proofs.Running.finish.Symbol as finish-def
+use Rattle.sha256_digest.proofs.Running.finish.Symbol.{name as #sha256·finish}
+use Rattle.sha256_digest.proofs.Running.finish.Met as finish-thm
 use Rattle.entry.specs.Digest.{entryDigest}
 use Rattle.entry.proofs.DigestLaws.{fed-is}
 use Rattle.entry.proofs.entry_digest.Proof.Lent.{Shared, lends-bytes, bytes-back}
@@ -269,6 +269,6 @@ entry-digest-spec 𝓤 H 𝓜 𝓖 𝓡 =
     (tables 𝓤 H 𝓜 𝓡 code.env .C) (tables 𝓤 H 𝓜 𝓡 code.env .Λ) #entry·entry-digest code.function (code.unfolded 𝓤 H 𝓜 𝓡)
     (entry-digest-meets 𝓤 H (𝓖 .A) (givenOf 𝓤 H 𝓜 𝓖) (𝓜 .mem) (𝓡 .run) (tablesOf 𝓤 H 𝓜 (tables 𝓤 H 𝓜 𝓡 code.env))
     (cited 𝓤 H (Number 𝓤 H (𝓖 .A) (𝓜 .mem) (𝓡 .run)) 𝓜 𝓡 code.env #entry·number number-def.routine code.calls-entry·number (number-thm.met 𝓤 H 𝓜 𝓖 𝓡))
-    (cited 𝓤 H (New 𝓤 H (𝓖 .A) (𝓜 .mem) (𝓡 .run)) 𝓜 𝓡 code.env #sha256·new new-def.routine code.calls-sha256·Running·new (new-thm.met 𝓤 H 𝓜 𝓖 𝓡))
+    (cited 𝓤 H (New 𝓤 H (𝓖 .A) (𝓜 .mem) (𝓡 .run)) 𝓜 𝓡 code.env #sha256·new new-def.routine code.calls-sha256-digest·Running·new (new-thm.met 𝓤 H 𝓜 𝓖 𝓡))
     (cited 𝓤 H (Feed 𝓤 H (𝓖 .A) (𝓜 .mem) (𝓡 .run)) 𝓜 𝓡 code.env #entry·feed feed-def.routine code.calls-entry·feed (feed-thm.met 𝓤 H 𝓜 𝓖 𝓡))
-    (cited 𝓤 H (Finish 𝓤 H (𝓖 .A) (𝓜 .mem) (𝓡 .run)) 𝓜 𝓡 code.env #sha256·finish finish-def.routine code.calls-sha256·Running·finish (finish-thm.met 𝓤 H 𝓜 𝓖 𝓡)))
+    (cited 𝓤 H (Finish 𝓤 H (𝓖 .A) (𝓜 .mem) (𝓡 .run)) 𝓜 𝓡 code.env #sha256·finish finish-def.routine code.calls-sha256-digest·Running·finish (finish-thm.met 𝓤 H 𝓜 𝓖 𝓡)))

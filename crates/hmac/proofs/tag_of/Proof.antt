@@ -14,31 +14,31 @@ key-block-requires c κs = search needs
 mask-requires : tie.Need-mask-requires
 mask-requires c κs = search needs
 
-slice-aggregate-digest-after : tie.Need-slice-aggregate-digest-after
-slice-aggregate-digest-after c = search needs
+slice-aggregate-prefixed-digest : tie.Need-slice-aggregate-prefixed-digest
+slice-aggregate-prefixed-digest c = search needs
 
-digest-after-requires : tie.Need-digest-after-requires
-digest-after-requires c κs = search needs
+prefixed-digest-requires : tie.Need-prefixed-digest-requires
+prefixed-digest-requires c κs = search needs
 
 mask-requires-2 : tie.Need-mask-requires-2
 mask-requires-2 c κs = search needs
 
-slice-aggregate-digest-after-2 : tie.Need-slice-aggregate-digest-after-2
-slice-aggregate-digest-after-2 c = search needs
+slice-aggregate-prefixed-digest-2 : tie.Need-slice-aggregate-prefixed-digest-2
+slice-aggregate-prefixed-digest-2 c = search needs
 
-slice-aggregate-digest-after-3 : tie.Need-slice-aggregate-digest-after-3
-slice-aggregate-digest-after-3 c = search needs
+slice-aggregate-prefixed-digest-3 : tie.Need-slice-aggregate-prefixed-digest-3
+slice-aggregate-prefixed-digest-3 c = search needs
 
-digest-after-requires-2 : tie.Need-digest-after-requires-2
-digest-after-requires-2 c κs = search needs
+prefixed-digest-requires-2 : tie.Need-prefixed-digest-requires-2
+prefixed-digest-requires-2 c κs = search needs
 
 returns : tie.Need-returns
 unfolding hmac
 returns c =
     let block = c .before .before .before .before .before .before .before .key-block .ensures in
-    c .digest-after2 .ensures
+    c .prefixed-digest2 .ensures
     ∙ ap₂ (λ (p q : List ℕ). sha256 (p ++ q)) (c .before .before .before .mask2 .ensures ∙ ap (masked 0x5c) block)
-    (c .before .before .before .before .digest-after .ensures ∙ ap (λ (p : List ℕ). sha256 (p ++ c .before .before .before .before .before .before .before .before .before .before .args .text .now)) (c .before .before .before .before .before .before .mask .ensures ∙ ap (masked 0x36) block))
+    (c .before .before .before .before .prefixed-digest .ensures ∙ ap (λ (p : List ℕ). sha256 (p ++ c .before .before .before .before .before .before .before .before .before .before .args .text .now)) (c .before .before .before .before .before .before .mask .ensures ∙ ap (masked 0x36) block))
 
 pub tag-of-spec : {M : Type 1} → statement M
 tag-of-spec =
@@ -46,10 +46,10 @@ tag-of-spec =
     (tie.spec
     key-block-requires
     mask-requires
-    slice-aggregate-digest-after
-    digest-after-requires
+    slice-aggregate-prefixed-digest
+    prefixed-digest-requires
     mask-requires-2
-    slice-aggregate-digest-after-2
-    slice-aggregate-digest-after-3
-    digest-after-requires-2
+    slice-aggregate-prefixed-digest-2
+    slice-aggregate-prefixed-digest-3
+    prefixed-digest-requires-2
     returns)

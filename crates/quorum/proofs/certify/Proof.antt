@@ -1,4 +1,5 @@
 -- `quorum::certify` meets its contract.
+use Rattle.receipt.specs.Attestation.{receiptSize}
 use Rattle.quorum.specs.Tally.{firstIn}
 use Rattle.quorum.specs.Certificate.{receiptCount}
 use Rattle.quorum.specs.Roster.{size}
@@ -39,11 +40,11 @@ slice-aggregate-first-place : tie.Need-slice-aggregate-first-place
 slice-aggregate-first-place c = search needs
 
 first-place-requires : tie.Need-first-place-requires
-first-place-requires c κs = let m = roster-most (c .before .before .before .before .before .before .before .before .before .before .before .before .args .roster .now) (sym (c .before .before .before .before .before .before .before .is-roster .ensures) ∙ not-false _ (c .before .before .before .before .before .before .if2 .left)) in ((omega (arith, c .before .before .tally-of .ensures .0, c .before .before .before .before .if4 .left), omega (arith, c .before .before .before .before .before .if3 .left)), codes-bounded (c .before .before .before .before .before .before .before .before .before .before .before .before .args .roster .now) (c .before .before .before .before .before .before .before .before .before .before .before .before .args .nonce .now) (c .before .before .before .before .before .before .before .before .before .before .before .before .args .log) (c .before .before .before .before .before .before .before .before .before .before .before .before .args .position) (c .before .before .before .before .before .before .before .before .before .before .before .before .args .cert .now) (c .before .before .tally-of .result .codes) (length (c .before .before .before .before .before .before .before .before .before .before .before .before .args .cert .now) / 160) (omega arith) (c .before .before .tally-of .ensures .1))
+first-place-requires c κs = let m = roster-most (c .before .before .before .before .before .before .before .before .before .before .before .before .args .roster .now) (sym (c .before .before .before .before .before .before .before .is-roster .ensures) ∙ not-false _ (c .before .before .before .before .before .before .if2 .left)) in ((omega (arith, c .before .before .tally-of .ensures .0, c .before .before .before .before .if4 .left), omega (arith, c .before .before .before .before .before .if3 .left)), codes-bounded (c .before .before .before .before .before .before .before .before .before .before .before .before .args .roster .now) (c .before .before .before .before .before .before .before .before .before .before .before .before .args .nonce .now) (c .before .before .before .before .before .before .before .before .before .before .before .before .args .log) (c .before .before .before .before .before .before .before .before .before .before .before .before .args .position) (c .before .before .before .before .before .before .before .before .before .before .before .before .args .cert .now) (c .before .before .tally-of .result .codes) (length (c .before .before .before .before .before .before .before .before .before .before .before .before .args .cert .now) / receiptSize) (omega arith) (c .before .before .tally-of .ensures .1))
 
 returns-5 : tie.Need-returns-5
 unfolding size receiptCount
-returns-5 c = c .first-place .ensures ∙ ap (λ (k : ℕ). firstIn (c .before .before .before .tally-of .result .codes) (c .before .before .before .before .before .before .before .before .before .before .before .before .before .args .cert .now) k (length (c .before .before .before .before .before .before .before .before .before .before .before .before .before .args .cert .now) / 160) (length (c .before .before .before .before .before .before .before .before .before .before .before .before .before .args .cert .now) / 160) 0) (c .before .before .before .before .majority .ensures) ∙ by-codes (c .before .before .before .before .before .before .before .before .before .before .before .before .before .args .roster .now) (c .before .before .before .before .before .before .before .before .before .before .before .before .before .args .nonce .now) (c .before .before .before .before .before .before .before .before .before .before .before .before .before .args .log) (c .before .before .before .before .before .before .before .before .before .before .before .before .before .args .position) (c .before .before .before .before .before .before .before .before .before .before .before .before .before .args .cert .now) (c .before .before .before .before .before .before .before .before .before .if1 .left) (sym (c .before .before .before .before .before .before .before .before .is-roster .ensures) ∙ not-false _ (c .before .before .before .before .before .before .before .if2 .left)) (c .before .before .before .tally-of .result .codes) (is-certificate (c .before .before .before .before .before .before .before .before .before .before .before .before .before .args .roster .now) (c .before .before .before .before .before .before .before .before .before .before .before .before .before .args .nonce .now) (c .before .before .before .before .before .before .before .before .before .before .before .before .before .args .log) (c .before .before .before .before .before .before .before .before .before .before .before .before .before .args .position) (c .before .before .before .before .before .before .before .before .before .before .before .before .before .args .cert .now) (c .before .before .before .before .before .before .if3 .left) (c .before .before .before .before .before .if4 .left)) (c .before .before .before .tally-of .ensures .1)
+returns-5 c = c .first-place .ensures ∙ ap (λ (k : ℕ). firstIn (c .before .before .before .tally-of .result .codes) (c .before .before .before .before .before .before .before .before .before .before .before .before .before .args .cert .now) k (length (c .before .before .before .before .before .before .before .before .before .before .before .before .before .args .cert .now) / receiptSize) (length (c .before .before .before .before .before .before .before .before .before .before .before .before .before .args .cert .now) / receiptSize) 0) (c .before .before .before .before .majority .ensures) ∙ by-codes (c .before .before .before .before .before .before .before .before .before .before .before .before .before .args .roster .now) (c .before .before .before .before .before .before .before .before .before .before .before .before .before .args .nonce .now) (c .before .before .before .before .before .before .before .before .before .before .before .before .before .args .log) (c .before .before .before .before .before .before .before .before .before .before .before .before .before .args .position) (c .before .before .before .before .before .before .before .before .before .before .before .before .before .args .cert .now) (c .before .before .before .before .before .before .before .before .before .if1 .left) (sym (c .before .before .before .before .before .before .before .before .is-roster .ensures) ∙ not-false _ (c .before .before .before .before .before .before .before .if2 .left)) (c .before .before .before .tally-of .result .codes) (is-certificate (c .before .before .before .before .before .before .before .before .before .before .before .before .before .args .roster .now) (c .before .before .before .before .before .before .before .before .before .before .before .before .before .args .nonce .now) (c .before .before .before .before .before .before .before .before .before .before .before .before .before .args .log) (c .before .before .before .before .before .before .before .before .before .before .before .before .before .args .position) (c .before .before .before .before .before .before .before .before .before .before .before .before .before .args .cert .now) (c .before .before .before .before .before .before .if3 .left) (c .before .before .before .before .before .if4 .left)) (c .before .before .before .tally-of .ensures .1)
 
 pub certify-spec : {M : Type 1} → statement M
 certify-spec =

@@ -1,5 +1,5 @@
 -- `vectors::digest_in_parts` is safe.
-use Rattle.sha256.proofs.Absorb.{holds-new, holds-count, absorb-counts}
+use Rattle.sha256_digest.proofs.Absorb.{holds-new, holds-count, absorb-counts}
 use native.Mathlib.Omega.{arith}
 use borrow.Author.Needs.{needs}
 use Rattle.vectors.proofs.digest_in_parts.Statement.{statement}

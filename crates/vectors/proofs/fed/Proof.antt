@@ -1,6 +1,6 @@
 -- `vectors::fed` meets its contract: what is absorbed part by part is what is absorbed at once.
-use Rattle.sha256.specs.Running.{State, stateOf, absorbed}
-use Rattle.sha256.proofs.Absorb.{absorbed-append, absorb-counts}
+use Rattle.sha256_digest.specs.Running.{State, stateOf, absorbed}
+use Rattle.sha256_digest.proofs.Absorb.{absorbed-append, absorb-counts}
 use lib.ListN.{length, take, drop, length-take, length-drop, take-append-drop}
 use lib.Seq.{take-add, take-all}
 use native.Mathlib.Omega.{arith}

@@ -1,6 +1,6 @@
 -- `capi::calls::keeper_end` meets its contract.
-use Rattle.capi.proofs.Answers.{end-number}
-use Rattle.capi.specs.Results.{replyNumber}
+use Rattle.capi_results.proofs.Answers.{end-number}
+use Rattle.capi_results.specs.Results.{replyNumber}
 use mathlib.Core.Path.{ap, _∙_}
 use borrow.Author.Needs.{needs}
 use Rattle.capi.proofs.calls.keeper_end.Statement.{statement}

@@ -1,8 +1,8 @@
 -- `capi::calls::keeper_lookup` meets its contract.
-use Rattle.capi.proofs.Answers.{Looked}
+use Rattle.capi_results.proofs.Answers.{Looked}
 use Rattle.a2m.specs.Opened.{findingReply}
 use Rattle.a2m.specs.declared.Finding.{Finding}
-use Rattle.capi.specs.Results.{replyNumber, examinedAfter}
+use Rattle.capi_results.specs.Results.{replyNumber, examinedAfter}
 use mathlib.Core.Path.{refl, sym, ap, subst, _∙_}
 use borrow.Author.Needs.{needs}
 use Rattle.capi.proofs.calls.keeper_lookup.Statement.{statement}

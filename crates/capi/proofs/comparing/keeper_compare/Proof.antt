@@ -1,6 +1,6 @@
 -- `capi::comparing::keeper_compare` meets its contract.
 use Rattle.runs.specs.Call.{Answer, comparisonAnswer}
-use Rattle.capi.specs.Results.{verdictCode, codeAfter}
+use Rattle.capi_results.specs.Results.{verdictCode, codeAfter}
 use mathlib.Core.Path.{sym, ap, _∙_}
 use borrow.Author.Needs.{needs}
 use Rattle.capi.proofs.comparing.keeper_compare.Statement.{statement}

@@ -1,5 +1,5 @@
 -- `capi::tables::keeper_check` meets its contract.
-use Rattle.capi.proofs.Answers.{checkNumber, check-number}
+use Rattle.capi_results.proofs.Answers.{checkNumber, check-number}
 use mathlib.Core.Path.{sym, ap, _∙_}
 use borrow.Author.Needs.{needs}
 use Rattle.capi.proofs.tables.keeper_check.Statement.{statement}

@@ -1,5 +1,5 @@
 -- `capi::verdicts::keeper_certify` meets its contract.
-use Rattle.capi.proofs.Answers.{Certifies, certified, not-certified}
+use Rattle.capi_results.proofs.Answers.{Certifies, certified, not-certified}
 use Rattle.refusal.specs.Number.{numberOf}
 use Rattle.quorum.specs.Certificate.{stationAnswer}
 use mathlib.Core.Path.{sym, ap, subst, _∙_}

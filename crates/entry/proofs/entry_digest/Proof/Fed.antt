@@ -31,9 +31,9 @@ use denote.Triple.Call.{calls-at}
 use denote.Triple.Statement.{Contract, Triple}
 use denote.Triple.Clauses.{atExit, ensured, lasts}
 use denote.Triple.Walked.{says}
-use Rattle.sha256.specs.Running.{stateOf, absorbed}
-use Rattle.sha256.specs.declared.Running.{Running}
-use Rattle.sha256.proofs.Running as T
+use Rattle.sha256_digest.specs.Running.{stateOf, absorbed}
+use Rattle.sha256_digest.specs.declared.Running.{Running}
+use Rattle.sha256_digest.proofs.Running as T
 use Rattle.entry.proofs.feed as feed
 use Rattle.entry.proofs.feed.Symbol.{name as #entry·feed}
 use Rattle.entry.proofs.entry_digest.Proof.Lent.{lends-local, local-back}

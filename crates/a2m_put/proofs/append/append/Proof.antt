@@ -1,0 +1,51 @@
+-- `a2m_put::append::append` meets its contract. Assumes nothing.
+use Prim.Native.Nat.{ℕ}
+use Rattle.a2m.specs.Opened.{changeReply}
+use Rattle.a2m.specs.Call.{append}
+use Rattle.a2m.proofs.CallLaws.{append-length, append-sized, unopened, at-log}
+use Rattle.a2m.proofs.OpenedLaws.{opened}
+use mathlib.Core.Path.{refl, sym, _∙_}
+use borrow.Author.Needs.{needs}
+use Rattle.a2m_put.proofs.append.append.Statement.{statement}
+use Rattle.a2m_put.proofs.append.append.Tie as tie
+
+returns : tie.Need-returns
+returns c = append-length (c .before .before .before .args .table .now) (c .before .before .before .args .value .now) (c .before .before .before .args .log) (c .if1 .taken)
+
+open-requires : tie.Need-open-requires
+open-requires c κs = search needs
+
+enum-known-view : tie.Need-enum-known-view
+enum-known-view c = search needs
+
+append-open-requires : tie.Need-append-open-requires
+append-open-requires c κs = (opened (c .before .before .before .before .before .before .before .before .before .args .table .now) (c .before .before .before .before .before .before .before .before .before .args .log) (c .before .before .view .given .0 .0) (sym (c .before .before .view .given .1) ∙ c .before .before .before .before .«open» .ensures) .0, c .before .before .before .before .before .before .if1 .left)
+
+enum-known-why : tie.Need-enum-known-why
+enum-known-why c = search needs
+
+same-length : tie.Need-same-length
+same-length c = search needs
+
+returns-2 : tie.Need-returns-2
+returns-2 c = at-log (c .before .before .before .before .before .before .before .before .before .before .before .before .args .table .now) (λ (g : ℕ). append g (c .before .before .before .before .before .before .before .before .before .before .before .before .args .value .now)) (changeReply (c .before .before .append-open .result)) (c .before .before .append-open .last .0) (opened (c .before .before .before .before .before .before .before .before .before .before .before .before .args .table .now) (c .before .before .before .before .before .before .before .before .before .before .before .before .args .log) (c .before .before .before .before .before .view .given .0 .0) (sym (c .before .before .before .before .before .view .given .1) ∙ c .before .before .before .before .before .before .before .«open» .ensures) .1) (c .before .before .append-open .ensures)
+
+same-length-2 : tie.Need-same-length-2
+same-length-2 c = search needs
+
+returns-3 : tie.Need-returns-3
+returns-3 c = unopened (c .before .before .before .before .before .before .before .before .args .table .now) (c .before .before .before .before .before .before .before .before .args .log) (c .before .why .given .0 .0) (append (c .before .before .before .before .before .before .before .before .args .log) (c .before .before .before .before .before .before .before .before .args .value .now)) (sym (c .before .why .given .1) ∙ c .before .before .before .«open» .ensures) refl (append-sized (c .before .before .before .before .before .before .before .before .args .table .now) (c .before .before .before .before .before .before .before .before .args .value .now) (c .before .before .before .before .before .before .before .before .args .log) (c .before .before .before .before .before .if1 .left))
+
+pub append-spec : {M : Type 1} → statement M
+append-spec =
+    tie.close
+    (tie.spec
+    returns
+    open-requires
+    enum-known-view
+    append-open-requires
+    enum-known-why
+    same-length
+    returns-2
+    same-length-2
+    returns-3)

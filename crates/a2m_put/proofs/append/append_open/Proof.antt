@@ -1,0 +1,49 @@
+-- `a2m_put::append::append_open` meets its contract. Assumes nothing.
+use Rattle.a2m.specs.Opened.{changeReply}
+use lib.ListN.{length}
+use Rattle.a2m.proofs.CallLaws.{append-spent, append-full, append-done, append-high, append-fits}
+use Rattle.entry.proofs.DigestLaws.{length-entryDigest}
+use Rattle.a2m.proofs.OpenedLaws.{opened-counted, last-most}
+use mathlib.Core.Logic.{_≢_}
+use native.Mathlib.Omega.{arith}
+use mathlib.Core.Path.{ap, _∙_}
+use borrow.Author.Needs.{needs}
+use Rattle.a2m_put.proofs.append.append_open.Statement.{statement}
+use Rattle.a2m_put.proofs.append.append_open.Tie as tie
+
+returns : tie.Need-returns
+returns c = let a = c .before .before .before .before .before .args in append-spent (a .table .now) (a .value .now) (a .view) (c .before .before .before .before .before .pre .0) (c .before .before .before .before .before .pre .1) (c .if1 .taken)
+
+returns-2 : tie.Need-returns-2
+returns-2 c = let a = c .before .before .before .before .before .before .before .args in append-full (a .table .now) (a .value .now) (a .view) (c .before .before .before .before .before .before .before .pre .0) (c .before .before .before .before .before .before .before .pre .1) (c .before .before .if1 .left) (c .if2 .taken)
+
+append-requires : tie.Need-append-requires
+append-requires c κs = search needs
+
+digest-after-requires : tie.Need-digest-after-requires
+digest-after-requires c κs = let a = c .before .before .before .before .before .before .before .before .before .args in (opened-counted (a .table .now) (a .view) (c .before .before .before .before .before .before .before .before .before .pre .0), (last-most (a .table .now) (a .view) (c .before .before .before .before .before .before .before .before .before .pre .0), c .before .before .before .before .before .before .before .before .before .pre .1))
+
+slice-aggregate-enter : tie.Need-slice-aggregate-enter
+slice-aggregate-enter c = search needs
+
+enter-requires : tie.Need-enter-requires
+enter-requires c κs = let a = c .before .before .before .before .before .before .before .before .before .before .before .before .args in let f : a .view .free ≢ 0 = c .before .before .before .before .before .if2 .left in (c .before .before .before .before .before .before .before .before .before .before .before .before .pre .0, (omega arith, (append-high (a .view .row) (c .before .before .before .before .append .result) (a .view .free) (c .before .before .before .before .append .ensures), (append-fits (a .view .row) (c .before .before .before .before .append .result) (a .view .free) (c .before .before .before .before .append .ensures) (omega (arith, c .before .before .before .before .before .before .before .before .struct-known .given)) (c .before .before .before .before .before .before .before .if1 .left), (c .before .before .before .before .before .before .before .before .before .before .before .before .pre .1, ap length (c .before .before .digest-after .ensures) ∙ length-entryDigest _ _ _)))))
+
+same-length : tie.Need-same-length
+same-length c = search needs
+
+returns-3 : tie.Need-returns-3
+returns-3 c = let a = c .before .before .before .before .before .before .before .before .before .before .before .before .before .before .before .args in append-done (a .table .now) (a .value .now) (a .view) (c .before .before .before .before .before .before .before .before .before .before .before .before .before .before .before .pre .0) (c .before .before .before .before .before .before .before .before .before .before .before .before .before .before .before .pre .1) (c .before .before .before .before .before .before .before .before .before .before .if1 .left) (c .before .before .before .before .before .before .before .before .if2 .left) (c .before .before .before .before .before .before .before .append .result) (c .before .before .before .before .before .digest-after .result) (c .before .before .before .before .before .before .before .append .ensures) (c .before .before .before .before .before .digest-after .ensures) (changeReply (c .before .before .enter .result)) (c .before .before .enter .last .0) (c .before .before .enter .ensures .0) (c .before .before .enter .ensures .1)
+
+pub append-open-spec : {M : Type 1} → statement M
+append-open-spec =
+    tie.close
+    (tie.spec
+    returns
+    returns-2
+    append-requires
+    digest-after-requires
+    slice-aggregate-enter
+    enter-requires
+    same-length
+    returns-3)

@@ -1,0 +1,40 @@
+-- `a2m_read::lookup::lookup_open` meets its contract. Assumes nothing.
+use Rattle.a2m.proofs.ReadLaws.{lookup-zero, lookup-done}
+use Rattle.a2m.proofs.OpenedLaws.{opened-counted, opened-long, opened-log}
+use native.Mathlib.Omega.{arith}
+use borrow.Author.Needs.{needs}
+use Rattle.a2m_read.proofs.lookup.lookup_open.Statement.{statement}
+use Rattle.a2m_read.proofs.lookup.lookup_open.Tie as tie
+
+returns : tie.Need-returns
+returns c = let a = c .before .before .before .before .args in let p = c .before .before .before .before .pre in lookup-zero (a .table .now) (a .nonce .now) (a .receipt .now) (a .position) (a .view) (p .0) (p .1 .0) (p .1 .1) (c .if1 .taken)
+
+find-requires : tie.Need-find-requires
+find-requires c κs = search needs
+
+keeper-of-requires : tie.Need-keeper-of-requires
+keeper-of-requires c κs = opened-long (c .before .before .before .before .before .args .table .now) (c .before .before .before .before .before .args .view) (c .before .before .before .before .before .pre .0)
+
+cast-t12 : tie.Need-cast-t12
+cast-t12 c = let a = c .before .before .before .before .before .before .before .args in let l = opened-log (a .table .now) (a .view) (c .before .before .before .before .before .before .before .pre .0) in let k = opened-counted (a .table .now) (a .view) (c .before .before .before .before .before .before .before .pre .0) .logs-most in omega arith
+
+attest-requires : tie.Need-attest-requires
+attest-requires c κs = let a = c .before .before .before .before .before .before .before .before .args in let p = c .before .before .before .before .before .before .before .before .pre in (opened-counted (a .table .now) (a .view) (p .0), (c .before .before .before .find .ensures .0, (p .1 .0, p .1 .1)))
+
+same-length : tie.Need-same-length
+same-length c = search needs
+
+returns-2 : tie.Need-returns-2
+returns-2 c = let a = c .before .before .before .before .before .before .before .before .before .before .before .args in let p = c .before .before .before .before .before .before .before .before .before .before .before .pre in lookup-done (a .table .now) (a .nonce .now) (a .receipt .now) (a .position) (a .view) (p .0) (p .1 .0) (p .1 .1) (c .before .before .before .before .before .before .before .if1 .left) (c .before .before .before .before .before .before .find .result) (c .before .before .before .before .before .keeper-of .result) (c .before .before .attest .last .1 .1 .1 .1 .1 .1 .0) (c .before .before .before .before .before .before .find .ensures .1) (c .before .before .before .before .before .keeper-of .ensures) (c .before .before .attest .ensures)
+
+pub lookup-open-spec : {M : Type 1} → statement M
+lookup-open-spec =
+    tie.close
+    (tie.spec
+    returns
+    find-requires
+    keeper-of-requires
+    cast-t12
+    attest-requires
+    same-length
+    returns-2)

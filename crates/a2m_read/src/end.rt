@@ -1,0 +1,64 @@
+// End.
+use crate::attest::attest;
+use a2m::Opening;
+use a2m::View;
+use a2m_open::open;
+use layout_header::keeper_of;
+use receipt::Facts;
+use receipt::Name;
+use refusal::Outcome;
+use refusal::Refusal;
+ghost use mathlib.Core.Path.{_≡_};
+ghost use lib.ListN.{length};
+ghost use Rattle.a2m.specs.Call.{end as ends};
+ghost use Rattle.a2m.specs.TableCalls.{tableStep};
+ghost use Rattle.a2m.specs.Opened.{Opened, endReply, receiptAfter};
+
+// Refusal 6, and the receipt of the entry at the high position.
+fn end_open(table: &[u8], view: View, nonce: &[u8], receipt: &mut [u8]) -> Outcome
+    requires { ⌜ Opened (now table) view ⌝ }
+    requires { ⌜ (length (now nonce) ≡ 32) × (length (now receipt) ≡ 160) ⌝ }
+    ensures answer { λ r. ⌜ endReply r (now (receipt .exit)) ≡ tableStep (now (table .entry)) (ends (view .log) (now (nonce .entry)) (length (now (receipt .entry)))) .reply ⌝ }
+    ensures bytes { λ _. ⌜ now (receipt .exit) ≡ receiptAfter (tableStep (now (table .entry)) (ends (view .log) (now (nonce .entry)) (length (now (receipt .entry)))) .reply) (now (receipt .entry)) ⌝ }
+{
+    let row = view.row;
+    if row.last == 0 {
+        return Outcome::Refused(Refusal::NothingHeld);
+    }
+    let keeper = keeper_of(table);
+    let facts = Facts {
+        name: Name::End,
+        kind: 1,
+        log: view.log as u8,
+        keeper,
+        position: row.high,
+        reference: row.high,
+    };
+    attest(
+        table,
+        view.logs,
+        view.slots,
+        row.last,
+        facts,
+        nonce,
+        receipt,
+    );
+    Outcome::Done
+}
+
+// Writes a receipt of the log's last entry.
+pub fn end(table: &[u8], log: u64, nonce: &[u8], receipt: &mut [u8]) -> Outcome
+    ensures answer { λ r. ⌜ endReply r (now (receipt .exit)) ≡ tableStep (now (table .entry)) (ends log (now (nonce .entry)) (length (now (receipt .entry)))) .reply ⌝ }
+    ensures bytes { λ _. ⌜ now (receipt .exit) ≡ receiptAfter (tableStep (now (table .entry)) (ends log (now (nonce .entry)) (length (now (receipt .entry)))) .reply) (now (receipt .entry)) ⌝ }
+{
+    if nonce.len() != 32 {
+        return Outcome::Refused(Refusal::Length);
+    }
+    if receipt.len() != 160 {
+        return Outcome::Refused(Refusal::Length);
+    }
+    match open(table, log) {
+        Opening::Open(view) => end_open(table, view, nonce, receipt),
+        Opening::Refused(why) => Outcome::Refused(why),
+    }
+}

@@ -1,0 +1,24 @@
+-- `a2m_truncate::truncate_open` meets its contract. Assumes nothing.
+use Rattle.a2m.specs.Opened.{changeReply}
+use Rattle.a2m.proofs.CallLaws.{truncate-low, truncate-high, truncate-done}
+use borrow.Author.Needs.{needs}
+use Rattle.a2m_truncate.proofs.truncate_open.Statement.{statement}
+use Rattle.a2m_truncate.proofs.truncate_open.Tie as tie
+
+returns : tie.Need-returns
+returns c = let a = c .before .before .before .before .args in truncate-low (a .table .now) (a .position) (a .view) (c .before .before .before .before .pre) (c .if1 .taken)
+
+returns-2 : tie.Need-returns-2
+returns-2 c = let a = c .before .before .before .before .before .before .args in truncate-high (a .table .now) (a .position) (a .view) (c .before .before .before .before .before .before .pre) (c .before .before .if1 .left) (c .if2 .taken)
+
+strike-requires : tie.Need-strike-requires
+strike-requires c κs = search needs
+
+same-length : tie.Need-same-length
+same-length c = search needs
+
+returns-3 : tie.Need-returns-3
+returns-3 c = let a = c .before .before .before .before .before .before .before .before .before .before .args in truncate-done (a .table .now) (a .position) (a .view) (c .before .before .before .before .before .before .before .before .before .before .pre) (c .before .before .before .before .before .before .if1 .left) (c .before .before .before .before .if2 .left) (changeReply (c .before .before .strike .result)) (c .before .before .strike .last .0) (c .before .before .strike .ensures .0) (c .before .before .strike .ensures .1)
+
+pub truncate-open-spec : {M : Type 1} → statement M
+truncate-open-spec = tie.close (tie.spec returns returns-2 strike-requires same-length returns-3)

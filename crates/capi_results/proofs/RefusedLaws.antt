@@ -1,0 +1,42 @@
+-- "A refusal changes no lent byte and returns its number alone": where the number is not 0, each result is as it was.
+use Prim.Native.Nat.{ℕ}
+use mathlib.Core.Path.{_≡_, refl, ap}
+use mathlib.Core.Logic.{_≢_}
+use mathlib.Core.Bool.{Bool, cond}
+use mathlib.Core.List.{List}
+use mathlib.Core.Option.{Option, none, some}
+use lib.ListN.{getD}
+use borrow.Author.Tests.{ne-eqb}
+use Rattle.a2m.specs.Call.{Reply, refused, done, found, ended}
+use Rattle.receipt.specs.Answer.{Answer}
+use Rattle.runs.specs.Run.{Run}
+use Rattle.runs.specs.Compare.{Verdict, comparison}
+use Rattle.runs.specs.Call.{answered, compareRefusal, compareAnswer}
+use Rattle.sha256.specs.Sha256.{sha256}
+use Rattle.capi_results.specs.Results.{replyNumber, lowAfter, highAfter, examinedAfter, verdictAfter, placeAfter, maskAfter, codeAfter}
+
+pub reply-kept : (r : Reply) (old : ℕ) → replyNumber r ≢ 0 → (lowAfter r old ≡ old) × ((highAfter r old ≡ old) × (examinedAfter r old ≡ old))
+unfolding replyNumber lowAfter highAfter examinedAfter
+reply-kept (refused k) old n = (refl, (refl, refl))
+reply-kept (done l h) old n = absurd (n refl)
+reply-kept (found receipt k) old n = absurd (n refl)
+reply-kept (ended receipt) old n = absurd (n refl)
+
+pub verdict-kept : (a : Answer) (old : List ℕ) → a .number ≢ 0 → verdictAfter a old ≡ old
+unfolding verdictAfter
+verdict-kept a old n = ap (λ (t : Bool). cond t (a .values) old) (ne-eqb (a .number) 0 n)
+
+pub certificate-kept : (a : Answer) (place mask : ℕ) → a .number ≢ 0 → (placeAfter a place ≡ place) × (maskAfter a mask ≡ mask)
+unfolding placeAfter maskAfter
+certificate-kept a place mask n =
+    let e = ne-eqb (a .number) 0 n in
+    (ap (λ (t : Bool). cond t (getD (a .values) 0 0) place) e, ap (λ (t : Bool). cond t (getD (a .values) 1 0) mask) e)
+
+of-answered : (r : Option ℕ) (v : Verdict) (old : ℕ) → answered r v .number ≢ 0 → codeAfter (answered r v .verdict) old ≡ old
+unfolding answered codeAfter
+of-answered none v old n = absurd (n refl)
+of-answered (some k) v old n = refl
+
+pub code-kept : (a b : Run) (out : List ℕ) (old : ℕ) → compareAnswer a b out .number ≢ 0 → codeAfter (compareAnswer a b out .verdict) old ≡ old
+unfolding compareAnswer
+code-kept a b out old n = of-answered (compareRefusal a b out) (comparison sha256 a b) old n

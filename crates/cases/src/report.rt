@@ -1,0 +1,56 @@
+// What is printed of an answer.
+use bigendian::get_u64;
+use libc::STDOUT_FILENO;
+use line::find;
+use octets::wide;
+use printing::text;
+use refusal::Refusal;
+
+// A number as decimal, or in so many bytes as hexadecimal.
+fn value(kind: u8, n: u64) {
+    if kind == b'd' {
+        io::print_decimal(STDOUT_FILENO, n);
+    } else {
+        io::print_hex(STDOUT_FILENO, n, (kind % 16 * 2) as usize);
+    }
+}
+
+// A text with a number in the place of each `%d`, in decimal, and of each `%1` to `%8`, in so many bytes of hexadecimal.
+pub fn show(t: &[u8], values: &[u64]) {
+    let mut at = 0;
+    let mut i: usize = 0;
+    while at < t.len() {
+        let e = find(t, at, b'%');
+        text(&t[at..e]);
+        if t.len() - e < 2 {
+            return;
+        }
+        if i < values.len() {
+            value(t[e + 1], values[i]);
+            i += 1;
+        }
+        at = e + 2;
+    }
+}
+
+// A text with the number of a refusal.
+pub fn refused(t: &[u8], why: Refusal) {
+    show(t, &[wide(why.number())]);
+}
+
+// The words of 8 bytes each from a place on.
+pub fn words(bytes: &[u8], from: usize, out: &mut [u64]) {
+    let mut at = from;
+    let mut i = 0;
+    while i < out.len() {
+        if bytes.len() < at {
+            return;
+        }
+        if bytes.len() - at < 8 {
+            return;
+        }
+        out[i] = get_u64(bytes, at);
+        at += 8;
+        i += 1;
+    }
+}

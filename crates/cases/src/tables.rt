@@ -1,0 +1,130 @@
+// The check, format, and the five calls on a table. A line of a call ends with the SHA-256 of the table after it.
+use crate::report::refused;
+use crate::report::show;
+use crate::report::words;
+use a2m::Change;
+use a2m::Finding;
+use a2m_put::advance::advance;
+use a2m_put::append::append;
+use a2m_read::end::end;
+use a2m_read::lookup::lookup;
+use a2m_truncate::truncate;
+use case_fields::Values;
+use case_fields::slot;
+use case_fields::slot_mut;
+use octets::wide;
+use printing::text;
+use refusal::Outcome;
+use sha256_digest::hash;
+use table::Check;
+use table_check::check;
+use table_format::format;
+
+pub fn checked(table: &[u8]) {
+    match check(table) {
+        Check::Torn => text(b"torn\n"),
+        Check::Whole { free, last } => show(
+            b"whole, free %d, the last of them %d\n",
+            &[free as u64, last as u64],
+        ),
+    }
+}
+
+// The check of the first n bytes with another byte at a place, which is put back.
+pub fn spoiled(table: &mut [u8], place: u64, b: u64, n: u64) {
+    let at = place as usize;
+    if at < table.len() {
+        let held = table[at];
+        table[at] = (b % 256) as u8;
+        checked(slot(table, 0, n));
+        table[at] = held;
+    } else {
+        text(b"? no such byte\n");
+    }
+}
+
+pub fn table_after(table: &[u8]) {
+    let mut digest = [0u8; 32];
+    let mut w = [0u64; 4];
+    hash(table, &mut digest);
+    words(&digest, 0, &mut w);
+    show(b" table %8%8%8%8\n", &w);
+}
+
+fn changed(word: &[u8], answer: Change, table: &[u8]) {
+    text(word);
+    match answer {
+        Change::Done { low, high } => show(b" 00 %8 %8", &[low, high]),
+        Change::Refused(why) => refused(b" %1", why),
+    }
+    table_after(table);
+}
+
+// Name, kind and log; keeper; position; reference; value; digest; tag.
+fn show_receipt(receipt: &[u8]) {
+    let mut facts = [0u64; 4];
+    let mut rest = [0u64; 12];
+    words(receipt, 0, &mut facts);
+    words(receipt, 64, &mut rest);
+    show(b"\n  %8 %8 %8 %8", &facts);
+    show(b"\n  %8%8%8%8\n  %8%8%8%8\n  %8%8%8%8\n ", &rest);
+}
+
+// The receipt goes into a slot of the pile.
+pub fn looked_up(v: Values, store: &[u8], table: &[u8], pile: &mut [u8]) {
+    match lookup(
+        table,
+        v.a,
+        v.b,
+        slot(store, 3, v.c),
+        slot_mut(pile, v.d, v.e),
+    ) {
+        Finding::Found { examined } => {
+            show(b"lookup 00 %8", &[examined]);
+            show_receipt(slot(pile, v.d, v.e));
+        }
+        Finding::Refused(why) => refused(b"lookup %1", why),
+    }
+    table_after(table);
+}
+
+// The answer's number, and the receipt where it is 0.
+pub fn ended(v: Values, store: &[u8], table: &[u8], pile: &mut [u8]) {
+    let answer = end(table, v.a, slot(store, 2, v.b), slot_mut(pile, v.c, v.d));
+    show(b" %1", &[wide(answer.number())]);
+    if let Outcome::Done = answer {
+        show_receipt(slot(pile, v.c, v.d));
+    }
+}
+
+pub fn ends(v: Values, store: &[u8], table: &[u8], pile: &mut [u8]) {
+    text(b"end");
+    ended(v, store, table, pile);
+    table_after(table);
+}
+
+// Formats the table, and prints nothing.
+pub fn fresh(v: Values, store: &[u8], table: &mut [u8]) {
+    let _done = format(table, v.a, v.b, v.c, slot(store, 4, v.d));
+}
+
+pub fn formats(v: Values, store: &[u8], table: &mut [u8]) {
+    let answer = format(table, v.a, v.b, v.c, slot(store, 4, v.d));
+    show(b"format %1", &[wide(answer.number())]);
+    table_after(table);
+}
+
+pub fn appends(v: Values, store: &[u8], table: &mut [u8]) {
+    let answer = append(table, v.a, slot(store, 2, v.b));
+    changed(b"append", answer, table);
+}
+
+pub fn advances(v: Values, store: &[u8], table: &mut [u8]) {
+    let answer = advance(table, v.a, v.b, slot(store, 3, v.c), slot(store, 4, v.d));
+    changed(b"advance", answer, table);
+}
+
+pub fn truncates(v: Values, table: &mut [u8]) {
+    let answer = truncate(table, v.a, v.b);
+    changed(b"truncate", answer, table);
+}

@@ -1,0 +1,45 @@
+-- Blank slots, as the code finds them.
+use Prim.Native.Nat.{ℕ, _+_, _-_, _≤_}
+use mathlib.Core.Path.{_≡_, sym, ap, ap₂, _∙_}
+use mathlib.Core.Bool.{Bool, _&&_}
+use mathlib.Core.List.{List, _++_}
+use native.Mathlib.Omega.{arith}
+use lib.Dec.{eqb}
+use lib.ListN.{length, take, drop}
+use Rattle.octets.specs.Octets.{part, same, zeros}
+use Rattle.octets.proofs.Tests.{and-assoc}
+use Rattle.octets.proofs.Parts.{part-between, part-part, part-add, length-part}
+use Rattle.bigendian.specs.BigEndian.{unbe}
+use Rattle.layout.specs.Image.{slotAt}
+use Rattle.layout.specs.Layout.{slotSize, slotOffset, readSlot, readTable}
+use Rattle.layout.specs.Fits.{Counted}
+use Rattle.octets.proofs.Zeros.{length-zeros}
+use Rattle.layout.proofs.CodeLaws.{slot-there}
+use Rattle.layout.specs.Tests.{blank}
+use Rattle.layout.proofs.TestLaws.{zeros-add, same-append, zero-bytes}
+
+-- bytes 4–75 of a slot's part
+blank-bytes : (l : List ℕ) → length l ≡ slotSize → same (part l 4 72) (zeros 72) ≡ blank (readSlot l)
+unfolding blank readSlot
+blank-bytes l h =
+    let p : List ℕ = part l 4 8 in
+    let v : List ℕ = part l 12 32 in
+    let d : List ℕ = part l 44 32 in
+    let lp : length p ≡ 8 = length-part l 4 8 (omega arith) in
+    let lv : length v ≡ 32 = length-part l 12 32 (omega arith) in
+    ap₂ same (part-add l 4 8 64 ∙ ap (λ (q : List ℕ). p ++ q) (part-add l 12 32 32)) (zeros-add 8 64 ∙ ap (λ (q : List ℕ). zeros 8 ++ q) (zeros-add 32 32))
+    ∙ same-append p (v ++ d) (zeros 8) (zeros 32 ++ zeros 32) (lp ∙ sym (length-zeros 8))
+    ∙ ap₂ (λ (x y : Bool). x && y) (ap (λ (n : ℕ). same p (zeros n)) (sym lp) ∙ sym (zero-bytes p)) (same-append v d (zeros 32) (zeros 32) (lv ∙ sym (length-zeros 32)))
+    ∙ and-assoc (eqb (unbe p) 0) (same v (zeros 32)) (same d (zeros 32))
+
+pub blank-there : (b : List ℕ) (logs slots s at : ℕ) → Counted b logs slots → at ≡ slotOffset logs s → 1 ≤ s → s ≤ slots
+    → same (take (at + 4 + 72 - (at + 4)) (drop (at + 4) b)) (zeros (length (take (at + 4 + 72 - (at + 4)) (drop (at + 4) b)))) ≡ blank (slotAt (readTable b .slots) s)
+blank-there b logs slots s at c e h k =
+    let fits : at + slotSize ≤ length b = omega (arith, c .sized) in
+    let q : take (at + 4 + 72 - (at + 4)) (drop (at + 4) b) ≡ part b (at + 4) 72 = part-between b (at + 4) 72 in
+    ap (λ (x : List ℕ). same x (zeros (length x))) q
+    ∙ ap (λ (n : ℕ). same (part b (at + 4) 72) (zeros n)) (length-part b (at + 4) 72 (omega arith))
+    ∙ ap (λ (x : List ℕ). same x (zeros 72)) (sym (part-part b at slotSize 4 72 (omega arith)))
+    ∙ blank-bytes (part b at slotSize) (length-part b at slotSize fits)
+    ∙ ap (λ (x : List ℕ). blank (readSlot x)) (sym (part-between b at slotSize))
+    ∙ ap blank (slot-there b logs slots c at s e h k)

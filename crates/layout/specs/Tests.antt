@@ -1,0 +1,34 @@
+-- Document 01, "the length, constants and counts are as above", and "bytes 4–75 zero", as tests that the code makes.
+use Prim.Native.Nat.{ℕ, zero, suc}
+use mathlib.Core.List.{List}
+use mathlib.Core.Bool.{Bool, true, _&&_}
+use lib.ListN.{length}
+use lib.Dec.{eqb, leb}
+use Rattle.octets.specs.Octets.{part, same, zeros}
+use Rattle.layout.specs.Image.{Slot}
+use Rattle.layout.specs.Layout.{mark, zeroOffset, zerosOffset, padOffset, logsOf, slotsOf, tableSize}
+
+-- "The keeper holds 1 to 16 logs over one shared pool of 1 to 800 slots."
+unfoldable pub inRange : ℕ → ℕ → Bool
+inRange logs slots = leb 1 logs && leb logs 16 && leb 1 slots && leb slots 800
+
+-- "0–3 ASCII A2MT; .. 5 zero; .. 18–19 zero"
+unfoldable pub constantsFit : List ℕ → Bool
+constantsFit b = same (part b 0 4) mark && same (part b zeroOffset 1) (zeros 1) && same (part b zerosOffset 2) (zeros 2)
+
+-- "the length, constants and counts are as above", as far as the header holds them
+unfoldable pub headerFits : List ℕ → Bool
+headerFits b = constantsFit b && inRange (logsOf b) (slotsOf b) && eqb (length b) (tableSize (logsOf b) (slotsOf b))
+
+-- p holds of every number below n
+unfoldable pub allBelow : ℕ → (ℕ → Bool) → Bool
+allBelow zero p = true
+allBelow (suc n) p = p n && allBelow n p
+
+-- "1 zero", in each slot
+unfoldable pub padsFit : List ℕ → ℕ → ℕ → Bool
+padsFit b logs slots = allBelow slots (λ (i : ℕ). same (part b (padOffset logs i) 1) (zeros 1))
+
+-- "bytes 4–75 zero"
+unfoldable pub blank : Slot → Bool
+blank s = eqb (s .position) 0 && same (s .value) (zeros 32) && same (s .digest) (zeros 32)

@@ -1,0 +1,151 @@
+// A slot, read and written, and the tests of its zero bytes.
+use bigendian::get_u64;
+use bigendian::put_u64;
+use layout::Link;
+use layout::places::SLOT;
+use layout::places::byte_at;
+use layout::places::pair_at;
+use layout::places::put_byte;
+use layout::places::put_pair;
+use layout::places::row_offset;
+use layout::places::slot_offset;
+use octets::is_zero;
+ghost use mathlib.Core.Path.{_≡_};
+ghost use Prim.Native.Nat.{_≤_, _<_};
+ghost use lib.ListN.{length};
+ghost use Rattle.layout.specs.Image.{slotAt};
+ghost use Rattle.layout.specs.Changes.{linkOf, slotOf};
+ghost use Rattle.layout.specs.Layout.{slotSize, readSlot, slotBytes, readTable, putSlot, putNext};
+ghost use Rattle.layout.specs.Fits.{SlotFits, Counted};
+ghost use Rattle.layout.specs.Tests.{blank, padsFit};
+
+// The owner, next slot and position in a slot's part of a table.
+fn read_link(part: &[u8]) -> Link
+    requires { ⌜ length (now part) ≡ slotSize ⌝ }
+    ensures { λ r. ⌜ r ≡ linkOf (readSlot (now (part .entry))) ⌝ }
+{
+    let owner = byte_at(part, 0);
+    let next = pair_at(part, 2);
+    let position = get_u64(part, 4);
+    Link {
+        owner,
+        next,
+        position,
+    }
+}
+
+// The owner, next slot and position of slot s.
+pub fn link_at(table: &[u8], logs: usize, slots: usize, s: usize) -> Link
+    requires { ⌜ Counted (now table) logs slots ⌝ }
+    requires { ⌜ (1 ≤ s) × (s ≤ slots) ⌝ }
+    ensures { λ r. ⌜ r ≡ linkOf (slotAt (readTable (now (table .entry)) .slots) s) ⌝ }
+{
+    let at = slot_offset(logs, s);
+    read_link(&table[at..at + SLOT])
+}
+
+// The value of slot s, as a part of the table.
+pub fn value_at(table: &[u8], logs: usize, slots: usize, s: usize) -> &[u8]
+    requires { ⌜ Counted (now table) logs slots ⌝ }
+    requires { ⌜ (1 ≤ s) × (s ≤ slots) ⌝ }
+    ensures { λ r. ⌜ now r ≡ slotAt (readTable (now (table .entry)) .slots) s .value ⌝ }
+{
+    let at = slot_offset(logs, s) + 12;
+    &table[at..at + 32]
+}
+
+// The digest of slot s, as a part of the table.
+pub fn digest_at(table: &[u8], logs: usize, slots: usize, s: usize) -> &[u8]
+    requires { ⌜ Counted (now table) logs slots ⌝ }
+    requires { ⌜ (1 ≤ s) × (s ≤ slots) ⌝ }
+    ensures { λ r. ⌜ now r ≡ slotAt (readTable (now (table .entry)) .slots) s .digest ⌝ }
+{
+    let at = slot_offset(logs, s) + 44;
+    &table[at..at + 32]
+}
+
+// An entry, or a free slot, into the slot's part of a table.
+pub fn write_slot(
+    part: &mut [u8],
+    owner: usize,
+    next: usize,
+    position: u64,
+    value: &[u8],
+    digest: &[u8],
+)
+    requires { ⌜ length (now part) ≡ slotSize ⌝ }
+    requires { ⌜ SlotFits (slotOf owner next position (now value) (now digest)) ⌝ }
+    ensures { λ _. ⌜ now (part .exit) ≡ slotBytes (slotOf owner next position (now (value .entry)) (now (digest .entry))) ⌝ }
+{
+    put_byte(part, 0, owner);
+    put_byte(part, 1, 0);
+    put_pair(part, 2, next);
+    put_u64(part, 4, position);
+    octets::put(part, 12, value);
+    octets::put(part, 44, digest);
+}
+
+// An entry, or a free slot, into slot s.
+pub fn put_slot(
+    table: &mut [u8],
+    logs: usize,
+    slots: usize,
+    s: usize,
+    owner: usize,
+    next: usize,
+    position: u64,
+    value: &[u8],
+    digest: &[u8],
+)
+    requires { ⌜ Counted (now table) logs slots ⌝ }
+    requires { ⌜ (1 ≤ s) × (s ≤ slots) ⌝ }
+    requires { ⌜ SlotFits (slotOf owner next position (now value) (now digest)) ⌝ }
+    ensures { λ _. ⌜ now (table .exit) ≡ putSlot (now (table .entry)) s (slotOf owner next position (now (value .entry)) (now (digest .entry))) ⌝ }
+{
+    let at = slot_offset(logs, s);
+    write_slot(
+        &mut table[at..at + SLOT],
+        owner,
+        next,
+        position,
+        value,
+        digest,
+    );
+}
+
+// Another next slot in slot s.
+pub fn put_next(table: &mut [u8], logs: usize, slots: usize, s: usize, next: usize)
+    requires { ⌜ Counted (now table) logs slots ⌝ }
+    requires { ⌜ (1 ≤ s) × (s ≤ slots) ⌝ }
+    requires { ⌜ next < 65536 ⌝ }
+    ensures { λ _. ⌜ now (table .exit) ≡ putNext (now (table .entry)) s next ⌝ }
+{
+    let at = slot_offset(logs, s) + 2;
+    put_pair(table, at, next);
+}
+
+// Whether the position, value and digest of slot s are zero.
+pub fn is_blank(table: &[u8], logs: usize, slots: usize, s: usize) -> bool
+    requires { ⌜ Counted (now table) logs slots ⌝ }
+    requires { ⌜ (1 ≤ s) × (s ≤ slots) ⌝ }
+    ensures { λ r. ⌜ r ≡ blank (slotAt (readTable (now (table .entry)) .slots) s) ⌝ }
+{
+    let at = slot_offset(logs, s) + 4;
+    is_zero(&table[at..at + 72])
+}
+
+// Whether byte 1 of every slot is zero.
+pub fn pads_fit(table: &[u8], logs: usize, slots: usize) -> bool
+    requires { ⌜ Counted (now table) logs slots ⌝ }
+    ensures { λ r. ⌜ r ≡ padsFit (now (table .entry)) logs slots ⌝ }
+{
+    let start = row_offset(logs);
+    let mut i = slots;
+    while 0 < i {
+        i -= 1;
+        if byte_at(table, start + SLOT * i + 1) != 0 {
+            return false;
+        }
+    }
+    true
+}

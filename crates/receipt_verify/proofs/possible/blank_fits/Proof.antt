@@ -1,0 +1,31 @@
+-- `receipt_verify::possible::blank_fits` meets its contract.
+use Rattle.receipt.specs.Attestation.{readAttestation}
+use mathlib.Core.Path.{sym, _∙_}
+use borrow.Author.Tests.{not-true, not-false}
+use Rattle.receipt.proofs.Cases.{assigned-fits, end-left, by-blank}
+use borrow.Author.Needs.{needs}
+use Rattle.receipt_verify.proofs.possible.blank_fits.Statement.{statement}
+use Rattle.receipt_verify.proofs.possible.blank_fits.Tie as tie
+
+kind-of-requires : tie.Need-kind-of-requires
+kind-of-requires c κs = search needs
+
+returns : tie.Need-returns
+returns c = assigned-fits (readAttestation (c .before .before .before .args .r .now)) (sym (c .before .kind-of .ensures) ∙ c .if1 .taken)
+
+is-lookup-requires : tie.Need-is-lookup-requires
+is-lookup-requires c κs = search needs
+
+returns-2 : tie.Need-returns-2
+returns-2 c = end-left (readAttestation (c .before .before .before .before .before .args .r .now)) (λ e. c .before .before .if1 .left (c .before .before .before .kind-of .ensures ∙ e)) (sym (c .before .is-lookup .ensures) ∙ not-true _ (c .if2 .taken))
+
+is-blank-requires : tie.Need-is-blank-requires
+is-blank-requires c κs = search needs
+
+returns-3 : tie.Need-returns-3
+returns-3 c = c .is-blank .ensures ∙ by-blank (readAttestation (c .before .before .before .before .before .before .args .r .now)) (λ e. c .before .before .before .if1 .left (c .before .before .before .before .kind-of .ensures ∙ e)) (sym (c .before .before .is-lookup .ensures) ∙ not-false _ (c .before .if2 .left))
+
+pub blank-fits-spec : {M : Type 1} → statement M
+blank-fits-spec =
+    tie.close
+    (tie.spec kind-of-requires returns is-lookup-requires returns-2 is-blank-requires returns-3)

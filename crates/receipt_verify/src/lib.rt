@@ -1,0 +1,76 @@
+// The verifier of receipts.
+mod answers;
+mod possible;
+
+ghost use mathlib.Core.Path.{_≡_};
+ghost use lib.ListN.{length};
+ghost use Rattle.receipt.specs.Answer.{answer};
+ghost use Rattle.receipt.specs.Attestation.{receiptSize, readAttestation};
+ghost use Rattle.receipt.specs.Verdict.{carried, isTagged, verdict, verdictAnswer};
+use crate::answers::is_answer;
+use crate::possible::is_possible;
+use octets::equal;
+use receipt::Question;
+use receipt::RECEIPT;
+use receipt::Verdict;
+use receipt_fields::attested_of;
+use receipt_fields::keeper_of;
+use receipt_fields::kind_of;
+use receipt_fields::log_of;
+use receipt_fields::position_of;
+use receipt_fields::reference_of;
+use refusal::Refusal;
+
+// Whether the tag is that of the bytes before it.
+fn is_tagged(key: &[u8], r: &[u8]) -> bool
+    requires { ⌜ (length (now key) ≡ 32) × (length (now r) ≡ receiptSize) ⌝ }
+    ensures { λ b. ⌜ b ≡ isTagged (now (key .entry)) (now (r .entry)) ⌝ }
+{
+    let attested = attested_of(r);
+    let carried = receipt_fields::tag_of(r);
+    let tag = hmac::tag_of(key, attested);
+    equal(carried, &tag)
+}
+
+// What an accepted receipt says.
+fn accepted(r: &[u8]) -> Verdict
+    requires { ⌜ length (now r) ≡ receiptSize ⌝ }
+    ensures { λ v. ⌜ verdictAnswer v ≡ answer 0 (carried (readAttestation (now (r .entry)))) ⌝ }
+{
+    let keeper = keeper_of(r);
+    let position = position_of(r);
+    let reference = reference_of(r);
+    Verdict::Accepted {
+        keeper,
+        log: log_of(r),
+        position,
+        kind: kind_of(r),
+        reference,
+    }
+}
+
+// The verdict on a receipt. Refused with 7: key or nonce of another length than 32; 9: not 160 bytes, or no possible entry;
+// 10: the tag is wrong; 11: the question differs.
+pub fn verify(key: &[u8], receipt: &[u8], nonce: &[u8], q: Question) -> Verdict
+    ensures { λ v. ⌜ verdictAnswer v ≡ verdict (now (key .entry)) (now (receipt .entry)) (now (nonce .entry)) q ⌝ }
+{
+    if key.len() != 32 {
+        return Verdict::Refused(Refusal::Length);
+    }
+    if nonce.len() != 32 {
+        return Verdict::Refused(Refusal::Length);
+    }
+    if receipt.len() != RECEIPT {
+        return Verdict::Refused(Refusal::NoReceipt);
+    }
+    if !is_possible(receipt) {
+        return Verdict::Refused(Refusal::NoReceipt);
+    }
+    if !is_tagged(key, receipt) {
+        return Verdict::Refused(Refusal::Tag);
+    }
+    if !is_answer(receipt, q, nonce) {
+        return Verdict::Refused(Refusal::OtherQuestion);
+    }
+    accepted(receipt)
+}

@@ -1,0 +1,63 @@
+-- `receipt_write::put_tag` meets its contract.
+use native.Mathlib.Omega.{arith}
+use mathlib.Core.Path.{refl}
+use Rattle.octets.proofs.Parts.{length-part}
+use Rattle.octets.specs.Octets.{part}
+use lib.ListN.{replicate}
+use Rattle.receipt.proofs.Writing.{tag-lent}
+use borrow.Author.Needs.{needs}
+use Rattle.receipt_write.proofs.put_tag.Statement.{statement}
+use Rattle.receipt_write.proofs.put_tag.Tie as tie
+
+slice-aggregate-put : tie.Need-slice-aggregate-put
+slice-aggregate-put c = search needs
+
+sub-put : tie.Need-sub-put
+sub-put c = search needs
+
+part-put-start : tie.Need-part-put-start
+part-put-start c = search needs
+
+part-put-end : tie.Need-part-put-end
+part-put-end c = search needs
+
+put-requires : tie.Need-put-requires
+put-requires c κs = search needs
+
+slice-aggregate-tag : tie.Need-slice-aggregate-tag
+slice-aggregate-tag c = search needs
+
+sub-tag : tie.Need-sub-tag
+sub-tag c = search needs
+
+part-tag-start : tie.Need-part-tag-start
+part-tag-start c = search needs
+
+part-tag-end : tie.Need-part-tag-end
+part-tag-end c = search needs
+
+tag-requires : tie.Need-tag-requires
+tag-requires c κs = search needs
+
+same-length : tie.Need-same-length
+same-length c = search needs
+
+returns : tie.Need-returns
+returns c = tag-lent (c .before .before .before .before .before .before .before .before .before .before .before .before .args .out .now) (c .before .before .before .before .before .before .before .before .before .before .before .before .args .key .now) (replicate 128 0) (part (c .before .before .before .before .before .before .before .before .before .before .before .before .args .out .now) 128 32) (c .before .before .before .before .before .before .before .before .before .before .before .before .pre .0) (c .before .before .before .before .before .before .before .before .before .before .before .before .pre .1) refl (length-part (c .before .before .before .before .before .before .before .before .before .before .before .before .args .out .now) 128 32 (omega arith)) (c .before .before .before .before .before .before .put .ensures) (c .before .before .tag .ensures .1)
+
+pub put-tag-spec : {M : Type 1} → statement M
+put-tag-spec =
+    tie.close
+    (tie.spec
+    slice-aggregate-put
+    sub-put
+    part-put-start
+    part-put-end
+    put-requires
+    slice-aggregate-tag
+    sub-tag
+    part-tag-start
+    part-tag-end
+    tag-requires
+    same-length
+    returns)

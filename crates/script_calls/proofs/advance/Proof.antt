@@ -1,0 +1,67 @@
+-- `script_calls::advance` meets its contract.
+use native.Mathlib.Omega.{arith}
+use Rattle.bigendian.specs.BigEndian.{placed}
+use Rattle.a2m.specs.Call.{advance}
+use Rattle.script.proofs.CallLaws.{advance-changes}
+use Rattle.script.proofs.AnswerLaws.{advance-sized, change-named, change-answers}
+use Rattle.a2m.specs.TableCalls.{tableStep}
+use Prim.Native.Nat.{ℕ}
+use mathlib.Core.List.{List}
+use mathlib.Core.Path.{ap₂, _∙_}
+use borrow.Author.Needs.{needs}
+use Rattle.script_calls.proofs.advance.Statement.{statement}
+use Rattle.script_calls.proofs.advance.Tie as tie
+
+placed-requires : tie.Need-placed-requires
+placed-requires c κs = search needs
+
+placed-requires-2 : tie.Need-placed-requires-2
+placed-requires-2 c κs = search needs
+
+slice-aggregate-advance : tie.Need-slice-aggregate-advance
+slice-aggregate-advance c = search needs
+
+slice-aggregate-advance-2 : tie.Need-slice-aggregate-advance-2
+slice-aggregate-advance-2 c = search needs
+
+advance-requires : tie.Need-advance-requires
+advance-requires c κs = search needs
+
+changed-requires : tie.Need-changed-requires
+changed-requires c κs = let a = c .before .before .before .before .before .before .before .before .before .before .args in
+    let r = c .before .before .before .advance in
+    let b = a .table .now in
+    let p = c .before .before .before .before .before .before .before .before .placed .ensures in
+    let q = c .before .before .before .before .before .before .before .placed2 .ensures in
+    change-named b (r .last .0) (advance (a .log) (a .position) (placed (a .digest)) (placed (a .value))) (r .result) (advance-sized (a .log) (a .position) (a .digest) (a .value))
+    (r .ensures .0 ∙ ap₂ (λ (d x : List ℕ). tableStep b (advance (a .log) (a .position) d x) .reply) p q)
+    (r .ensures .1 ∙ ap₂ (λ (d x : List ℕ). tableStep b (advance (a .log) (a .position) d x) .state) p q)
+
+same-length : tie.Need-same-length
+same-length c = search needs
+
+returns : tie.Need-returns
+returns c = let a = c .before .before .before .before .before .before .before .before .before .before .before .args in
+    let r = c .before .before .before .before .advance in
+    let b = a .table .now in
+    let p = c .before .before .before .before .before .before .before .before .before .placed .ensures in
+    let q = c .before .before .before .before .before .before .before .before .placed2 .ensures in
+    let s = r .ensures .1 ∙ ap₂ (λ (d x : List ℕ). tableStep b (advance (a .log) (a .position) d x) .state) p q in (
+      c .changed .ensures
+          ∙ change-answers b (r .last .0) (advance (a .log) (a .position) (placed (a .digest)) (placed (a .value))) (r .result) (advance-sized (a .log) (a .position) (a .digest) (a .value))
+          (r .ensures .0 ∙ ap₂ (λ (d x : List ℕ). tableStep b (advance (a .log) (a .position) d x) .reply) p q) s (λ i. omega (arith, c .before .before .before .before .before .before .before .before .before .before .slice-known .given i)) (omega arith) (advance-changes (a .log) (a .position) (placed (a .digest)) (placed (a .value))),
+      s,
+    )
+
+pub advance-spec : {M : Type 1} → statement M
+advance-spec =
+    tie.close
+    (tie.spec
+    placed-requires
+    placed-requires-2
+    slice-aggregate-advance
+    slice-aggregate-advance-2
+    advance-requires
+    changed-requires
+    same-length
+    returns)

@@ -1,0 +1,28 @@
+-- `script_calls::changed` meets its contract.
+use Rattle.layout.specs.Layout.{readTable}
+use Rattle.a2m.specs.ImageCalls.{rowIn}
+use Rattle.script.specs.Named.{ChangeNamed, changeAnswer}
+use Rattle.a2m.specs.declared.Change.{Change}
+use mathlib.Core.Path.{sym, ap, subst, _∙_}
+use borrow.Author.Needs.{needs}
+use Rattle.script_calls.proofs.changed.Statement.{statement}
+use Rattle.script_calls.proofs.changed.Tie as tie
+
+enum-known-change : tie.Need-enum-known-change
+enum-known-change c = search needs
+
+enum-known-change-2 : tie.Need-enum-known-change-2
+enum-known-change-2 c = search needs
+
+refused-requires : tie.Need-refused-requires
+refused-requires c κs = subst (λ (x : Change). ChangeNamed (c .before .before .before .before .args .table .now) (c .before .before .before .before .args .log) x) (c .before .change2 .given .1) (c .before .before .before .before .pre)
+
+returns : tie.Need-returns
+returns c = ap (λ (x : Change). changeAnswer x (rowIn (readTable (c .before .before .before .before .args .table .now)) (c .before .before .before .before .args .log))) (sym (c .before .change .given .1))
+
+returns-2 : tie.Need-returns-2
+returns-2 c = c .refused .ensures ∙ ap (λ (x : Change). changeAnswer x (rowIn (readTable (c .before .before .before .before .before .args .table .now)) (c .before .before .before .before .before .args .log))) (sym (c .before .before .change2 .given .1))
+
+pub changed-spec : {M : Type 1} → statement M
+changed-spec =
+    tie.close (tie.spec enum-known-change enum-known-change-2 refused-requires returns returns-2)

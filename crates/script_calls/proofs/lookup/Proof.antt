@@ -1,0 +1,74 @@
+-- `script_calls::lookup` meets its contract.
+use native.Mathlib.Omega.{arith}
+use Rattle.script.proofs.CallLaws.{refused-named}
+use Rattle.a2m.specs.declared.Finding.{Finding}
+use Rattle.octets.specs.Octets.{zeros}
+use Rattle.a2m.specs.ImageCalls.{wrongLength}
+use Rattle.a2m.specs.Opened.{findingReply}
+use Rattle.script.proofs.AnswerLaws.{reply-answers, reply-accepted, found-not}
+use Rattle.a2m.specs.Call.{lookup, refused}
+use mathlib.Core.Path.{refl, sym, ap, _∙_}
+use borrow.Author.Needs.{needs}
+use Rattle.script_calls.proofs.lookup.Statement.{statement}
+use Rattle.script_calls.proofs.lookup.Tie as tie
+
+slice-aggregate-lookup : tie.Need-slice-aggregate-lookup
+slice-aggregate-lookup c = search needs
+
+slice-aggregate-lookup-2 : tie.Need-slice-aggregate-lookup-2
+slice-aggregate-lookup-2 c = search needs
+
+lookup-requires : tie.Need-lookup-requires
+lookup-requires c κs = search needs
+
+enum-told : tie.Need-enum-told
+enum-told c = search needs
+
+slice-aggregate-attested : tie.Need-slice-aggregate-attested
+slice-aggregate-attested c = search needs
+
+attested-requires : tie.Need-attested-requires
+unfolding zeros
+attested-requires c κs = let a = c .before .before .before .before .before .before .before .before .args in
+    let l = c .before .before .before .before .lookup in
+    let e = ap (λ (x : Finding). findingReply x (l .last .1 .1 .1 .1 .0)) (sym (c .before .enum-told .given .1)) ∙ l .ensures .0 in
+    (reply-accepted (a .table .now) (lookup (a .log) (a .position) (zeros 32) 160) (λ k h. found-not (l .last .1 .1 .1 .1 .0) _ k (e ∙ h)), search needs)
+
+enum-known-finding : tie.Need-enum-known-finding
+enum-known-finding c = search needs
+
+refused-requires : tie.Need-refused-requires
+unfolding zeros wrongLength
+refused-requires c κs = let a = c .before .before .before .before .before .before .before .before .args in
+    let l = c .before .before .before .before .lookup in
+    let e = ap (λ (x : Finding). findingReply x (l .last .1 .1 .1 .1 .0)) (sym (c .before .finding .given .1)) ∙ l .ensures .0 in
+    refused-named (a .table .now) (lookup (a .log) (a .position) (zeros 32) 160) _ refl (sym e)
+
+returns : tie.Need-returns
+unfolding zeros
+returns c = let a = c .before .before .before .before .before .before .before .before .before .args in
+    let l = c .before .before .before .before .before .lookup in
+    let e = ap (λ (x : Finding). findingReply x (l .last .1 .1 .1 .1 .0)) (sym (c .before .before .enum-told .given .1)) ∙ l .ensures .0 in
+    c .attested .ensures ∙ reply-answers (a .table .now) (λ i. omega (arith, c .before .before .before .before .before .before .before .before .shared-slice-known .given i)) (lookup (a .log) (a .position) (zeros 32) 160) tt _ e
+
+returns-2 : tie.Need-returns-2
+unfolding zeros
+returns-2 c = let a = c .before .before .before .before .before .before .before .before .before .args in
+    let l = c .before .before .before .before .before .lookup in
+    let e = ap (λ (x : Finding). findingReply x (l .last .1 .1 .1 .1 .0)) (sym (c .before .before .finding .given .1)) ∙ l .ensures .0 in
+    c .refused .ensures ∙ reply-answers (a .table .now) (λ i. omega (arith, c .before .before .before .before .before .before .before .before .shared-slice-known .given i)) (lookup (a .log) (a .position) (zeros 32) 160) tt _ e
+
+pub lookup-spec : {M : Type 1} → statement M
+lookup-spec =
+    tie.close
+    (tie.spec
+    slice-aggregate-lookup
+    slice-aggregate-lookup-2
+    lookup-requires
+    enum-told
+    slice-aggregate-attested
+    attested-requires
+    enum-known-finding
+    refused-requires
+    returns
+    returns-2)

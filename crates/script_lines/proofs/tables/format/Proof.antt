@@ -1,0 +1,93 @@
+-- `script_lines::tables::format` meets its contract.
+use Rattle.refusal.specs.Number.{numberOf, outcomeNumber}
+use Rattle.octets.specs.Octets.{zeros}
+use Prim.Native.Nat.{_≤_}
+use Rattle.script.proofs.TurnLaws.{many-logs, many-slots, format-counts, format-done, format-refused}
+use Rattle.refusal.proofs.NumberLaws.{numberOf-positive}
+use native.Mathlib.Omega.{arith}
+use mathlib.Core.Path.{_≡_, sym, ap, _∙_}
+use borrow.Author.Needs.{needs}
+use Rattle.script_lines.proofs.tables.format.Statement.{statement}
+use Rattle.script_lines.proofs.tables.format.Tie as tie
+
+returns : tie.Need-returns
+returns c = let a = c .before .before .args in format-counts (a .buffer .now) (a .size) (a .logs) (a .slots) (a .keeper) (omega arith) (omega arith) (many-logs (a .logs) (a .slots) (omega arith))
+
+returns-2 : tie.Need-returns-2
+returns-2 c = let a = c .before .before .before .args in format-counts (a .buffer .now) (a .size) (a .logs) (a .slots) (a .keeper) (omega arith) (omega arith) (many-slots (a .logs) (a .slots) (omega arith))
+
+table-size-requires : tie.Need-table-size-requires
+table-size-requires c κs = search needs
+
+sub-format : tie.Need-sub-format
+sub-format c = search needs
+
+part-format-start : tie.Need-part-format-start
+part-format-start c = search needs
+
+part-format-end : tie.Need-part-format-end
+part-format-end c = search needs
+
+slice-aggregate-format : tie.Need-slice-aggregate-format
+slice-aggregate-format c = search needs
+
+format-requires : tie.Need-format-requires
+format-requires c κs = search needs
+
+enum-told : tie.Need-enum-told
+enum-told c = search needs
+
+enum-known-outcome : tie.Need-enum-known-outcome
+enum-known-outcome c = search needs
+
+number-requires : tie.Need-number-requires
+number-requires c κs = search needs
+
+wide-requires : tie.Need-wide-requires
+wide-requires c κs = search needs
+
+same-length : tie.Need-same-length
+same-length c = search needs
+
+returns-3 : tie.Need-returns-3
+unfolding zeros
+returns-3 c = let a = c .before .before .before .before .before .before .before .before .before .before .before .args in
+    let n = c .before .before .before .before .before .before .before .table-size .result in
+    let f = c .before .before .before .before .format in
+    let k : n ≤ 61172 = omega (arith, c .before .before .before .before .before .before .before .table-size .ensures) in
+    format-done (a .buffer .now) (f .last .0) (a .size) n (a .logs) (a .slots) (a .keeper) (c .before .before .before .before .before .before .before .table-size .ensures) (omega arith) k (f .kept .0) (f .ensures .1)
+    (ap outcomeNumber (sym (c .enum-told .given .1)) ∙ f .ensures .0)
+
+same-length-2 : tie.Need-same-length-2
+same-length-2 c = search needs
+
+returns-4 : tie.Need-returns-4
+unfolding zeros
+returns-4 c = let a = c .before .before .before .before .before .before .before .before .before .before .before .before .before .before .args in
+    let n = c .before .before .before .before .before .before .before .before .before .before .table-size .result in
+    let f = c .before .before .before .before .before .before .before .format in
+    let k : n ≤ 61172 = omega (arith, c .before .before .before .before .before .before .before .before .before .before .table-size .ensures) in
+    let e : c .wide .result ≡ numberOf (c .before .before .before .outcome .given .0 .0) = c .wide .ensures .0 ∙ c .before .number .ensures in
+    format-refused (a .buffer .now) (f .last .0) (a .size) n (a .logs) (a .slots) (a .keeper) (c .before .before .before .before .before .before .before .before .before .before .table-size .ensures) (omega arith) k (f .kept .0) (f .ensures .1)
+    (c .wide .result) (omega (arith, numberOf-positive (c .before .before .before .outcome .given .0 .0))) (omega arith) (omega arith) (e ∙ ap outcomeNumber (sym (c .before .before .before .outcome .given .1)) ∙ f .ensures .0)
+
+pub format-spec : {M : Type 1} → statement M
+format-spec =
+    tie.close
+    (tie.spec
+    returns
+    returns-2
+    table-size-requires
+    sub-format
+    part-format-start
+    part-format-end
+    slice-aggregate-format
+    format-requires
+    enum-told
+    enum-known-outcome
+    number-requires
+    wide-requires
+    same-length
+    returns-3
+    same-length-2
+    returns-4)

@@ -1,0 +1,72 @@
+// A command carried out on the table at the start of a buffer.
+use layout::places::table_size;
+use line::Command;
+use refusal::Outcome;
+use script::Answer;
+use script::Turn;
+use script_calls::advance;
+use script_calls::append;
+use script_calls::end;
+use script_calls::lookup;
+use script_calls::truncate;
+ghost use mathlib.Core.Path.{_≡_};
+ghost use Prim.Native.Nat.{_≤_};
+ghost use lib.ListN.{length, take};
+ghost use Rattle.line.specs.declared.Command.the-variants.{Format};
+ghost use Rattle.script.specs.Script.{Turns};
+
+// A new table, of its own size, where the buffer can hold it.
+fn format(buffer: &mut [u8], size: usize, logs: u64, slots: u64, keeper: u64) -> Turn
+    requires { ⌜ (length (now buffer) ≡ 61172) × (size ≤ 61172) ⌝ }
+    ensures { λ r. ⌜ Turns (now (buffer .entry)) size (Format logs slots keeper) (now (buffer .exit)) r ⌝ }
+{
+    let counts = Turn {
+        answer: Answer::Plain(8),
+        size,
+    };
+    if 16 < logs {
+        return counts;
+    }
+    if 800 < slots {
+        return counts;
+    }
+    let n = table_size(logs as usize, slots as usize);
+    let key = [0u8; 32];
+    let outcome = table_format::format(&mut buffer[0..n], logs, slots, keeper, &key);
+    match outcome {
+        Outcome::Done => Turn {
+            answer: Answer::Plain(0),
+            size: n,
+        },
+        Outcome::Refused(why) => Turn {
+            answer: Answer::Plain(octets::wide(why.number())),
+            size,
+        },
+    }
+}
+
+// Carries a command out.
+pub fn carry_out(buffer: &mut [u8], size: usize, command: Command) -> Turn
+    requires { ⌜ (length (now buffer) ≡ 61172) × (size ≤ 61172) ⌝ }
+    ensures { λ r. ⌜ Turns (now (buffer .entry)) size command (now (buffer .exit)) r ⌝ }
+{
+    let answer = match command {
+        Command::Format {
+            logs,
+            slots,
+            keeper,
+        } => return format(buffer, size, logs, slots, keeper),
+        Command::Append { log, value } => append(&mut buffer[0..size], log, value),
+        Command::Advance {
+            log,
+            position,
+            digest,
+            value,
+        } => advance(&mut buffer[0..size], log, position, digest, value),
+        Command::Truncate { log, position } => truncate(&mut buffer[0..size], log, position),
+        Command::Lookup { log, position } => lookup(&buffer[0..size], log, position),
+        Command::End { log } => end(&buffer[0..size], log),
+        Command::Malformed => Answer::Plain(15),
+    };
+    Turn { answer, size }
+}

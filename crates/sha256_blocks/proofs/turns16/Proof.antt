@@ -1,0 +1,83 @@
+-- `sha256_blocks::turns16` meets its contract.
+use Rattle.sha256_blocks.proofs.Schedule.{turns-join}
+use borrow.Author.Needs.{needs}
+use Rattle.sha256_blocks.proofs.turns16.Statement.{statement}
+use Rattle.sha256_blocks.proofs.turns16.Tie as tie
+
+turns2-requires : tie.Need-turns2-requires
+turns2-requires c κs = search needs
+
+add-turns2 : tie.Need-add-turns2
+add-turns2 c = search needs
+
+turns2-requires-2 : tie.Need-turns2-requires-2
+turns2-requires-2 c κs = search needs
+
+add-turns2-2 : tie.Need-add-turns2-2
+add-turns2-2 c = search needs
+
+turns2-requires-3 : tie.Need-turns2-requires-3
+turns2-requires-3 c κs = search needs
+
+add-turns2-3 : tie.Need-add-turns2-3
+add-turns2-3 c = search needs
+
+turns2-requires-4 : tie.Need-turns2-requires-4
+turns2-requires-4 c κs = search needs
+
+add-turns2-4 : tie.Need-add-turns2-4
+add-turns2-4 c = search needs
+
+turns2-requires-5 : tie.Need-turns2-requires-5
+turns2-requires-5 c κs = search needs
+
+add-turns2-5 : tie.Need-add-turns2-5
+add-turns2-5 c = search needs
+
+turns2-requires-6 : tie.Need-turns2-requires-6
+turns2-requires-6 c κs = search needs
+
+add-turns2-6 : tie.Need-add-turns2-6
+add-turns2-6 c = search needs
+
+turns2-requires-7 : tie.Need-turns2-requires-7
+turns2-requires-7 c κs = search needs
+
+add-turns2-7 : tie.Need-add-turns2-7
+add-turns2-7 c = search needs
+
+turns2-requires-8 : tie.Need-turns2-requires-8
+turns2-requires-8 c κs = search needs
+
+returns : tie.Need-returns
+returns c =
+    let x = c .before .before .before .before .before .before .before .before .args in
+    let p1 = c .before .before .before .before .before .before .before .turns2 .ensures in
+    let p2 = turns-join 2 2 (x .s) (x .t) p1 (c .before .before .before .before .before .before .turns22 .ensures) in
+    let p3 = turns-join 4 2 (x .s) (x .t) p2 (c .before .before .before .before .before .turns23 .ensures) in
+    let p4 = turns-join 6 2 (x .s) (x .t) p3 (c .before .before .before .before .turns24 .ensures) in
+    let p5 = turns-join 8 2 (x .s) (x .t) p4 (c .before .before .before .turns25 .ensures) in
+    let p6 = turns-join 10 2 (x .s) (x .t) p5 (c .before .before .turns26 .ensures) in
+    let p7 = turns-join 12 2 (x .s) (x .t) p6 (c .before .turns27 .ensures) in
+    turns-join 14 2 (x .s) (x .t) p7 (c .turns28 .ensures)
+
+pub turns16-spec : {M : Type 1} → statement M
+turns16-spec =
+    tie.close
+    (tie.spec
+    turns2-requires
+    add-turns2
+    turns2-requires-2
+    add-turns2-2
+    turns2-requires-3
+    add-turns2-3
+    turns2-requires-4
+    add-turns2-4
+    turns2-requires-5
+    add-turns2-5
+    turns2-requires-6
+    add-turns2-6
+    turns2-requires-7
+    add-turns2-7
+    turns2-requires-8
+    returns)

@@ -1,0 +1,27 @@
+-- `sha256_words::small1` meets its contract.
+use mathlib.Core.Path.{ap, _∙_}
+use Prim.Native.Nat.{ℕ, _/_, _^_}
+use native.Mathlib.Omega.{arith}
+use lib.Bits.{bitXor}
+use Rattle.sha256.specs.Words.{rotr, σ1}
+use Rattle.sha256.proofs.Rotations.{paired}
+use borrow.Author.Needs.{needs}
+use Rattle.sha256_words.proofs.small1.Statement.{statement}
+use Rattle.sha256_words.proofs.small1.Tie as tie
+
+rotated-requires : tie.Need-rotated-requires
+rotated-requires c κs = search needs
+
+rotated-requires-2 : tie.Need-rotated-requires-2
+rotated-requires-2 c κs = search needs
+
+returns : tie.Need-returns
+unfolding σ1
+returns c =
+    let start = c .before .before in
+    let x = start .args .x in
+    ap (λ (u : ℕ). bitXor u (x / 2 ^ 10))
+    (c .rotated2 .ensures ∙ ap (λ (u : ℕ). rotr 17 (bitXor x u)) (c .before .rotated .ensures) ∙ paired 17 2 x (omega arith) (start .fits .x .fits))
+
+pub small1-spec : {M : Type 1} → statement M
+small1-spec = tie.close (tie.spec rotated-requires rotated-requires-2 returns)

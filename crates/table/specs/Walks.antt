@@ -1,0 +1,32 @@
+-- What the check's walks answer: broken, or how many slots they met, and the last.
+use Prim.Native.Nat.{ℕ, suc}
+use mathlib.Core.List.{List}
+use mathlib.Core.Bool.{Bool, true, false, _&&_}
+use lib.ListN.{length}
+use Rattle.table.specs.declared.Walk.{Walk}
+use Rattle.table.specs.declared.Walk.the-variants.{Met, Broken}
+use Rattle.table.specs.declared.Held.{Held}
+use Rattle.table.specs.declared.Held.the-variants as held
+use Rattle.layout.specs.declared.Row.{Row}
+use Rattle.layout.specs.Image.{Slot}
+use Rattle.table.specs.Chains.{lastOf, reaches, chain, positionsOf}
+use Rattle.table.specs.WholeImage.{rowOk, started}
+
+-- one chain
+abbrev pub walkOf : Bool → List ℕ → Walk
+walkOf true c = Met (length c) (lastOf c)
+walkOf false c = Broken
+
+-- all logs' chains
+abbrev pub heldOf : Bool → List ℕ → Held
+heldOf true c = held.Slots (length c)
+heldOf false c = held.Broken
+
+-- the chain of log g, with its row
+abbrev pub rowWalk : List Slot → ℕ → Row → Walk
+rowWalk slots g r = walkOf (rowOk slots g r) (chain slots (suc g) (r .first))
+
+-- the same, where the row is not fresh
+abbrev pub startedWalk : List Slot → ℕ → Row → Walk
+startedWalk slots g r =
+    walkOf (reaches slots (suc g) (r .first) && started r (chain slots (suc g) (r .first)) (positionsOf slots (chain slots (suc g) (r .first)))) (chain slots (suc g) (r .first))

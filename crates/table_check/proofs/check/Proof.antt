@@ -1,0 +1,81 @@
+-- `table_check::check` meets its contract.
+use borrow.Author.Tests.{not-false}
+use mathlib.Core.Path.{sym, _∙_}
+use Rattle.layout.proofs.HeaderLaws.{header-long, counted}
+use Rattle.table.proofs.CheckLaws.{torn-header, torn-pads, torn-free, torn-held, torn-over, torn-total, is-whole}
+use borrow.Author.Needs.{needs}
+use Rattle.table_check.proofs.check.Statement.{statement}
+use Rattle.table_check.proofs.check.Tie as tie
+
+header-fits-requires : tie.Need-header-fits-requires
+header-fits-requires c κs = search needs
+
+returns : tie.Need-returns
+returns c = torn-header (c .before .before .before .args .table .now) (c .before .header-fits .result) (c .before .header-fits .ensures) (c .if1 .taken)
+
+logs-of-requires : tie.Need-logs-of-requires
+logs-of-requires c κs = header-long (c .before .before .before .args .table .now) (sym (c .before .header-fits .ensures) ∙ not-false _ (c .if1 .left))
+
+slots-of-requires : tie.Need-slots-of-requires
+slots-of-requires c κs = header-long (c .before .before .before .before .args .table .now) (sym (c .before .before .header-fits .ensures) ∙ not-false _ (c .before .if1 .left))
+
+pads-fit-requires : tie.Need-pads-fit-requires
+pads-fit-requires c κs = (counted (c .before .before .before .before .before .args .table .now) (c .before .logs-of .result) (c .slots-of .result) (c .before .before .before .header-fits .result) (c .before .before .before .header-fits .ensures) (c .before .before .if1 .left) (c .before .logs-of .ensures .0) (c .slots-of .ensures .0))
+
+returns-2 : tie.Need-returns-2
+returns-2 c = torn-pads (c .before .before .before .before .before .before .before .args .table .now) (c .before .before .before .logs-of .result) (c .before .before .slots-of .result) (counted (c .before .before .before .before .before .before .before .args .table .now) (c .before .before .before .logs-of .result) (c .before .before .slots-of .result) (c .before .before .before .before .before .header-fits .result) (c .before .before .before .before .before .header-fits .ensures) (c .before .before .before .before .if1 .left) (c .before .before .before .logs-of .ensures .0) (c .before .before .slots-of .ensures .0)) (c .before .pads-fit .result) (c .before .pads-fit .ensures) (c .if2 .taken)
+
+free-walk-requires : tie.Need-free-walk-requires
+free-walk-requires c κs = (counted (c .before .before .before .before .before .before .before .args .table .now) (c .before .before .before .logs-of .result) (c .before .before .slots-of .result) (c .before .before .before .before .before .header-fits .result) (c .before .before .before .before .before .header-fits .ensures) (c .before .before .before .before .if1 .left) (c .before .before .before .logs-of .ensures .0) (c .before .before .slots-of .ensures .0))
+
+enum-known-count : tie.Need-enum-known-count
+enum-known-count c = search needs
+
+enum-told : tie.Need-enum-told
+enum-told c = search needs
+
+returns-3 : tie.Need-returns-3
+returns-3 c = torn-free (c .before .before .before .before .before .before .before .before .before .before .args .table .now) (c .before .before .before .before .before .before .logs-of .result) (c .before .before .before .before .before .slots-of .result) (counted (c .before .before .before .before .before .before .before .before .before .before .args .table .now) (c .before .before .before .before .before .before .logs-of .result) (c .before .before .before .before .before .slots-of .result) (c .before .before .before .before .before .before .before .before .header-fits .result) (c .before .before .before .before .before .before .before .before .header-fits .ensures) (c .before .before .before .before .before .before .before .if1 .left) (c .before .before .before .before .before .before .logs-of .ensures .0) (c .before .before .before .before .before .slots-of .ensures .0)) (sym (c .enum-told .given .1) ∙ c .before .before .free-walk .ensures)
+
+held-walk-requires : tie.Need-held-walk-requires
+held-walk-requires c κs = (counted (c .before .before .before .before .before .before .before .before .before .before .before .args .table .now) (c .before .before .before .before .before .before .before .logs-of .result) (c .before .before .before .before .before .before .slots-of .result) (c .before .before .before .before .before .before .before .before .before .header-fits .result) (c .before .before .before .before .before .before .before .before .before .header-fits .ensures) (c .before .before .before .before .before .before .before .before .if1 .left) (c .before .before .before .before .before .before .before .logs-of .ensures .0) (c .before .before .before .before .before .before .slots-of .ensures .0))
+
+enum-known-held : tie.Need-enum-known-held
+enum-known-held c = search needs
+
+enum-told-2 : tie.Need-enum-told-2
+enum-told-2 c = search needs
+
+returns-4 : tie.Need-returns-4
+returns-4 c = torn-held (c .before .before .before .before .before .before .before .before .before .before .before .before .before .before .args .table .now) (c .before .before .before .before .before .before .before .before .before .before .logs-of .result) (c .before .before .before .before .before .before .before .before .before .slots-of .result) (counted (c .before .before .before .before .before .before .before .before .before .before .before .before .before .before .args .table .now) (c .before .before .before .before .before .before .before .before .before .before .logs-of .result) (c .before .before .before .before .before .before .before .before .before .slots-of .result) (c .before .before .before .before .before .before .before .before .before .before .before .before .header-fits .result) (c .before .before .before .before .before .before .before .before .before .before .before .before .header-fits .ensures) (c .before .before .before .before .before .before .before .before .before .before .before .if1 .left) (c .before .before .before .before .before .before .before .before .before .before .logs-of .ensures .0) (c .before .before .before .before .before .before .before .before .before .slots-of .ensures .0)) (sym (c .enum-told2 .given .1) ∙ c .before .before .held-walk .ensures)
+
+returns-5 : tie.Need-returns-5
+returns-5 c = torn-over (c .before .before .before .before .before .before .before .before .before .before .before .before .before .before .before .before .args .table .now) (c .before .before .before .before .before .before .before .before .before .before .before .before .logs-of .result) (c .before .before .before .before .before .before .before .before .before .before .before .slots-of .result) (counted (c .before .before .before .before .before .before .before .before .before .before .before .before .before .before .before .before .args .table .now) (c .before .before .before .before .before .before .before .before .before .before .before .before .logs-of .result) (c .before .before .before .before .before .before .before .before .before .before .before .slots-of .result) (c .before .before .before .before .before .before .before .before .before .before .before .before .before .before .header-fits .result) (c .before .before .before .before .before .before .before .before .before .before .before .before .before .before .header-fits .ensures) (c .before .before .before .before .before .before .before .before .before .before .before .before .before .if1 .left) (c .before .before .before .before .before .before .before .before .before .before .before .before .logs-of .ensures .0) (c .before .before .before .before .before .before .before .before .before .before .before .slots-of .ensures .0)) (c .before .before .before .before .before .before .count .given .0 .0) _ (c .before .before .held .given .0 .0) (sym (c .before .before .before .before .before .before .count .given .1) ∙ c .before .before .before .before .before .before .before .before .free-walk .ensures) (sym (c .before .before .held .given .1) ∙ c .before .before .before .before .held-walk .ensures) (c .if3 .taken)
+
+returns-6 : tie.Need-returns-6
+returns-6 c = torn-total (c .before .before .before .before .before .before .before .before .before .before .before .before .before .before .before .before .before .args .table .now) (c .before .before .before .before .before .before .before .before .before .before .before .before .before .logs-of .result) (c .before .before .before .before .before .before .before .before .before .before .before .before .slots-of .result) (counted (c .before .before .before .before .before .before .before .before .before .before .before .before .before .before .before .before .before .args .table .now) (c .before .before .before .before .before .before .before .before .before .before .before .before .before .logs-of .result) (c .before .before .before .before .before .before .before .before .before .before .before .before .slots-of .result) (c .before .before .before .before .before .before .before .before .before .before .before .before .before .before .before .header-fits .result) (c .before .before .before .before .before .before .before .before .before .before .before .before .before .before .before .header-fits .ensures) (c .before .before .before .before .before .before .before .before .before .before .before .before .before .before .if1 .left) (c .before .before .before .before .before .before .before .before .before .before .before .before .before .logs-of .ensures .0) (c .before .before .before .before .before .before .before .before .before .before .before .before .slots-of .ensures .0)) (c .before .before .before .before .before .before .before .count .given .0 .0) _ (c .before .before .before .held .given .0 .0) (sym (c .before .before .before .before .before .before .before .count .given .1) ∙ c .before .before .before .before .before .before .before .before .before .free-walk .ensures) (sym (c .before .before .before .held .given .1) ∙ c .before .before .before .before .before .held-walk .ensures) (c .before .if3 .left) (c .if4 .taken)
+
+returns-7 : tie.Need-returns-7
+returns-7 c = is-whole (c .before .before .before .before .before .before .before .before .before .before .before .before .before .before .before .before .before .args .table .now) (c .before .before .before .before .before .before .before .before .before .before .before .before .before .logs-of .result) (c .before .before .before .before .before .before .before .before .before .before .before .before .slots-of .result) (counted (c .before .before .before .before .before .before .before .before .before .before .before .before .before .before .before .before .before .args .table .now) (c .before .before .before .before .before .before .before .before .before .before .before .before .before .logs-of .result) (c .before .before .before .before .before .before .before .before .before .before .before .before .slots-of .result) (c .before .before .before .before .before .before .before .before .before .before .before .before .before .before .before .header-fits .result) (c .before .before .before .before .before .before .before .before .before .before .before .before .before .before .before .header-fits .ensures) (c .before .before .before .before .before .before .before .before .before .before .before .before .before .before .if1 .left) (c .before .before .before .before .before .before .before .before .before .before .before .before .before .logs-of .ensures .0) (c .before .before .before .before .before .before .before .before .before .before .before .before .slots-of .ensures .0)) (c .before .before .before .before .before .before .before .count .given .0 .0) _ (c .before .before .before .held .given .0 .0) (sym (c .before .before .before .before .before .before .before .count .given .1) ∙ c .before .before .before .before .before .before .before .before .before .free-walk .ensures) (sym (c .before .before .before .held .given .1) ∙ c .before .before .before .before .before .held-walk .ensures) (c .before .before .before .before .before .before .before .before .before .before .before .before .before .before .before .header-fits .result) (c .before .before .before .before .before .before .before .before .before .before .before .pads-fit .result) (c .before .before .before .before .before .before .before .before .before .before .before .before .before .before .before .header-fits .ensures) (c .before .before .before .before .before .before .before .before .before .before .before .before .before .before .if1 .left) (c .before .before .before .before .before .before .before .before .before .before .before .pads-fit .ensures) (c .before .before .before .before .before .before .before .before .before .before .if2 .left) (c .before .if3 .left) (c .if4 .left)
+
+pub check-spec : {M : Type 1} → statement M
+check-spec =
+    tie.close
+    (tie.spec
+    header-fits-requires
+    returns
+    logs-of-requires
+    slots-of-requires
+    pads-fit-requires
+    returns-2
+    free-walk-requires
+    enum-known-count
+    enum-told
+    returns-3
+    held-walk-requires
+    enum-known-held
+    enum-told-2
+    returns-4
+    returns-5
+    returns-6
+    returns-7)

@@ -1,0 +1,41 @@
+// Whether a table is whole (document 01, "A table is whole if ..").
+mod walks;
+
+use crate::walks::free_walk;
+use crate::walks::held_walk;
+use layout_header::header_fits;
+use layout_header::logs_of;
+use layout_header::slots_of;
+use layout_slots::pads_fit;
+use table::Check;
+use table::Held;
+use table::Walk;
+ghost use mathlib.Core.Path.{_≡_};
+ghost use Rattle.table.specs.Whole.{checkOf};
+
+// Whether the table is whole; and if so, how many slots are free, and the last of the free chain.
+pub fn check(table: &[u8]) -> Check
+    ensures { λ r. ⌜ r ≡ checkOf (now (table .entry)) ⌝ }
+{
+    if !header_fits(table) {
+        return Check::Torn;
+    }
+    let logs = logs_of(table);
+    let slots = slots_of(table);
+    if !pads_fit(table, logs, slots) {
+        return Check::Torn;
+    }
+    let Walk::Met { count, last } = free_walk(table, logs, slots) else {
+        return Check::Torn;
+    };
+    let Held::Slots(held) = held_walk(table, logs, slots) else {
+        return Check::Torn;
+    };
+    if slots < held {
+        return Check::Torn;
+    }
+    if count != slots - held {
+        return Check::Torn;
+    }
+    Check::Whole { free: count, last }
+}

@@ -1,0 +1,136 @@
+// Chains of slots, each walked once, no further than the table has slots.
+use layout::Row;
+use layout_header::free_of;
+use layout_rows::row_at;
+use layout_slots::is_blank;
+use layout_slots::link_at;
+use table::Held;
+use table::Walk;
+ghost use mathlib.Core.Path.{_≡_};
+ghost use Prim.Native.Nat.{_≤_, _<_};
+ghost use Rattle.layout.specs.Image.{rowAt};
+ghost use Rattle.layout.specs.Layout.{readTable};
+ghost use Rattle.layout.specs.Fits.{Counted};
+ghost use Rattle.table.specs.Free.{freeChain};
+ghost use Rattle.table.specs.Walks.{walkOf, heldOf, rowWalk, startedWalk};
+ghost use Rattle.table.specs.WholeImage.{fresh, freeOk, rowsOk, heldBy};
+
+// Whether a row is a fresh log's.
+fn is_fresh(row: Row) -> bool
+    ensures { λ r. ⌜ r ≡ fresh row ⌝ }
+{
+    if row.low != 1 {
+        return false;
+    }
+    if row.high != 0 {
+        return false;
+    }
+    if row.first != 0 {
+        return false;
+    }
+    row.last == 0
+}
+
+// The free chain.
+pub fn free_walk(table: &[u8], logs: usize, slots: usize) -> Walk
+    requires { ⌜ Counted (now table) logs slots ⌝ }
+    ensures { λ r. ⌜ r ≡ walkOf (freeOk (readTable (now (table .entry)))) (freeChain (readTable (now (table .entry)))) ⌝ }
+{
+    let mut s = free_of(table);
+    let mut n = 0;
+    let mut last = 0;
+    while s != 0 {
+        if n == slots {
+            return Walk::Broken;
+        }
+        if slots < s {
+            return Walk::Broken;
+        }
+        let l = link_at(table, logs, slots, s);
+        if l.owner != 0 {
+            return Walk::Broken;
+        }
+        if !is_blank(table, logs, slots, s) {
+            return Walk::Broken;
+        }
+        last = s;
+        s = l.next;
+        n += 1;
+    }
+    Walk::Met { count: n, last }
+}
+
+// The chain of log g, whose row has 1 ≤ L ≤ H.
+pub fn log_walk(table: &[u8], logs: usize, slots: usize, g: usize, row: Row) -> Walk
+    requires { ⌜ Counted (now table) logs slots ⌝ }
+    requires { ⌜ g < 16 ⌝ }
+    requires { ⌜ (1 ≤ row .low) × (row .low ≤ row .high) ⌝ }
+    ensures { λ r. ⌜ r ≡ startedWalk (readTable (now (table .entry)) .slots) g row ⌝ }
+{
+    let mut s = row.first;
+    let mut n = 0;
+    let mut floor = row.low - 1;
+    let mut last = 0;
+    while s != 0 {
+        if n == slots {
+            return Walk::Broken;
+        }
+        if slots < s {
+            return Walk::Broken;
+        }
+        let l = link_at(table, logs, slots, s);
+        if l.owner != g + 1 {
+            return Walk::Broken;
+        }
+        if l.position <= floor {
+            return Walk::Broken;
+        }
+        floor = l.position;
+        last = s;
+        s = l.next;
+        n += 1;
+    }
+    if floor != row.high {
+        return Walk::Broken;
+    }
+    if last != row.last {
+        return Walk::Broken;
+    }
+    Walk::Met { count: n, last }
+}
+
+// The chain of log g.
+pub fn row_walk(table: &[u8], logs: usize, slots: usize, g: usize) -> Walk
+    requires { ⌜ Counted (now table) logs slots ⌝ }
+    requires { ⌜ g < logs ⌝ }
+    ensures { λ r. ⌜ r ≡ rowWalk (readTable (now (table .entry)) .slots) g (rowAt (readTable (now (table .entry)) .rows) g) ⌝ }
+{
+    let row = row_at(table, logs, slots, g);
+    if is_fresh(row) {
+        return Walk::Met { count: 0, last: 0 };
+    }
+    if row.low == 0 {
+        return Walk::Broken;
+    }
+    if row.high < row.low {
+        return Walk::Broken;
+    }
+    log_walk(table, logs, slots, g, row)
+}
+
+// The chains of all logs.
+pub fn held_walk(table: &[u8], logs: usize, slots: usize) -> Held
+    requires { ⌜ Counted (now table) logs slots ⌝ }
+    ensures { λ r. ⌜ r ≡ heldOf (rowsOk (readTable (now (table .entry)) .slots) 0 (readTable (now (table .entry)) .rows)) (heldBy (readTable (now (table .entry)) .slots) 0 (readTable (now (table .entry)) .rows)) ⌝ }
+{
+    let mut total = 0;
+    let mut g = 0;
+    while g < logs {
+        let Walk::Met { count, last: _ } = row_walk(table, logs, slots, g) else {
+            return Held::Broken;
+        };
+        total += count;
+        g += 1;
+    }
+    Held::Slots(total)
+}
