@@ -96,7 +96,8 @@ heldSlot g e = slotOf (suc g) 0 (e .position) (e .value) (e .digest)
 -- the entry goes into a free slot, and that behind the log's last
 unfoldable pub put : Image → ℕ → Entry → Image
 put m g e =
-    changed m (afterTaken m) g (advancedRow (rowIn m g) (e .position) (taken m)) (joined (m .slots) (taken m) (rowIn m g .last) (heldSlot g e))
+    let row = rowIn m g in
+    changed m (afterTaken m) g (advancedRow row (e .position) (taken m)) (joined (m .slots) (taken m) (row .last) (heldSlot g e))
 
 -- "the digest of the entry at the old H (32). On a fresh log the last part is 32 zero bytes": those of slot 0
 abbrev pub previousIn : Image → ℕ → List ℕ
@@ -107,13 +108,15 @@ previousIn m g = slotAt (m .slots) (rowIn m g .last) .digest
 -- the log's first slot becomes free, at the free chain's end
 unfoldable pub release : Image → ℕ → Image
 release m g =
-    changed m (firstOf (joint m) (m .free) (rowIn m g .first)) g (truncatedRow (rowIn m g) (rowIn m g .low) (slotAt (m .slots) (rowIn m g .first) .next))
-    (joined (m .slots) (rowIn m g .first) (joint m) (freeSlot 0))
+    let row = rowIn m g in
+    let s = row .first in
+    let last = joint m in
+    changed m (firstOf last (m .free) s) g (truncatedRow row (row .low) (slotAt (m .slots) s .next)) (joined (m .slots) s last (freeSlot 0))
 
 -- "Entries below n leave, their slots become free": one by one, by rising position
 unfoldable pub releases : ℕ → ℕ → Image → ℕ → Image
 releases zero n m g = m
-releases (suc k) n m g = elim (leb n (slotAt (m .slots) (rowIn m g .first) .position)) [ true ↦ m | false ↦ releases k n (release m g) g ]
+releases (suc k) n m g = let lowest = slotAt (m .slots) (rowIn m g .first) in elim (leb n (lowest .position)) [ true ↦ m | false ↦ releases k n (release m g) g ]
 
 -- "L becomes n"
 unfoldable pub lowered : Image → ℕ → ℕ → Image
