@@ -12,6 +12,7 @@ pub mod OfWhole
 pub mod Once
 pub mod Passed
 pub mod Positions
+pub mod Program
 pub mod Put
 pub mod Reading
 pub mod Refusals

@@ -32,10 +32,10 @@ pub record Stands (m : Image) (b : Model) : Type 0 where
   pub fits : Fits m
   pub counts : Range (length (b .logs)) (b .size)
 
-in-range : (m : Image) (b : Model) → Stands m b → Range (length (m .rows)) (length (m .slots))
+pub in-range : (m : Image) (b : Model) → Stands m b → Range (length (m .rows)) (length (m .slots))
 in-range m b s = rw (s .says .count, s .says .size) (s .counts)
 
-step-stands : (m : Image) (b : Model) → Stands m b → (c : Call) (w : AllWide (c ∷ [])) → Stands (imageStep m c .state) (modelStep rules01 b c .state)
+pub step-stands : (m : Image) (b : Model) → Stands m b → (c : Call) (w : AllWide (c ∷ [])) → Stands (imageStep m c .state) (modelStep rules01 b c .state)
 step-stands m b s c w = record {
   says = step-agrees m b (s .says) (s .sound) c .state;
   sound = step-sound rules01 b (s .sound) c;
