@@ -8,6 +8,7 @@ pub mod ImageClaim
 pub mod Later
 pub mod Lookups
 pub mod MarkedSet
+pub mod MarkedTable
 pub mod OfWhole
 pub mod Once
 pub mod Passed
