@@ -2,6 +2,7 @@ pub mod Along
 pub mod Changes
 pub mod Demand3
 pub mod Entries
+pub mod FreeHolds
 pub mod Fresh
 pub mod History
 pub mod ImageClaim
