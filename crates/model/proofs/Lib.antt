@@ -1,3 +1,4 @@
+pub mod Accepted
 pub mod Along
 pub mod Changes
 pub mod Demand3
@@ -22,8 +23,10 @@ pub mod Remembers
 pub mod Represents
 pub mod Shown
 pub mod Sound
+pub mod Standings
 pub mod Step
 pub mod TableClaim
 pub mod Truncate
 pub mod Untorn
+pub mod Verified
 pub mod WholeOf

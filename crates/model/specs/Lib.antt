@@ -4,3 +4,4 @@ pub mod Marked
 pub mod Model
 pub mod ModelOf
 pub mod Program
+pub mod Question
