@@ -110,6 +110,8 @@ pub record ListClaim (G S keeper : ℕ) (key : List ℕ) (cs : List Call) (rs : 
   pub unskipped : (i j g p : ℕ) (v d : List ℕ) → SkipsAt rules01 (newModel G S keeper key) cs rs j g p → ShowsAt rs i g p v d → ⊥
   -- "or one forgotten by then"
   pub remembered : (i j g p n : ℕ) (v d : List ℕ) → j < i → ForgetsAt cs rs j g n → p < n → ShowsAt rs i g p v d → ⊥
+  -- "Position 0 is never assigned."
+  pub positive : (i g n : ℕ) (v d : List ℕ) → ShowsAt rs i g n v d → 1 ≤ n
   -- what a lookup or an end wrote, the verifier accepts under the format's key, for the question that the call was, with what the book says then
   pub verified : (i : ℕ) (c : Call) (r : List ℕ) → getElem? cs i ≡ some c → receiptIn (replyAt rs i) ≡ some r
       → verdict key r (nonceOf c) (questionOf keeper c) ≡ answer 0 (valuesOf (after (modelStep rules01) (newModel G S keeper key) (take i cs)) c)
