@@ -1,10 +1,10 @@
 -- The model is no empty one: what a call put at n, a later lookup of n shows assigned, until a truncate goes past n.
-use Prim.Native.Nat.{ℕ, zero, suc, _-_, _^_, _≤_, _<_}
+use Prim.Native.Nat.{ℕ, zero, suc, _^_, _≤_, _<_}
 use native.Mathlib.Nat.{le-refl}
 use mathlib.Core.Path.{_≡_, refl, sym, ap, subst, _∙_}
 use mathlib.Core.Logic.{inl, inr}
 use mathlib.Core.List.{List, [], _∷_}
-use mathlib.Core.Bool.{Bool, true, false, cond}
+use mathlib.Core.Bool.{Bool, true, false}
 use mathlib.Core.Option.{Option, none, some, Option·none-ne-some}
 use native.Mathlib.Omega.{arith}
 use native.Mathlib.Decide.{ℕ-discrete}
@@ -22,20 +22,12 @@ use Rattle.model.specs.Model.{Rules, Model, logAt, modelRefusal, modelRe
 use Rattle.model.specs.Claim.{Shows, receiptIn, replyAt, ShowsAt, Stores, Asked}
 use Rattle.model.proofs.Represents.{LogOk, Rising}
 use Rattle.model.proofs.Passed.{Passed, Stepped, turned, taken, stepped}
+use Rattle.model.proofs.Later.{in-kept}
 use Rattle.model.proofs.Entries.{EntryAt, in-bounds, rising-in}
 use Rattle.model.proofs.Shown.{length-LOOKUP}
 use Rattle.model.proofs.Along.{Keeps, after-fixed, at-keeps, at-next, at-reply}
 
 -- ---- a log keeps its entries down to its low
-
-in-kept : (n : ℕ) (e : Entry) (es : List Entry) → In e es → n ≤ e .position → In e (keepFrom n es)
-unfolding keepFrom
-in-kept n e (x ∷ es) (inl p) h = rw (keepFrom, le-leb n (x .position) (subst (λ (y : Entry). n ≤ y .position) p h)) (inl p)
-in-kept n e (x ∷ es) (inr m) h = go (leb n (x .position)) (in-kept n e es m h)
-  where
-    go : (t : Bool) → In e (keepFrom n es) → In e (cond t (x ∷ keepFrom n es) (keepFrom n es))
-    go true q = inr q
-    go false q = q
 
 kept-at : (l : Log) (m n : ℕ) (v d : List ℕ) → m ≤ n → EntryAt l n v d → EntryAt (cutAt m l) n v d
 unfolding cutAt

@@ -4,7 +4,9 @@ use mathlib.Core.List.{List, [], _∷_}
 use Rattle.octets.specs.Octets.{zeros}
 use Rattle.bigendian.specs.BigEndian.{unbe, placed}
 use Rattle.receipt.specs.Attestation.{Attestation, readAttestation}
+use Rattle.layout.specs.Layout.{readTable}
 use Rattle.a2m.specs.Call.{Call, append, advance, truncate, lookup, end, logOf, Reply, refused, done, found, ended, Outcome}
+use Rattle.a2m.specs.ImageCalls.{rowIn}
 
 -- "kind (U, A, S, F), position, reference, value"; "a dash where there is none"
 pub data Columns : Type 0 where
@@ -71,6 +73,13 @@ columnsOf (refused k) = dashes
 columnsOf (done low high) = dashes
 columnsOf (found r k) = columnsFrom (readAttestation r)
 columnsOf (ended r) = columnsFrom (readAttestation r)
+
+-- L and H of a log, as a table's bytes say
+abbrev pub lowIn : List ℕ → ℕ → ℕ
+lowIn b g = rowIn (readTable b) g .low
+
+abbrev pub highIn : List ℕ → ℕ → ℕ
+highIn b g = rowIn (readTable b) g .high
 
 -- the lines that the calls give, one after the other, with the low and high that the state after each says of its log
 unfoldable pub answered : {State : Type 0} → (State → Call → Outcome State) → (State → ℕ → ℕ) → (State → ℕ → ℕ) → State → List Line → List Line
