@@ -13,7 +13,7 @@ use Rattle.layout.specs.Changes.{withNext, slotOf, advancedRow, truncatedRow}
 use Rattle.table.specs.Chains.{chain, entriesOf}
 use Rattle.table.specs.Free.{taken, afterTaken, joint}
 use Rattle.table.specs.WholeImage.{wholeImage}
-use Rattle.a2m.specs.Call.{Call, append, advance, truncate, lookup, end, logOf, refused, done, found, ended, Outcome, outcome}
+use Rattle.a2m.specs.Call.{Call, append, advance, truncate, lookup, end, logOf, refused, done, found, ended, Effect, effect}
 use Rattle.a2m.specs.NewEntry.{newEntry}
 use Rattle.a2m.specs.Search.{Found, lookedUp}
 
@@ -155,19 +155,19 @@ endAttested m g nonce = record {
 -- ---- the calls
 
 -- "An accepted append, advance or truncate answers 0 with the L and H of that row", as it is after
-unfoldable pub imageDone : Image → ℕ → Outcome Image
-imageDone m g = outcome (done (rowIn m g .low) (rowIn m g .high)) m
+unfoldable pub imageDone : Image → ℕ → Effect Image
+imageDone m g = effect (done (rowIn m g .low) (rowIn m g .high)) m
 
 -- what an accepted call answers, and the table after
-unfoldable pub imageAccept : Image → Call → Outcome Image
+unfoldable pub imageAccept : Image → Call → Effect Image
 imageAccept m (append g x) = imageDone (put m g (newEntry (rowIn m g .high + 1) x (previousIn m g))) g
 imageAccept m (advance g n d x) = imageDone (put m g (newEntry n x d)) g
 imageAccept m (truncate g n) = imageDone (lowered (releases (length (m .slots)) n m g) g n) g
 imageAccept m (lookup g n c k) =
     let f = lookedUp (rowIn m g) (entriesIn m g) n in
-    outcome (found (receiptBytes (m .key) (lookupAttested m g n c f)) (f .examined)) m
-imageAccept m (end g c k) = outcome (ended (receiptBytes (m .key) (endAttested m g c))) m
+    effect (found (receiptBytes (m .key) (lookupAttested m g n c f)) (f .examined)) m
+imageAccept m (end g c k) = effect (ended (receiptBytes (m .key) (endAttested m g c))) m
 
 -- "A refusal changes no lent byte and returns its number alone."
-unfoldable pub imageStep : Image → Call → Outcome Image
-imageStep m call = elim (imageRefusal m call) [ none ↦ imageAccept m call | some k ↦ outcome (refused k) m ]
+unfoldable pub imageStep : Image → Call → Effect Image
+imageStep m call = elim (imageRefusal m call) [ none ↦ imageAccept m call | some k ↦ effect (refused k) m ]

@@ -8,7 +8,7 @@ use lib.Dec.{eqb}
 use lib.ListN.{getD}
 use Rattle.refusal.specs.Order.{fault, firstFault}
 use Rattle.table.specs.Whole.{whole}
-use Rattle.a2m.specs.Call.{Reply, refused, done, found, ended}
+use Rattle.a2m.specs.Call.{Reply, refused, done, found, ended, numbered}
 use Rattle.receipt.specs.Answer.{Answer}
 use Rattle.receipt.specs.declared.Ask.the-variants.{Lookup, End}
 use Rattle.receipt.specs.declared.Question.{Question}
@@ -22,10 +22,7 @@ checkRefusal b = firstFault (fault 1 (not (whole b)) ∷ [])
 
 -- a reply's number: 0 "done", or the refusal's
 unfoldable pub replyNumber : Reply → ℕ
-replyNumber (refused k) = k
-replyNumber (done l h) = 0
-replyNumber (found receipt k) = 0
-replyNumber (ended receipt) = 0
+replyNumber r = numbered r .number
 
 -- "0 with the L and H of that row"
 unfoldable pub lowAfter : Reply → ℕ → ℕ

@@ -17,11 +17,11 @@ use Rattle.receipt.specs.declared.Ask.the-variants.{Lookup, End}
 use Rattle.receipt.specs.declared.Question.{Question}
 use Rattle.receipt.proofs.Verifier.{complete}
 use Rattle.layout.specs.Image.{Entry, blankEntry}
-use Rattle.a2m.specs.Call.{Call, append, advance, truncate, lookup, end, Wide, AllWide, replies, after}
+use Rattle.a2m.specs.Call.{Call, append, advance, truncate, lookup, end, Wide, AllWide, replies, after, receiptIn}
 use Rattle.a2m.proofs.Lists.{In}
 use Rattle.model.specs.Log.{Log, lastEntry, Standing, unassigned, forgotten, assigned, skipped, standing, kindOf, referenceOf}
-use Rattle.model.specs.Model.{rules01, Model, logAt, isNil, modelReceipt, shownFor, lookupReply, endReply, modelDone, modelAccept, modelStep}
-use Rattle.model.specs.Claim.{receiptIn, replyAt}
+use Rattle.model.specs.Model.{rules01, Model, logAt, isNil, modelReceipt, shownFor, modelLookup, modelEnd, modelDone, modelAccept, modelStep}
+use Rattle.model.specs.Claim.{replyAt}
 use Rattle.model.specs.Question.{questionOf, nonceOf, valuesOf}
 use Rattle.model.proofs.Represents.{LogOk}
 use Rattle.model.proofs.Positions.{ok-low}
@@ -155,7 +155,7 @@ end-shows b g c held ok =
 
 module _ (b : Model) (keeps : Keeps b) (key : length (b .key) ≡ 32) (few : length (b .logs) ≤ 16) where
   accept-verified : (call : Call) → Wide call → Passed rules01 b call → (r : List ℕ) → receiptIn (modelAccept rules01 b call .reply) ≡ some r → Verifies (b .key) (b .keeper) call r (valuesOf b call)
-  unfolding modelAccept modelDone lookupReply endReply nonceOf questionOf valuesOf
+  unfolding modelAccept modelDone modelLookup modelEnd nonceOf questionOf valuesOf
   accept-verified (append g x) w a r q = absurd (Option·none-ne-some r q)
   accept-verified (advance g n d x) w a r q = absurd (Option·none-ne-some r q)
   accept-verified (truncate g n) w a r q = absurd (Option·none-ne-some r q)

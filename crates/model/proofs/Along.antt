@@ -7,7 +7,7 @@ use native.Mathlib.Omega.{arith}
 use lib.ListN.{length, take, getElem?, length-set}
 use lib.Seq.{getD-set-same}
 use Rattle.layout.specs.Image.{Entry}
-use Rattle.a2m.specs.Call.{Call, append, advance, truncate, lookup, end, refused, done, Outcome, replies, after, AllWide, Wide}
+use Rattle.a2m.specs.Call.{Call, append, advance, truncate, lookup, end, refused, done, Effect, replies, after, AllWide, Wide}
 use Rattle.model.specs.Log.{freshLog, entered, cutAt}
 use Rattle.model.specs.Model.{Rules, Model, logAt, modelDone, modelAccept, modelStep}
 use Rattle.model.specs.Claim.{replyAt, ShowsAt}
@@ -108,7 +108,7 @@ module _ (ru : Rules) where
     where
       go : Stepped ru b (advance g n d x) → (e : Entry) × (e .position ≡ n) × (logAt (modelStep ru b (advance g n d x) .state .logs) g ≡ entered (logAt (b .logs) g) e)
       go (turned k e) = absurd (let q : refused k ≡ done lo hi = rw e at h in let z : _≡_ {A = ℕ} 0 1 = cc in omega arith)
-      go (taken a e) = (_, refl, ap (λ (o : Outcome Model). logAt (o .state .logs) g) e ∙ getD-set-same (b .logs) g _ freshLog (a .log))
+      go (taken a e) = (_, refl, ap (λ (o : Effect Model). logAt (o .state .logs) g) e ∙ getD-set-same (b .logs) g _ freshLog (a .log))
 
   pub truncated : (b : Model) (g n : ℕ) (lo hi : ℕ) → modelStep ru b (truncate g n) .reply ≡ done lo hi → logAt (modelStep ru b (truncate g n) .state .logs) g ≡ cutAt n (logAt (b .logs) g)
   unfolding modelAccept modelDone

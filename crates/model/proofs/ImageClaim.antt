@@ -66,5 +66,5 @@ image-claim G S keeper key k64 k32 few m R cs w =
       logs = A .state .count ∙ after-fixed rules01 b cs .count ∙ length-replicate G freshLog;
       size = size;
       untorn = rw e (model-untorn b cs);
-      found = rw e (model-remembers rules01 b keeps cs w);
+      recalled = rw e (model-remembers rules01 b keeps cs w);
     }

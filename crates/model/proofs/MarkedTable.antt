@@ -10,12 +10,12 @@ use Rattle.layout.specs.Image.{Image}
 use Rattle.layout.specs.Layout.{readTable, writeTable}
 use Rattle.layout.proofs.TableLaws.{read-write}
 use Rattle.table.specs.Format.{formatted, formatRefusal, formatBytes}
-use Rattle.a2m.specs.Call.{Call, AllWide, logOf, Outcome}
+use Rattle.a2m.specs.Call.{Call, AllWide, logOf, Effect, numbered}
 use Rattle.a2m.specs.ImageCalls.{rowIn, imageStep}
 use Rattle.a2m.specs.TableCalls.{tableStep}
 use Rattle.a2m.proofs.Written.{step-written}
 use Rattle.model.specs.Model.{rules01, Model, newModel, modelStep}
-use Rattle.model.specs.Marked.{Line, line, answerOf, columnsOf, marked, lowIn, highIn, answered}
+use Rattle.model.specs.Marked.{Line, line, columnsOf, marked, lowIn, highIn, answered}
 use Rattle.model.proofs.TableClaim.{Stands, in-range, step-stands}
 use Rattle.model.proofs.MarkedSet.{marked-image}
 use Rattle.model.proofs.Demand3.{stands, bytes-are}
@@ -36,12 +36,12 @@ lines-written m b s (l ∷ ls) w =
     let e = step-written m (s .fits) (in-range m b s) (l .call) in
     let t = step-stands m b s (l .call) (w .0, tt) in
     let back : readTable (writeTable (o .state)) ≡ o .state = read-write (o .state) (t .fits) in
-    let reply : tableStep (writeTable m) (l .call) .reply ≡ o .reply = ap (λ (x : Outcome (List ℕ)). x .reply) e in
-    let low : lowIn (tableStep (writeTable m) (l .call) .state) g ≡ rowIn (o .state) g .low = ap (λ (x : Outcome (List ℕ)). lowIn (x .state) g) e ∙ ap (λ (i : Image). rowIn i g .low) back in
-    let high : highIn (tableStep (writeTable m) (l .call) .state) g ≡ rowIn (o .state) g .high = ap (λ (x : Outcome (List ℕ)). highIn (x .state) g) e ∙ ap (λ (i : Image). rowIn i g .high) back in
+    let reply : tableStep (writeTable m) (l .call) .reply ≡ o .reply = ap (λ (x : Effect (List ℕ)). x .reply) e in
+    let low : lowIn (tableStep (writeTable m) (l .call) .state) g ≡ rowIn (o .state) g .low = ap (λ (x : Effect (List ℕ)). lowIn (x .state) g) e ∙ ap (λ (i : Image). rowIn i g .low) back in
+    let high : highIn (tableStep (writeTable m) (l .call) .state) g ≡ rowIn (o .state) g .high = ap (λ (x : Effect (List ℕ)). highIn (x .state) g) e ∙ ap (λ (i : Image). rowIn i g .high) back in
     let rest : answered tableStep lowIn highIn (tableStep (writeTable m) (l .call) .state) ls ≡ imageLines (o .state) ls =
-    ap (λ (x : Outcome (List ℕ)). answered tableStep lowIn highIn (x .state) ls) e ∙ lines-written (o .state) (modelStep rules01 b (l .call) .state) t ls (w .1) in
-    λ i. line (l .number) (l .call) (answerOf (reply i)) (columnsOf (reply i)) (low i) (high i) ∷ rest i
+    ap (λ (x : Effect (List ℕ)). answered tableStep lowIn highIn (x .state) ls) e ∙ lines-written (o .state) (modelStep rules01 b (l .call) .state) t ls (w .1) in
+    λ i. line (l .number) (l .call) (numbered (reply i) .number) (columnsOf (reply i)) (low i) (high i) ∷ rest i
 
 wide : AllWide (callsOf marked)
 unfolding callsOf marked

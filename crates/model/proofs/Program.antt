@@ -10,7 +10,7 @@ use Rattle.layout.specs.Image.{Image}
 use Rattle.layout.specs.Layout.{readTable, writeTable}
 use Rattle.table.specs.Format.{formatted, formatRefusal, formatBytes}
 use Rattle.table.specs.Whole.{whole}
-use Rattle.a2m.specs.Call.{Call, append, advance, truncate, lookup, end, AllWide, Reply, Outcome, replies, after}
+use Rattle.a2m.specs.Call.{Call, append, advance, truncate, lookup, end, AllWide, Reply, Effect, replies, after}
 use Rattle.a2m.specs.ImageCalls.{imageRefusal, imageAccept, imageStep}
 use Rattle.a2m.specs.TableCalls.{tableStep}
 use Rattle.a2m.proofs.Unchanged.{Reads}
@@ -38,7 +38,7 @@ read-same m call h = go (imageRefusal m call) refl
 
 module _ (m : Image) (b : Model) (s : Stands m b) where
   after-call : (call : Call) → tableStep (writeTable m) call .state ≡ writeTable (imageStep m call .state)
-  after-call call = ap (λ (o : Outcome (List ℕ)). o .state) (step-written m (s .fits) (in-range m b s) call)
+  after-call call = ap (λ (o : Effect (List ℕ)). o .state) (step-written m (s .fits) (in-range m b s) call)
 
   after-read : (call : Call) → Reads call → tableStep (writeTable m) call .state ≡ writeTable m
   after-read call h = after-call call ∙ ap writeTable (read-same m call h)

@@ -11,11 +11,11 @@ use Rattle.hmac.specs.Hmac.{hmac}
 use Rattle.receipt.specs.Attestation.{Attestation, LOOKUP, END, attestedBytes, receiptBytes, readAttestation, Sized}
 use Rattle.receipt.proofs.Fields.{read-receipt}
 use Rattle.layout.specs.Image.{Entry}
-use Rattle.a2m.specs.Call.{Call, append, advance, truncate, lookup, end, Wide}
+use Rattle.a2m.specs.Call.{Call, append, advance, truncate, lookup, end, Wide, receiptIn}
 use Rattle.a2m.proofs.Lists.{In}
 use Rattle.model.specs.Log.{Log, lastEntry, Standing, unassigned, forgotten, assigned, skipped, standing, kindOf, referenceOf}
-use Rattle.model.specs.Model.{Rules, Model, logAt, isNil, modelReceipt, shownFor, lookupReply, endReply, modelDone, modelAccept, modelStep}
-use Rattle.model.specs.Claim.{Shows, receiptIn}
+use Rattle.model.specs.Model.{Rules, Model, logAt, isNil, modelReceipt, shownFor, modelLookup, modelEnd, modelDone, modelAccept, modelStep}
+use Rattle.model.specs.Claim.{Shows}
 use Rattle.model.proofs.Represents.{Sound}
 use Rattle.model.proofs.Passed.{Passed, Stepped, turned, taken, stepped}
 use Rattle.model.proofs.Standings.{Means, standing-means}
@@ -84,7 +84,7 @@ module _ (ru : Rules) (b : Model) (ok : Sound b) (keeper : b .keeper < 2 ^ 64) (
       subst (λ (y : ℕ). EntryAt (logAt (b .logs) y) p v d) (z .0) (z .1)
 
   accept-shown : (call : Call) → Wide call → Passed ru b call → (r : List ℕ) → receiptIn (modelAccept ru b call .reply) ≡ some r → (k p : ℕ) (v d : List ℕ) → Shows r k p v d → EntryAt (logAt (b .logs) k) p v d
-  unfolding modelAccept modelDone lookupReply endReply
+  unfolding modelAccept modelDone modelLookup modelEnd
   accept-shown (append g x) wide a r q k p v d s = absurd (Option·none-ne-some r q)
   accept-shown (advance g n y x) wide a r q k p v d s = absurd (Option·none-ne-some r q)
   accept-shown (truncate g n) wide a r q k p v d s = absurd (Option·none-ne-some r q)

@@ -21,7 +21,7 @@ use Rattle.table.specs.Chains.{chain}
 use Rattle.table.specs.Whole.{whole}
 use Rattle.table.specs.WholeImage.{wholeImage}
 use Rattle.table.proofs.WholeLaws.{whole-formed, whole-range, whole-image}
-use Rattle.a2m.specs.Call.{Call, append, advance, truncate, lookup, end, logOf, Wide}
+use Rattle.a2m.specs.Call.{Call, append, advance, truncate, lookup, end, logOf, Wide, receiptIn}
 use Rattle.a2m.specs.Search.{Found, lookedUp}
 use Rattle.a2m.specs.ImageCalls.{rowIn, entriesIn, misplaced, lookupAttested, endAttested}
 use Rattle.a2m.specs.TableCalls.{tableRefusal, tableStep}
@@ -30,7 +30,6 @@ use Rattle.a2m.proofs.Lists.{In}
 use Rattle.model.specs.Log.{Log, standing, kindOf, referenceOf, examinedFor}
 use Rattle.model.specs.Model.{rules01, modelStep}
 use Rattle.model.specs.ModelOf.{logIn, modelOf}
-use Rattle.model.specs.Claim.{receiptIn}
 use Rattle.model.specs.Question.{questionOf, nonceOf, valuesIn, valuesOf}
 use Rattle.model.proofs.Represents.{LogOk}
 use Rattle.model.proofs.Lookups.{foundAs, lookup-is}

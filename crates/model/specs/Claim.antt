@@ -12,7 +12,7 @@ use Rattle.receipt.specs.Attestation.{readAttestation}
 use Rattle.receipt.specs.Verdict.{verdict}
 use Rattle.layout.specs.Image.{Image}
 use Rattle.table.specs.WholeImage.{meets}
-use Rattle.a2m.specs.Call.{Call, append, advance, truncate, lookup, end, Reply, refused, done, found, ended, replies, after}
+use Rattle.a2m.specs.Call.{Call, append, advance, truncate, lookup, end, Reply, refused, done, found, ended, replies, after, receiptIn}
 use Rattle.a2m.specs.ImageCalls.{rowIn, entriesIn}
 use Rattle.model.specs.Log.{Log}
 use Rattle.model.specs.Model.{Rules, rules01, Model, newModel, logAt, modelStep}
@@ -27,13 +27,6 @@ pub record Shows (r : List ℕ) (g n : ℕ) (v d : List ℕ) : Type 0 where
   pub position : readAttestation r .position ≡ n
   pub value : readAttestation r .value ≡ v
   pub digest : readAttestation r .digest ≡ d
-
--- document 01: "a refused call has no receipt"
-abbrev pub receiptIn : Reply → Option (List ℕ)
-receiptIn (refused k) = none
-receiptIn (done l h) = none
-receiptIn (found r k) = some r
-receiptIn (ended r) = some r
 
 abbrev pub replyAt : List Reply → ℕ → Reply
 replyAt rs i = getD rs i (refused 0)
@@ -125,4 +118,4 @@ pub record ListClaim (G S keeper : ℕ) (key : List ℕ) (cs : List Call) (rs : 
   -- "1 never occurs."
   pub untorn : (i : ℕ) → replyAt rs i ≢ refused 1
   -- and what a call put is found again: a later lookup shows it assigned with the value put, unless an accepted truncate went past it
-  pub found : (i j g n : ℕ) (x : List ℕ) → Asked cs rs i j g n x → (d : List ℕ) × ShowsAt rs j g n x d
+  pub recalled : (i j g n : ℕ) (x : List ℕ) → Asked cs rs i j g n x → (d : List ℕ) × ShowsAt rs j g n x d

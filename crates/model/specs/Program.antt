@@ -1,7 +1,7 @@
 -- A call as the program makes it: append, advance and truncate are lent the table to change it, lookup and end to read it.
 use Prim.Native.Nat.{ℕ}
 use mathlib.Core.List.{List}
-use Rattle.a2m.specs.Call.{Call, append, advance, truncate, lookup, end, Outcome, outcome}
+use Rattle.a2m.specs.Call.{Call, append, advance, truncate, lookup, end, Effect, effect}
 use Rattle.a2m.specs.TableCalls.{tableStep}
 
 -- the table that the next call gets
@@ -12,5 +12,5 @@ passedOn b (truncate g n) = tableStep b (truncate g n) .state
 passedOn b (lookup g n c k) = b
 passedOn b (end g c k) = b
 
-unfoldable pub programStep : List ℕ → Call → Outcome (List ℕ)
-programStep b call = outcome (tableStep b call .reply) (passedOn b call)
+unfoldable pub programStep : List ℕ → Call → Effect (List ℕ)
+programStep b call = effect (tableStep b call .reply) (passedOn b call)
