@@ -58,20 +58,22 @@ rules01 = record { gap = λ e. blankEntry; noSlot = λ b g. cond (eqb (total (b 
 abbrev pub not32 : List ℕ → Bool
 not32 x = not (eqb (length x) 32)
 
+abbrev pub noLog : Model → ℕ → Bool
+noLog b g = leb (length (b .logs)) g
+
+-- the number k if the fault is found, otherwise what is left to test
+abbrev pub refuse : ℕ → Bool → Option ℕ → Option ℕ
+refuse k fault rest = cond fault (some k) rest
+
 -- "A call is refused with the first number that fits .. 7 by the lengths, 2 by G, 3 and 4 by the log's L and H, 6 by an empty list, 5 when all lists
 -- together have S entries. 1 never occurs."
 unfoldable pub modelRefusal : Rules → Model → Call → Option ℕ
-modelRefusal ru b (append g x) =
-    cond (not32 x) (some 7) (cond (leb (length (b .logs)) g) (some 2) (cond (eqb (logAt (b .logs) g .high) (2 ^ 64 - 1)) (some 4) (ru .noSlot b g)))
-modelRefusal ru b (advance g n d x) =
-    cond (not32 d || not32 x) (some 7) (cond (leb (length (b .logs)) g) (some 2) (cond (leb n (logAt (b .logs) g .high)) (some 3) (ru .noSlot b g)))
-modelRefusal ru b (truncate g n) =
-    cond (leb (length (b .logs)) g) (some 2) (cond (leb n (logAt (b .logs) g .low) || ltb (logAt (b .logs) g .high) n) (some 3) none)
-modelRefusal ru b (lookup g n c k) =
-    cond (not32 c || not (eqb k 160)) (some 7) (cond (leb (length (b .logs)) g) (some 2) (cond (eqb n 0) (some 3) none))
+modelRefusal ru b (append g x) = refuse 7 (not32 x) (refuse 2 (noLog b g) (refuse 4 (eqb (logAt (b .logs) g .high) (2 ^ 64 - 1)) (ru .noSlot b g)))
+modelRefusal ru b (advance g n d x) = refuse 7 (not32 d || not32 x) (refuse 2 (noLog b g) (refuse 3 (leb n (logAt (b .logs) g .high)) (ru .noSlot b g)))
+modelRefusal ru b (truncate g n) = let l = logAt (b .logs) g in refuse 2 (noLog b g) (refuse 3 (leb n (l .low) || ltb (l .high) n) none)
+modelRefusal ru b (lookup g n c k) = refuse 7 (not32 c || not (eqb k 160)) (refuse 2 (noLog b g) (refuse 3 (eqb n 0) none))
 modelRefusal ru b (end g c k) =
-    cond (not32 c || not (eqb k 160)) (some 7)
-    (cond (leb (length (b .logs)) g) (some 2) (cond (isNil (logAt (b .logs) g .entries)) (ru .emptyEnd) none))
+    refuse 7 (not32 c || not (eqb k 160)) (refuse 2 (noLog b g) (cond (isNil (logAt (b .logs) g .entries)) (ru .emptyEnd) none))
 
 -- ---- receipts
 
