@@ -17,8 +17,7 @@ ghost use Rattle.refusal.specs.Number.{outcomeNumber};
 ghost use Rattle.refusal.specs.Order.{answerOf};
 ghost use Rattle.table.specs.Whole.{checkOf, wholeRefusal};
 
-// Whether the table is whole; and if so, how many slots are free, and the last of the free chain. For the calls on a table, and
-// not for users: no answer of theirs carries a slot number.
+// Inner, for the calls on a table: whether the table is whole; and if so, how many slots are free, and the last of the free chain.
 pub fn check(table: &[u8]) -> Check
     ensures { λ r. ⌜ r ≡ checkOf (now (table .entry)) ⌝ }
 {
