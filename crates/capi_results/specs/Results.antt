@@ -1,22 +1,16 @@
 -- What C gets of each answer: the number returned, and each result after the call. Document 01: "A refusal .. returns its
 -- number alone", so that a refusal leaves every result as it was.
 use Prim.Native.Nat.{ℕ}
-use mathlib.Core.Bool.{not, cond}
-use mathlib.Core.List.{List, [], _∷_}
+use mathlib.Core.Bool.{cond}
+use mathlib.Core.List.{List}
 use mathlib.Core.Option.{Option, none, some}
 use lib.Dec.{eqb}
 use lib.ListN.{getD}
-use Rattle.refusal.specs.Order.{fault, firstFault}
-use Rattle.table.specs.Whole.{whole}
 use Rattle.a2m.specs.Call.{Reply, refused, done, found, ended, numbered}
 use Rattle.receipt.specs.Answer.{Answer}
 use Rattle.receipt.specs.declared.Ask.the-variants.{Lookup, End}
 use Rattle.receipt.specs.declared.Question.{Question}
 use Rattle.runs.specs.Compare.{Verdict, differ, agree, collision}
-
--- the check's one fault: 1 "torn"
-unfoldable pub checkRefusal : List ℕ → Option ℕ
-checkRefusal b = firstFault (fault 1 (not (whole b)) ∷ [])
 
 -- ---- the calls on a table
 

@@ -1,6 +1,7 @@
 -- The verifier's verdict on a receipt.
 use Prim.Native.Nat.{ℕ}
 use mathlib.Core.Path.{_≡_}
+use mathlib.Core.Logic.{_↔_}
 use mathlib.Core.Bool.{Bool, not, _&&_}
 use mathlib.Core.List.{List, [], _∷_}
 use mathlib.Core.Option.{Option}
@@ -71,3 +72,9 @@ pub record Genuine (k r b : List ℕ) (q : Question) (a : Attestation) : Type 0 
   pub log : a .log ≡ q .log
   pub nonce : a .nonce ≡ b
   pub ask : Asks (q .ask) a
+
+-- demand 2: the answer is 0 with the values vs exactly when r are the bytes of a possible entry under the key that answers the
+-- question, and vs are its keeper, log, position, kind and reference
+abbrev pub AcceptsExactly : List ℕ → List ℕ → List ℕ → Question → Answer → Type 0
+AcceptsExactly key r nonce q given =
+    (vs : List ℕ) → given ≡ answer 0 vs ↔ ((a : Attestation) × (Genuine key r nonce q a) × (carried a ≡ vs))

@@ -1,9 +1,9 @@
--- `capi::tables::keeper_check` meets its contract.
-use Rattle.capi_results.proofs.Answers.{checkNumber, check-number}
+-- `table_check::is_whole` meets its contract.
+use Rattle.table.proofs.CheckLaws.{checkNumber, check-number}
 use mathlib.Core.Path.{sym, ap, _∙_}
 use borrow.Author.Needs.{needs}
-use Rattle.capi.proofs.tables.keeper_check.Statement.{statement}
-use Rattle.capi.proofs.tables.keeper_check.Tie as tie
+use Rattle.table_check.proofs.is_whole.Statement.{statement}
+use Rattle.table_check.proofs.is_whole.Tie as tie
 
 check-requires : tie.Need-check-requires
 check-requires c κs = search needs
@@ -20,5 +20,5 @@ returns c = ap checkNumber (sym (c .enum-told .given .1) ∙ c .before .before .
 returns-2 : tie.Need-returns-2
 returns-2 c = ap checkNumber (sym (c .enum-told2 .given .1) ∙ c .before .before .check .ensures) ∙ check-number (c .before .before .before .before .args .table .now)
 
-pub keeper-check-spec : {M : Type 1} → statement M
-keeper-check-spec = tie.close (tie.spec check-requires enum-told enum-told-2 returns returns-2)
+pub is-whole-spec : {M : Type 1} → statement M
+is-whole-spec = tie.close (tie.spec check-requires enum-told enum-told-2 returns returns-2)
