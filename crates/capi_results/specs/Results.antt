@@ -8,8 +8,6 @@ use lib.Dec.{eqb}
 use lib.ListN.{getD}
 use Rattle.a2m.specs.Call.{Reply, refused, done, found, ended, numbered}
 use Rattle.receipt.specs.Answer.{Answer}
-use Rattle.receipt.specs.declared.Ask.the-variants.{Lookup, End}
-use Rattle.receipt.specs.declared.Question.{Question}
 use Rattle.runs.specs.Compare.{Verdict, differ, agree, collision}
 
 -- ---- the calls on a table
@@ -39,13 +37,6 @@ examinedAfter (found receipt k) old = k
 examinedAfter (ended receipt) old = old
 
 -- ---- the verifier and certificates
-
--- "A question names keeper, log, LOOKUP or END, nonce, and for LOOKUP the position"
-abbrev pub lookupOf : ℕ → ℕ → ℕ → Question
-lookupOf keeper log position = record { keeper = keeper; log = log; ask = Lookup position }
-
-abbrev pub endOf : ℕ → ℕ → Question
-endOf keeper log = record { keeper = keeper; log = log; ask = End }
 
 -- a verdict's five numbers: keeper, log, position, kind and reference
 unfoldable pub verdictAfter : Answer → List ℕ → List ℕ

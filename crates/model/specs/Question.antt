@@ -1,8 +1,7 @@
 -- The question that a lookup or an end answers, and the values that the verifier is to give for its receipt: keeper, log, position, kind and reference.
 use Prim.Native.Nat.{ℕ}
 use mathlib.Core.List.{List, [], _∷_}
-use Rattle.receipt.specs.Verdict.{carried}
-use Rattle.receipt.specs.declared.Ask.the-variants.{Lookup, End}
+use Rattle.receipt.specs.Verdict.{carried, lookupOf, endOf}
 use Rattle.receipt.specs.declared.Question.{Question}
 use Rattle.layout.specs.Image.{Image}
 use Rattle.a2m.specs.Call.{Call, append, advance, truncate, lookup, end}
@@ -14,11 +13,11 @@ use Rattle.model.specs.Model.{Model, logAt}
 -- "A question names keeper, log, LOOKUP or END, nonce, and for LOOKUP the position". The other calls ask nothing: their nonce is none, which the verifier
 -- refuses
 unfoldable pub questionOf : ℕ → Call → Question
-questionOf keeper (append g x) = record { keeper = keeper; log = g; ask = End }
-questionOf keeper (advance g n d x) = record { keeper = keeper; log = g; ask = End }
-questionOf keeper (truncate g n) = record { keeper = keeper; log = g; ask = End }
-questionOf keeper (lookup g n c k) = record { keeper = keeper; log = g; ask = Lookup n }
-questionOf keeper (end g c k) = record { keeper = keeper; log = g; ask = End }
+questionOf keeper (append g x) = endOf keeper g
+questionOf keeper (advance g n d x) = endOf keeper g
+questionOf keeper (truncate g n) = endOf keeper g
+questionOf keeper (lookup g n c k) = lookupOf keeper g n
+questionOf keeper (end g c k) = endOf keeper g
 
 unfoldable pub nonceOf : Call → List ℕ
 nonceOf (append g x) = []

@@ -34,6 +34,13 @@ unfoldable pub asks : Ask → Attestation → Bool
 asks (Lookup n) a = same (a .name) LOOKUP && eqb (a .position) n
 asks End a = same (a .name) END
 
+-- the two questions; their nonce stands beside them
+abbrev pub lookupOf : ℕ → ℕ → ℕ → Question
+lookupOf keeper log position = record { keeper = keeper; log = log; ask = Lookup position }
+
+abbrev pub endOf : ℕ → ℕ → Question
+endOf keeper log = record { keeper = keeper; log = log; ask = End }
+
 -- "A question names keeper, log, LOOKUP or END, nonce, and for LOOKUP the position"
 unfoldable pub answers : Attestation → Question → List ℕ → Bool
 answers a q nonce = eqb (a .keeper) (q .keeper) && (eqb (a .log) (q .log) && (same (a .nonce) nonce && asks (q .ask) a))
