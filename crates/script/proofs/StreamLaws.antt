@@ -7,7 +7,7 @@ use native.Mathlib.Omega.{arith}
 use native.Mathlib.Decide.{decLe}
 use native.Mathlib.Nat.{add-zero, zero-add}
 use lib.ListN.{length, take, drop, length-append, length-take, length-drop}
-use lib.Seq.{take-all, take-append-le, take-append-add, take-add, take-take, length-take-le, drop-drop}
+use lib.Seq.{take-all, take-append-le, take-append-add, take-add, take-take, length-take-le}
 use lib.Dec.{eqb}
 use Rattle.octets.specs.Octets.{splice}
 use Rattle.octets.proofs.Parts.{part-splice-same}
@@ -199,22 +199,20 @@ answer-length T n l = line-length (cellsOf n (commandAnswer T (commandOf l))) (c
 
 -- ---- a line more is read
 
--- the bytes read from a on, to place at and then to the end of the line
-module _ (buf : List ℕ) (a at e : ℕ) (h : a ≤ at) (ends : e ≡ at + length (upTo 10 (drop at buf))) where
-  read-on : (m : ℕ) → take (at - a + m) (drop a buf) ≡ take (at - a) (drop a buf) ++ take m (drop at buf)
-  read-on m =
-      let q : a + (at - a) ≡ at = omega arith in
-      take-add (at - a) m (drop a buf) ∙ ap (λ (l : List ℕ). take (at - a) (drop a buf) ++ take m l) (drop-drop (at - a) a buf ∙ ap (λ (k : ℕ). drop k buf) q)
-
-  pub read-part : take (e - a) (drop a buf) ≡ take (at - a) (drop a buf) ++ upTo 10 (drop at buf)
+-- the bytes read up to place at, and then to the end of the line
+module _ (text : List ℕ) (at e : ℕ) (ends : e ≡ at + length (upTo 10 (drop at text))) where
+  pub read-part : take e text ≡ take at text ++ upTo 10 (drop at text)
   read-part =
-      let q : e - a ≡ at - a + length (upTo 10 (drop at buf)) = omega arith in
-      ap (λ (k : ℕ). take k (drop a buf)) q ∙ read-on (length (upTo 10 (drop at buf))) ∙ ap (λ (l : List ℕ). take (at - a) (drop a buf) ++ l) (take-first 10 (drop at buf))
+      ap (λ (k : ℕ). take k text) ends
+      ∙ take-add at (length (upTo 10 (drop at text))) text
+      ∙ ap (λ (l : List ℕ). take at text ++ l) (take-first 10 (drop at text))
 
-  pub read-line : e < length buf → take (e + 1 - a) (drop a buf) ≡ take (at - a) (drop a buf) ++ (upTo 10 (drop at buf) ++ (10 ∷ []))
+  pub read-line : e < length text → take (e + 1) text ≡ take at text ++ (upTo 10 (drop at text) ++ (10 ∷ []))
   read-line k =
-      let q : e + 1 - a ≡ at - a + (length (upTo 10 (drop at buf)) + 1) = omega arith in
-      ap (λ (k : ℕ). take k (drop a buf)) q ∙ read-on (length (upTo 10 (drop at buf)) + 1) ∙ ap (λ (l : List ℕ). take (at - a) (drop a buf) ++ l) (take-marked 10 (drop at buf) (omega (arith, length-drop at buf)))
+      let q : e + 1 ≡ at + (length (upTo 10 (drop at text)) + 1) = omega arith in
+      ap (λ (k : ℕ). take k text) q
+      ∙ take-add at (length (upTo 10 (drop at text)) + 1) text
+      ∙ ap (λ (l : List ℕ). take at text ++ l) (take-marked 10 (drop at text) (omega (arith, length-drop at text)))
 
 -- H is held after c and T the table, and x is the line that the next bytes end
 module _ (T₀ T H₀ H c l x : List ℕ) (n : ℕ) (held : H ≡ heldAfter H₀ c) (table : T ≡ tableRead T₀ H₀ c) (small : length H ≤ 201) (line : x ≡ cut (H ++ upTo 10 l)) where

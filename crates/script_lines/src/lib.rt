@@ -5,6 +5,7 @@ mod tables;
 
 pub use lines::answer_line;
 pub use pieces::feed;
+pub use pieces::finish;
 
 // The bytes of the largest table: each script has a buffer of so many, the first of which are its table, at first none.
 pub const LARGEST: usize = 61172;
