@@ -1,14 +1,17 @@
 -- Laws of a script that comes in pieces.
 use Prim.Native.Nat.{ℕ, suc, _+_, _-_, _≤_, _<_, min}
 use mathlib.Core.Path.{_≡_, refl, sym, ap, ap₂, _∙_}
+use mathlib.Core.Logic.{_≢_}
 use mathlib.Core.Bool.{Bool, true, false, cond}
 use mathlib.Core.List.{List, [], _∷_, _++_, append-assoc, append-nil}
 use native.Mathlib.Omega.{arith}
 use native.Mathlib.Decide.{decLe}
 use native.Mathlib.Nat.{add-zero, zero-add}
-use lib.ListN.{length, take, drop, length-append, length-take, length-drop}
-use lib.Seq.{take-all, take-append-le, take-append-add, take-add, take-take, length-take-le}
+use lib.ListN.{length, take, drop, getD, length-append, length-take, length-drop}
+use lib.Seq.{take-all, take-append-le, take-append-add, take-add, take-take, length-take-le, drop-cons}
 use lib.Dec.{eqb}
+use borrow.Author.Tests.{eq-eqb, ne-eqb}
+use native.Mathlib.Numerals.{add-one}
 use Rattle.octets.specs.Octets.{splice}
 use Rattle.octets.proofs.Parts.{part-splice-same}
 use Rattle.line.specs.Fields.{upTo}
@@ -69,6 +72,15 @@ newlines-append (x ∷ a) b = go (eqb x 10) (newlines-append a b)
     go : (t : Bool) → newlines (a ++ b) ≡ newlines a + newlines b → cond t (suc (newlines (a ++ b))) (newlines (a ++ b)) ≡ cond t (suc (newlines a)) (newlines a) + newlines b
     go true p = omega arith
     go false p = p
+
+pub newlines-most : (l : List ℕ) → newlines l ≤ length l
+unfolding newlines
+newlines-most [] = omega arith
+newlines-most (x ∷ l) = go (eqb x 10) (newlines-most l)
+  where
+    go : (t : Bool) → newlines l ≤ length l → cond t (suc (newlines l)) (newlines l) ≤ suc (length l)
+    go true p = omega arith
+    go false p = omega arith
 
 pub answered-append : (T h : List ℕ) (n : ℕ) (a b : List ℕ) → answered T h n (a ++ b) ≡ answered T h n a ++ answered (tableRead T h a) (heldAfter h a) (n + newlines a) b
 unfolding answered heldAfter newlines tableRead
@@ -170,6 +182,24 @@ answered-newline T h n = append-nil (answerText T n h)
 pub table-newline : (T h : List ℕ) → tableRead T h (10 ∷ []) ≡ tableAfter T h
 unfolding tableRead
 table-newline T h = refl
+
+-- counted from a place on
+pub newlines-one : (l : List ℕ) (i : ℕ) → i < length l → getD l i 0 ≡ 10 → newlines (drop i l) ≡ suc (newlines (drop (i + 1) l))
+unfolding newlines
+newlines-one l i h e =
+    ap newlines (drop-cons l i 0 h)
+    ∙ ap (λ (b : Bool). cond b (suc (newlines (drop (suc i) l))) (newlines (drop (suc i) l))) (eq-eqb (getD l i 0) 10 e)
+    ∙ ap (λ (k : ℕ). suc (newlines (drop k l))) (sym (add-one i))
+
+pub newlines-none : (l : List ℕ) (i : ℕ) → i < length l → getD l i 0 ≢ 10 → newlines (drop i l) ≡ newlines (drop (i + 1) l)
+unfolding newlines
+newlines-none l i h e =
+    ap newlines (drop-cons l i 0 h)
+    ∙ ap (λ (b : Bool). cond b (suc (newlines (drop (suc i) l))) (newlines (drop (suc i) l))) (ne-eqb (getD l i 0) 10 e)
+    ∙ ap (λ (k : ℕ). newlines (drop k l)) (sym (add-one i))
+
+pub newlines-end : (l : List ℕ) (i : ℕ) → i ≡ length l → newlines (drop i l) ≡ 0
+newlines-end l i e = let z : length (drop i l) ≡ 0 = omega (arith, length-drop i l) in omega (arith, newlines-most (drop i l))
 
 -- the table at a buffer's start
 pub table-at : (l x : List ℕ) (n : ℕ) → n ≡ length x → n ≤ length l → take n (splice l 0 x) ≡ x
