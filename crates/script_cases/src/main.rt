@@ -4,20 +4,23 @@ ghost use Prim.Native.Nat.{_≤_};
 ghost use lib.ListN.{length};
 use libc::STDOUT_FILENO;
 use script::Progress;
+use script_lines::KEPT;
+use script_lines::LARGEST;
+use script_lines::ROOM;
 
 // Room for the answers to a script of 1,024 bytes.
-fn room() -> [u8; 172032]
+fn room() -> [u8; 1024 * ROOM]
     ensures { λ r. ⌜ length r ≡ 172032 ⌝ }
 {
-    [0; 172032]
+    [0; 1024 * ROOM]
 }
 
 // Writes the answers to a script, whose table is torn before its first format.
 fn answers(text: &[u8])
     requires { ⌜ length (now text) ≤ 1024 ⌝ }
 {
-    let mut table = [0u8; 61172];
-    let mut held = [0u8; 201];
+    let mut table = [0u8; LARGEST];
+    let mut held = [0u8; KEPT];
     let mut out = room();
     let p = Progress {
         kept: 0,

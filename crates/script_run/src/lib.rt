@@ -10,6 +10,12 @@ use libc::STDERR_FILENO;
 use libc::STDIN_FILENO;
 use libc::STDOUT_FILENO;
 use script::Progress;
+use script_lines::KEPT;
+use script_lines::LARGEST;
+use script_lines::ROOM;
+
+// The bytes of a read, at most.
+const PIECE: usize = 8192;
 
 // How a script ends: with its input, by a read that failed, or by a write that failed, with the first line whose answer is missing.
 enum Ending {
@@ -57,13 +63,7 @@ fn line_after(answers: &[u8], first: u64) -> u64
 }
 
 // Answers a piece, and writes its answers out.
-fn answer(
-    piece: &[u8],
-    buffer: &mut [u8],
-    held: &mut [u8],
-    out: &mut [u8],
-    p: Progress,
-) -> Step
+fn answer(piece: &[u8], buffer: &mut [u8], held: &mut [u8], out: &mut [u8], p: Progress) -> Step
     requires { ⌜ Ready (now buffer) (now held) (now out) p × (length (now piece) ≤ 8192) ⌝ }
     ensures { λ r. ⌜ Answers r (now (piece .entry)) (now (buffer .entry)) (now (held .entry)) (now (out .entry)) p (now (buffer .exit)) (now (held .exit)) (now (out .exit)) ⌝ }
 {
@@ -81,7 +81,7 @@ fn turn(buffer: &mut [u8], held: &mut [u8], out: &mut [u8], p: Progress) -> Step
     requires { ⌜ Ready (now buffer) (now held) (now out) p ⌝ }
     ensures { λ r. ⌜ Steps r (now (buffer .entry)) (now (held .entry)) p (now (buffer .exit)) (now (held .exit)) (now (out .exit)) ⌝ }
 {
-    let mut piece = [0u8; 8192];
+    let mut piece = [0u8; PIECE];
     let got = libc::read(STDIN_FILENO, &mut piece);
     if got < 0 {
         return Step::Over(Ending::Unread);
@@ -127,11 +127,11 @@ fn answer_last(buffer: &mut [u8], held: &[u8], out: &mut [u8], p: Progress)
     }
 }
 
-// Room for the answers to a piece: 168 bytes for each of its 8,192.
-fn room() -> [u8; 1376256]
+// Room for the answers to a piece, each of whose bytes may end a line.
+fn room() -> [u8; PIECE * ROOM]
     ensures { λ r. ⌜ length r ≡ 1376256 ⌝ }
 {
-    [0; 1376256]
+    [0; PIECE * ROOM]
 }
 
 // Answers the script on standard input. Nothing is left of it that is neither answered nor said to be missing.
@@ -143,8 +143,8 @@ pub fn run() {
         gap(1);
         return;
     }
-    let mut buffer = [0u8; 61172];
-    let mut held = [0u8; 201];
+    let mut buffer = [0u8; LARGEST];
+    let mut held = [0u8; KEPT];
     let mut out = room();
     let p = Progress {
         kept: 0,

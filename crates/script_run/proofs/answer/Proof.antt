@@ -1,3 +1,4 @@
+-- `script_run::answer` meets its contract.
 use Rattle.script_run.proofs.StepLaws.{missing}
 use mathlib.Core.Path.{sym}
 use native.Mathlib.Omega.{arith}
@@ -5,69 +6,49 @@ use lib.Seq.{length-take-le}
 use borrow.Author.Needs.{needs}
 use Rattle.script_run.proofs.answer.Statement.{statement}
 use Rattle.script_run.proofs.answer.Tie as tie
-use Rattle.script_run.proofs.answer.Reads as reads
-use Rattle.script_run.proofs.answer.Lts as lts
-use Rattle.script_lines.proofs.feed.Reads as feed-reads
-use Rattle.script_run.proofs.line_after.Reads as line-after-reads
-use Rattle.script_run.proofs.write_out.Reads as write-out-reads
 
--- src/lib.rt:70:9
 feed-requires : tie.Need-feed-requires
 feed-requires c κs = search needs
 
--- src/lib.rt:72:26
 slice-reshare-prefix-write-out : tie.Need-slice-reshare-prefix-write-out
 slice-reshare-prefix-write-out c = search needs
 
--- src/lib.rt:72:26
 slice-aggregate-write-out : tie.Need-slice-aggregate-write-out
 slice-aggregate-write-out c = sym (length-take-le (c .before .before .before .before .before .before .before .feed .result .to) (c .before .before .before .before .before .before .before .feed .last .1 .1 .1 .0) (omega arith))
 
--- src/lib.rt:72:9
 write-out-requires : tie.Need-write-out-requires
 write-out-requires c κs = search needs
 
--- src/lib.rt:74:56
 slice-reshare-prefix-line-after : tie.Need-slice-reshare-prefix-line-after
 slice-reshare-prefix-line-after c = search needs
 
--- src/lib.rt:74:56
 slice-aggregate-line-after : tie.Need-slice-aggregate-line-after
 slice-aggregate-line-after c = sym (length-take-le (c .before .before .write-out .result) (c .before .before .before .before .before .before .before .before .before .before .feed .last .1 .1 .1 .0) (omega arith))
 
--- src/lib.rt:74:45
 line-after-requires : tie.Need-line-after-requires
 line-after-requires c κs = omega (arith, length-take-le (c .before .before .write-out .result) (c .before .before .before .before .before .before .before .before .before .before .feed .last .1 .1 .1 .0) (omega arith))
 
--- src/lib.rt:74:9
 same-length : tie.Need-same-length
 same-length c = search needs
 
--- src/lib.rt:74:9
 same-length-2 : tie.Need-same-length-2
 same-length-2 c = search needs
 
--- src/lib.rt:74:9
 same-length-3 : tie.Need-same-length-3
 same-length-3 c = search needs
 
--- src/lib.rt:74:9
 returns : tie.Need-returns
 returns c = missing (c .before .before .before .write-out .result) (c .line-after .result) (c .before .before .before .before .before .before .before .before .before .before .before .feed .ensures) (c .before .before .if1 .taken) (c .line-after .ensures)
 
--- src/lib.rt:60:1
 same-length-4 : tie.Need-same-length-4
 same-length-4 c = search needs
 
--- src/lib.rt:60:1
 same-length-5 : tie.Need-same-length-5
 same-length-5 c = search needs
 
--- src/lib.rt:60:1
 same-length-6 : tie.Need-same-length-6
 same-length-6 c = search needs
 
--- src/lib.rt:60:1
 returns-2 : tie.Need-returns-2
 returns-2 c = search needs
 

@@ -1,5 +1,6 @@
+-- `script_run::line_after` meets its contract.
 use Rattle.script_run.proofs.StepLaws.{counts-one, counts-none}
-use Rattle.script.proofs.StreamLaws.{newlines-one, newlines-none, newlines-end}
+use Rattle.script.proofs.StreamLaws.{newlines-end}
 use mathlib.Core.Logic.{⊎-elim}
 use Prim.Native.Nat.{_+_, _-_, _≤_}
 use lib.ListN.{length, drop}
@@ -9,8 +10,6 @@ use mathlib.Core.Path.{_≡_, refl}
 use borrow.Author.Needs.{needs}
 use Rattle.script_run.proofs.line_after.Statement.{statement}
 use Rattle.script_run.proofs.line_after.Tie as tie
-use Rattle.script_run.proofs.line_after.Reads as reads
-use Rattle.script_run.proofs.line_after.Lts as lts
 
 abbrev Inv-loop : tie.InvT-loop
 Inv-loop answers first n₀ i₀ n i = (i ≤ length answers) × (n ≤ first + i) × (first + newlines answers ≡ n + newlines (drop i answers))
@@ -18,34 +17,27 @@ Inv-loop answers first n₀ i₀ n i = (i ≤ length answers) × (n ≤ first + 
 abbrev μ-loop : tie.MeasureT-loop
 μ-loop answers first n₀ i₀ n i = length answers - i
 
--- src/lib.rt:50:5
 loop-holds : tie.Need-loop-holds Inv-loop μ-loop
 loop-holds c = (omega arith, omega arith, refl)
 
--- src/lib.rt:51:12
 shared-slice-read-if1 : tie.Need-shared-slice-read-if1 Inv-loop μ-loop
 shared-slice-read-if1 c = search needs
 
--- src/lib.rt:52:13
 add-n : tie.Need-add-n Inv-loop μ-loop
 add-n c = search needs
 
--- src/lib.rt:54:9
 add-i : tie.Need-add-i Inv-loop μ-loop
 add-i c = search needs
 
--- src/lib.rt:50:5
 loop-less : tie.Need-loop-less Inv-loop μ-loop
 loop-less c = search needs
 
--- src/lib.rt:50:5
 loop-again : tie.Need-loop-again Inv-loop μ-loop
 loop-again c = let a = c .before .before .before .before .args in
     let l = c .before .before .before .loop in
     let r = ⊎-elim (λ w. counts-one (a .answers .now) (a .first) (l .n) (c .if1 .n) (l .i) (omega arith) (l .inv .1) (l .inv .2) (w .0 .taken) (w .1)) (λ w. counts-none (a .answers .now) (a .first) (l .n) (c .if1 .n) (l .i) (omega arith) (l .inv .1) (l .inv .2) (w .0 .left) (w .1)) (c .if1 .came) in
     (omega arith, r .0, r .1)
 
--- src/lib.rt:44:1
 returns : tie.Need-returns Inv-loop μ-loop
 returns c = omega (arith, c .before .loop .inv .2, newlines-end (c .before .before .args .answers .now) (c .before .loop .i) (omega arith))
 

@@ -1,3 +1,4 @@
+-- `script_run::run` meets its contract.
 use Prim.Native.Nat.{ℕ}
 use Rattle.script_run.specs.Steps.{Ended}
 use Rattle.script_run.specs.declared.Ending.{Ending}
@@ -8,100 +9,70 @@ use lib.ListN.{length-replicate}
 use borrow.Author.Needs.{needs}
 use Rattle.script_run.proofs.run.Statement.{statement}
 use Rattle.script_run.proofs.run.Tie as tie
-use Rattle.script_run.proofs.run.Reads as reads
-use Rattle.script_run.proofs.run.Lts as lts
-use Rattle.io.proofs.write_all.Reads as write-all-reads
-use Rattle.os.proofs.fail.Reads as fail-reads
-use Rattle.script_run.proofs.answer_last.Reads as answer-last-reads
-use Rattle.script_run.proofs.gap.Reads as gap-reads
-use Rattle.script_run.proofs.read_all.Reads as read-all-reads
-use Rattle.script_run.proofs.room.Reads as room-reads
 
--- src/lib.rt:141:9
 slice-aggregate-write-all : tie.Need-slice-aggregate-write-all
 slice-aggregate-write-all c = search needs
 
--- src/lib.rt:139:9
 write-all-requires : tie.Need-write-all-requires
 write-all-requires c κs = search needs
 
--- src/lib.rt:143:9
 gap-requires : tie.Need-gap-requires
 gap-requires c κs = search needs
 
--- src/lib.rt:144:9
 returns : tie.Need-returns
 returns c = search needs
 
--- src/lib.rt:148:19
 room-requires : tie.Need-room-requires
 room-requires c κs = search needs
 
--- src/lib.rt:155:20
 slice-aggregate-read-all : tie.Need-slice-aggregate-read-all
 slice-aggregate-read-all c = search needs
 
--- src/lib.rt:155:33
 slice-aggregate-read-all-2 : tie.Need-slice-aggregate-read-all-2
 slice-aggregate-read-all-2 c = search needs
 
--- src/lib.rt:155:44
 slice-aggregate-read-all-3 : tie.Need-slice-aggregate-read-all-3
 slice-aggregate-read-all-3 c = search needs
 
--- src/lib.rt:155:11
 read-all-requires : tie.Need-read-all-requires
 read-all-requires c κs = (after-none _ _ _ (length-replicate {A = ℕ} 201 0) refl (length-replicate {A = ℕ} 61172 0) refl refl, c .before .before .before .room .ensures)
 
--- src/lib.rt:156:23
 enum-known-q : tie.Need-enum-known-q
 enum-known-q c = search needs
 
--- src/lib.rt:156:41
 slice-aggregate-answer-last : tie.Need-slice-aggregate-answer-last
 slice-aggregate-answer-last c = search needs
 
--- src/lib.rt:156:54
 slice-aggregate-answer-last-2 : tie.Need-slice-aggregate-answer-last-2
 slice-aggregate-answer-last-2 c = search needs
 
--- src/lib.rt:156:61
 slice-aggregate-answer-last-3 : tie.Need-slice-aggregate-answer-last-3
 slice-aggregate-answer-last-3 c = search needs
 
--- src/lib.rt:156:29
 answer-last-requires : tie.Need-answer-last-requires
 answer-last-requires c κs = let r = c .before .before .before .before .before .before .before .before .before .read-all in (subst (λ (e : Ending). Ended e (r .last .0) (r .last .1 .0)) (c .before .before .before .before .q .given .1) (r .ensures), omega (arith, r .kept .1 .1 .0, c .before .before .before .before .before .before .before .before .before .before .before .before .before .room .ensures))
 
--- src/lib.rt:157:36
 enum-told : tie.Need-enum-told
 enum-told c = search needs
 
--- src/lib.rt:157:36
 slice-aggregate-fail : tie.Need-slice-aggregate-fail
 slice-aggregate-fail c = search needs
 
--- src/lib.rt:157:27
 fail-requires : tie.Need-fail-requires
 fail-requires c κs = search needs
 
--- src/lib.rt:158:27
 enum-known-number : tie.Need-enum-known-number
 enum-known-number c = search needs
 
--- src/lib.rt:158:38
 gap-requires-2 : tie.Need-gap-requires-2
 gap-requires-2 c κs = search needs
 
--- src/lib.rt:138:1
 returns-2 : tie.Need-returns-2
 returns-2 c = search needs
 
--- src/lib.rt:138:1
 returns-3 : tie.Need-returns-3
 returns-3 c = search needs
 
--- src/lib.rt:138:1
 returns-4 : tie.Need-returns-4
 returns-4 c = search needs
 

@@ -1,64 +1,47 @@
+-- `script_run::turn` meets its contract.
 use lib.ListN.{take, length-take}
 use native.Mathlib.Omega.{arith}
 use Rattle.script_run.proofs.StepLaws.{stepped}
 use borrow.Author.Needs.{needs}
 use Rattle.script_run.proofs.turn.Statement.{statement}
 use Rattle.script_run.proofs.turn.Tie as tie
-use Rattle.script_run.proofs.turn.Reads as reads
-use Rattle.script_run.proofs.turn.Lts as lts
-use Rattle.io.proofs.count.Reads as count-reads
-use Rattle.libc.proofs.read.Reads as read-reads
-use Rattle.script_run.proofs.answer.Reads as answer-reads
 
--- src/lib.rt:85:40
 slice-aggregate-read : tie.Need-slice-aggregate-read
 slice-aggregate-read c = search needs
 
--- src/lib.rt:85:9
 read-requires : tie.Need-read-requires
 read-requires c κs = search needs
 
--- src/lib.rt:87:9
 returns : tie.Need-returns
 returns c = search needs
 
--- src/lib.rt:90:9
 returns-2 : tie.Need-returns-2
 returns-2 c = search needs
 
--- src/lib.rt:92:28
 slice-aggregate-count : tie.Need-slice-aggregate-count
 slice-aggregate-count c = search needs
 
--- src/lib.rt:92:9
 count-requires : tie.Need-count-requires
 count-requires c κs = search needs
 
--- src/lib.rt:93:12
 array-share-prefix-piece : tie.Need-array-share-prefix-piece
 array-share-prefix-piece c = search needs
 
--- src/lib.rt:93:12
 slice-aggregate-answer : tie.Need-slice-aggregate-answer
 slice-aggregate-answer c = search needs
 
--- src/lib.rt:93:5
 answer-requires : tie.Need-answer-requires
 answer-requires c κs = search needs
 
--- src/lib.rt:80:1
 same-length : tie.Need-same-length
 same-length c = search needs
 
--- src/lib.rt:80:1
 same-length-2 : tie.Need-same-length-2
 same-length-2 c = search needs
 
--- src/lib.rt:80:1
 same-length-3 : tie.Need-same-length-3
 same-length-3 c = search needs
 
--- src/lib.rt:80:1
 returns-3 : tie.Need-returns-3
 returns-3 c = let a = c .before .before .before .before .before .before .before .before .before .before .before .before .before .before .before .before .before .before .before .before .before .args in
     let r = c .before .before .before .before .before .before .answer in

@@ -1,26 +1,17 @@
+-- `script_lines::pieces::feed` meets its contract.
 use Rattle.script.specs.declared.Progress.{Progress}
-use Rattle.script.proofs.Reading.{state}
-use Prim.Native.Nat.{ℕ}
+use Rattle.script.proofs.Reading.{state, feeds-none, feeds-part, feeds-line, from-start}
+use Prim.Native.Nat.{ℕ, _<_, _≤_, _-_}
 use mathlib.Core.List.{List}
-use mathlib.Core.Path.{subst}
-use lib.ListN.{length-take}
-use lib.Seq.{take-all}
-use Prim.Native.Nat.{_<_, _≤_, _-_}
+use mathlib.Core.Path.{subst, _≡_, sym}
+use lib.ListN.{length-take, length, take}
+use lib.Seq.{take-all, length-take-le}
 use mathlib.Core.Logic.{_≢_}
-use lib.ListN.{length, take}
 use Rattle.script.specs.Stream.{Feeds}
-use Rattle.script.proofs.Reading.{feeds-none, feeds-part, feeds-line, from-start}
-use lib.Seq.{length-take-le}
 use native.Mathlib.Omega.{arith}
-use mathlib.Core.Path.{_≡_, sym}
 use borrow.Author.Needs.{needs}
 use Rattle.script_lines.proofs.pieces.feed.Statement.{statement}
 use Rattle.script_lines.proofs.pieces.feed.Tie as tie
-use Rattle.script_lines.proofs.pieces.feed.Reads as reads
-use Rattle.script_lines.proofs.pieces.feed.Lts as lts
-use Rattle.line.proofs.find.Reads as find-reads
-use Rattle.script_lines.proofs.lines.answer_line.Reads as answer-line-reads
-use Rattle.script_lines.proofs.pieces.keep.Reads as keep-reads
 
 abbrev Inv-loop : tie.InvT-loop
 Inv-loop piece buffer₀ held₀ out₀ at₀ s₀ buffer held out at s = (at ≤ length piece) × Feeds (take at piece) buffer₀ held₀ out₀ s₀ buffer held out s × (length out ≡ length out₀)
@@ -28,43 +19,33 @@ Inv-loop piece buffer₀ held₀ out₀ at₀ s₀ buffer held out at s = (at �
 abbrev μ-loop : tie.MeasureT-loop
 μ-loop piece buffer₀ held₀ out₀ at₀ s₀ buffer held out at s = length piece - at
 
--- src/pieces.rt:50:5
 loop-holds : tie.Need-loop-holds Inv-loop μ-loop
 loop-holds c = let a = c .before .before .before .before .args in (omega arith, feeds-none (a .buffer .now) (a .held .now) (a .out .now) (state (a .p .kept) (a .p .number) (a .p .size) 0) (omega arith) (omega arith) (omega arith) (omega arith), search needs)
 
--- src/pieces.rt:51:13
 find-requires : tie.Need-find-requires Inv-loop μ-loop
 find-requires c κs = search needs
 
--- src/pieces.rt:52:39
 sub-keep : tie.Need-sub-keep Inv-loop μ-loop
 sub-keep c = search needs
 
--- src/pieces.rt:52:39
 part-keep-start : tie.Need-part-keep-start Inv-loop μ-loop
 part-keep-start c = search needs
 
--- src/pieces.rt:52:39
 part-keep-end : tie.Need-part-keep-end Inv-loop μ-loop
 part-keep-end c = search needs
 
--- src/pieces.rt:52:13
 keep-requires : tie.Need-keep-requires Inv-loop μ-loop
 keep-requires c κs = search needs
 
--- src/pieces.rt:54:13
 same-length : tie.Need-same-length Inv-loop μ-loop
 same-length c = search needs
 
--- src/pieces.rt:54:13
 same-length-2 : tie.Need-same-length-2 Inv-loop μ-loop
 same-length-2 c = search needs
 
--- src/pieces.rt:54:13
 same-length-3 : tie.Need-same-length-3 Inv-loop μ-loop
 same-length-3 c = search needs
 
--- src/pieces.rt:54:13
 returns : tie.Need-returns Inv-loop μ-loop
 returns c = let a = c .before .before .before .before .before .before .before .before .before .before .before .before .before .args in
     let l = c .before .before .before .before .before .before .before .before .loop in
@@ -72,31 +53,24 @@ returns c = let a = c .before .before .before .before .before .before .before .b
     let k = c .before .before .before .keep in
     from-start (a .p) (feeds-part (a .piece .now) (a .buffer .now) (a .held .now) (a .out .now) (state (a .p .kept) (a .p .number) (a .p .size) 0) (l .at) (l .buffer) (l .held) (l .out) (l .s) (l .inv .1) (f .result) (f .ensures .0) (k .last .0) (k .result) (k .ensures) (c .if1 .taken))
 
--- src/pieces.rt:61:69
 slice-reshare-prefix-answer-line : tie.Need-slice-reshare-prefix-answer-line Inv-loop μ-loop
 slice-reshare-prefix-answer-line c = search needs
 
--- src/pieces.rt:61:69
 slice-aggregate-answer-line : tie.Need-slice-aggregate-answer-line Inv-loop μ-loop
 slice-aggregate-answer-line c = sym (length-take-le (c .before .before .before .before .before .before .keep .result) (c .before .before .before .before .before .before .keep .last .0) (omega arith))
 
--- src/pieces.rt:61:13
 answer-line-requires : tie.Need-answer-line-requires Inv-loop μ-loop
 answer-line-requires c κs = (search needs, search needs, omega (arith, c .before .before .before .before .before .before .before .before .before .before .before .loop .inv .1 .room, c .before .before .before .before .before .before .before .before .before .before .before .loop .inv .2, length-take (c .before .before .before .before .before .before .before .before .before .before .before .loop .at) (c .before .before .before .before .before .before .before .before .before .before .before .before .before .before .before .before .args .piece .now), c .before .before .before .before .before .before .before .before .before .before .before .before .before .before .before .before .pre .1 .1, c .before .before .before .before .before .before .before .before .before .before .loop-test .taken))
 
--- src/pieces.rt:64:21
 add-t24 : tie.Need-add-t24 Inv-loop μ-loop
 add-t24 c = record { fits = omega (arith, c .before .before .before .before .before .before .before .before .before .before .before .before .before .before .before .before .before .loop .inv .1 .few, length-take (c .before .before .before .before .before .before .before .before .before .before .before .before .before .before .before .before .before .loop .at) (c .before .before .before .before .before .before .before .before .before .before .before .before .before .before .before .before .before .before .before .before .before .before .args .piece .now), c .before .before .before .before .before .before .before .before .before .before .before .before .before .before .before .before .before .before .before .before .before .before .pre .1 .0, c .before .before .before .before .before .before .before .before .before .before .before .before .before .before .before .before .loop-test .taken) }
 
--- src/pieces.rt:68:14
 add-at : tie.Need-add-at Inv-loop μ-loop
 add-at c = search needs
 
--- src/pieces.rt:50:5
 loop-less : tie.Need-loop-less Inv-loop μ-loop
 loop-less c = search needs
 
--- src/pieces.rt:50:5
 loop-again : tie.Need-loop-again Inv-loop μ-loop
 loop-again c = let a = c .before .before .before .before .before .before .before .before .before .before .before .before .before .before .before .before .before .before .before .before .before .before .args in
     let l = c .before .before .before .before .before .before .before .before .before .before .before .before .before .before .before .before .before .loop in
@@ -107,23 +81,19 @@ loop-again c = let a = c .before .before .before .before .before .before .before
     let more : f .result < length (a .piece .now) = omega (arith, f .ensures .1, c .before .before .before .before .before .before .before .before .before .before .before .before .before .before .before .before .loop-test .taken) in (
       omega arith,
       feeds-line (a .piece .now) (a .buffer .now) (a .held .now) (a .out .now) (state (a .p .kept) (a .p .number) (a .p .size) 0) (l .at) (l .buffer) (l .held) (l .out) (l .s) (l .inv .1) (f .result) (f .ensures .0) (k .last .0) (k .result) (k .ensures) more (c .before .before .before .before .before .before .before .before .before .before .before .before .before .before .before .before .before .before .before .before .before .before .pre .1 .1) (l .inv .0)
-      (n .last .0) (n .last .1 .1 .0) (n .result .size) (n .result .to) (n .ensures .1 .0) (n .ensures .1 .1 .1) (n .ensures .0 .0) (n .ensures .0 .1) (n .ensures .1 .1 .0),
+          (n .last .0) (n .last .1 .1 .0) (n .result .size) (n .result .to) (n .ensures .1 .0) (n .ensures .1 .1 .1) (n .ensures .0 .0) (n .ensures .0 .1) (n .ensures .1 .1 .0),
       search needs,
     )
 
--- src/pieces.rt:32:1
 same-length-4 : tie.Need-same-length-4 Inv-loop μ-loop
 same-length-4 c = search needs
 
--- src/pieces.rt:32:1
 same-length-5 : tie.Need-same-length-5 Inv-loop μ-loop
 same-length-5 c = search needs
 
--- src/pieces.rt:32:1
 same-length-6 : tie.Need-same-length-6 Inv-loop μ-loop
 same-length-6 c = search needs
 
--- src/pieces.rt:32:1
 returns-2 : tie.Need-returns-2 Inv-loop μ-loop
 returns-2 c = let a = c .before .before .before .before .before .before .args in
     let l = c .before .loop in

@@ -1,3 +1,4 @@
+-- `script_lines::pieces::finish` meets its contract.
 use mathlib.Core.Path.{sym}
 use native.Mathlib.Omega.{arith}
 use Rattle.script.proofs.Reading.{finishes-none, finishes-line}
@@ -5,31 +6,22 @@ use lib.Seq.{length-take-le}
 use borrow.Author.Needs.{needs}
 use Rattle.script_lines.proofs.pieces.finish.Statement.{statement}
 use Rattle.script_lines.proofs.pieces.finish.Tie as tie
-use Rattle.script_lines.proofs.pieces.finish.Reads as reads
-use Rattle.script_lines.proofs.pieces.finish.Lts as lts
-use Rattle.script_lines.proofs.lines.answer_line.Reads as answer-line-reads
 
--- src/pieces.rt:80:9
 returns : tie.Need-returns
 returns c = let a = c .before .before .before .before .args in finishes-none (a .buffer .now) (a .held .now) (a .out .now) (a .p) (c .if1 .taken) (omega arith)
 
--- src/pieces.rt:82:62
 slice-aggregate-answer-line : tie.Need-slice-aggregate-answer-line
 slice-aggregate-answer-line c = sym (length-take-le (c .before .before .before .before .before .before .before .args .p .kept) (c .before .before .before .before .before .before .before .args .held .now) (omega arith))
 
--- src/pieces.rt:82:9
 answer-line-requires : tie.Need-answer-line-requires
 answer-line-requires c κs = search needs
 
--- src/pieces.rt:74:1
 same-length : tie.Need-same-length
 same-length c = search needs
 
--- src/pieces.rt:74:1
 same-length-2 : tie.Need-same-length-2
 same-length-2 c = search needs
 
--- src/pieces.rt:74:1
 returns-2 : tie.Need-returns-2
 returns-2 c = let a = c .before .before .before .before .before .before .before .before .before .before .before .before .args in
     let n = c .before .before .before .before .answer-line in
