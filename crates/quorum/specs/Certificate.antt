@@ -126,7 +126,7 @@ module _ (roster nonce : List ℕ) (log position : ℕ) where
     pub genuine : Genuine (keyAt roster i) r nonce (askedOf roster nonce log position i) entry
     pub assigned : entry .kind ≡ 1
 
--- by what is said to be good, `Good r i` for the receipt r by member i
+-- `Good r i` says that the receipt r is good by member i
 module _ (roster cert : List ℕ) (Good : List ℕ → ℕ → Type 0) where
   -- a member has a good receipt at place p
   abbrev pub GoodAt : ℕ → Type 0
@@ -159,7 +159,8 @@ module _ (roster cert : List ℕ) (Good : List ℕ → ℕ → Type 0) where
   -- "no member has good receipts with different pairs"
   abbrev pub Consistent : Type 0
   Consistent =
-      (i q r : ℕ) → i < size roster → q < receiptCount cert → r < receiptCount cert → Good (receiptAt cert q) i → Good (receiptAt cert r) i → pairAt cert q ≡ pairAt cert r
+      (i q r : ℕ) → i < size roster → q < receiptCount cert → r < receiptCount cert
+      → Good (receiptAt cert q) i → Good (receiptAt cert r) i → pairAt cert q ≡ pairAt cert r
 
 -- the answer is 0 with a place and a mask exactly when nonce, roster and receipts are as they must be, and those are named
 abbrev pub NamesExactly : List ℕ → List ℕ → ℕ → ℕ → List ℕ → Answer → Type 0
