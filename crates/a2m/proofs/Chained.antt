@@ -1,17 +1,18 @@
 -- The chains of an image after a slot was taken or released: none loses a slot, and none gains one that it did not get.
 use Prim.Native.Nat.{ℕ, suc, _<_}
-use mathlib.Core.Path.{_≡_, refl, ap}
+use mathlib.Core.Path.{_≡_, refl, sym, ap, _∙_}
 use mathlib.Core.List.{List, [], _∷_, _++_, tail-eq-of-cons-eq}
 use mathlib.Core.Bool.{true}
 use native.Mathlib.Omega.{arith}
 use lib.ListN.{length}
 use lib.Seq.{getD-set-same}
 use Rattle.layout.specs.Image.{Entry, Image, freeSlot, freshRow, slotAt, rowAt}
-use Rattle.layout.specs.Changes.{truncatedRow}
+use Rattle.layout.specs.Changes.{advancedRow, truncatedRow}
 use Rattle.table.specs.Chains.{chain, lastOf}
 use Rattle.table.specs.Free.{freeChain, joint}
 use Rattle.table.specs.WholeImage.{wholeImage}
-use Rattle.a2m.specs.ImageCalls.{rowIn, entriesIn, heldSlot, release}
+use Rattle.a2m.specs.ImageCalls.{rowIn, entriesIn, heldSlot, put, release}
+use Rattle.a2m.proofs.Lists.{lastOf-snoc}
 use Rattle.table.specs.Conditions.{Links}
 use Rattle.a2m.proofs.Links.{Holds, chain-links}
 use Rattle.a2m.proofs.Moves.{Move, move-from, move-to}
@@ -35,6 +36,17 @@ module _ (m : Image) (g : ℕ) (c : List ℕ) (es : List Entry) (q : List ℕ) w
   -- the first free slot is hooked behind the log's last
   pub put-move : Chained m g c es (m .free ∷ q) → (e : Entry) → Move (m .slots) 0 (suc g) (m .free) q (rowIn m g .first) c (rowIn m g .last) (heldSlot g e)
   put-move h e = record { from = h .free; to = h .log .links; apart = λ (z : 0 ≡ suc g). omega arith; end = h .last; owner = refl; stops = refl }
+
+  pub put-chained : Chained m g c es (m .free ∷ q) → g < length (m .rows) → (e : Entry) → Chained (put m g e) g (c ++ (m .free ∷ [])) (es ++ (e ∷ [])) q
+  unfolding put advancedRow
+  put-chained h gG e =
+      let M = put-move h e in
+      let r : rowAt (put m g e .rows) g ≡ advancedRow (rowIn m g) (e .position) (m .free) = getD-set-same (m .rows) g (advancedRow (rowIn m g) (e .position) (m .free)) freshRow gG in
+      record {
+        log = rw r (move-to _ _ _ _ _ _ _ _ _ M es (h .log .held));
+        last = rw r (sym (lastOf-snoc c (m .free)));
+        free = move-from _ _ _ _ _ _ _ _ _ M _ refl .links;
+      }
 
 module _ (m : Image) (g t : ℕ) (c : List ℕ) (x : Entry) (es : List Entry) (q : List ℕ) where
   -- the log's first slot is hooked behind the last free one

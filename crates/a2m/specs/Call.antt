@@ -1,6 +1,8 @@
 -- The five calls and their answers as data, and what a list of calls answers and leaves.
 use Prim.Native.Nat.{ℕ, _^_, _<_}
 use mathlib.Core.List.{List, [], _∷_}
+use mathlib.Core.Option.{Option, none, some}
+use Rattle.receipt.specs.Answer.{Answer, answer}
 
 -- document 01: "each call's arguments (of a lent receipt only the length)"
 pub data Call : Type 0 where
@@ -37,19 +39,33 @@ pub data Reply : Type 0 where
   found : (receipt : List ℕ) (examined : ℕ) → Reply
   ended : (receipt : List ℕ) → Reply
 
+-- document 01's number of each answer, and the values that come with it: of a change L and H, of a lookup the number examined
+abbrev pub numbered : Reply → Answer
+numbered (refused k) = answer k []
+numbered (done low high) = answer 0 (low ∷ high ∷ [])
+numbered (found receipt examined) = answer 0 (examined ∷ [])
+numbered (ended receipt) = answer 0 []
+
+-- and the receipt; "a refused call has no receipt"
+abbrev pub receiptIn : Reply → Option (List ℕ)
+receiptIn (refused k) = none
+receiptIn (done low high) = none
+receiptIn (found receipt examined) = some receipt
+receiptIn (ended receipt) = some receipt
+
 -- an answer, and what stands after the call
-pub record Outcome (S : Type 0) : Type 0 where
+pub record Effect (S : Type 0) : Type 0 where
   pub reply : Reply
   pub state : S
 
-abbrev pub outcome : {S : Type 0} → Reply → S → Outcome S
-outcome r s = record { reply = r; state = s }
+abbrev pub effect : {S : Type 0} → Reply → S → Effect S
+effect r s = record { reply = r; state = s }
 
 -- the answers to a list of calls, and what stands after it: each call gets what the last one left
-unfoldable pub replies : {S : Type 0} → (S → Call → Outcome S) → S → List Call → List Reply
+unfoldable pub replies : {S : Type 0} → (S → Call → Effect S) → S → List Call → List Reply
 replies step s [] = []
 replies step s (c ∷ cs) = step s c .reply ∷ replies step (step s c .state) cs
 
-unfoldable pub after : {S : Type 0} → (S → Call → Outcome S) → S → List Call → S
+unfoldable pub after : {S : Type 0} → (S → Call → Effect S) → S → List Call → S
 after step s [] = s
 after step s (c ∷ cs) = after step (step s c .state) cs

@@ -13,7 +13,7 @@ use Rattle.layout.specs.Changes.{withNext, slotOf, advancedRow, truncatedRow}
 use Rattle.table.specs.Chains.{chain, entriesOf}
 use Rattle.table.specs.Free.{taken, afterTaken, joint}
 use Rattle.table.specs.WholeImage.{wholeImage}
-use Rattle.a2m.specs.Call.{Call, append, advance, truncate, lookup, end, logOf, refused, done, found, ended, Outcome, outcome}
+use Rattle.a2m.specs.Call.{Call, append, advance, truncate, lookup, end, logOf, refused, done, found, ended, Effect, effect}
 use Rattle.a2m.specs.NewEntry.{newEntry}
 use Rattle.a2m.specs.Search.{Found, lookedUp}
 
@@ -96,7 +96,8 @@ heldSlot g e = slotOf (suc g) 0 (e .position) (e .value) (e .digest)
 -- the entry goes into a free slot, and that behind the log's last
 unfoldable pub put : Image → ℕ → Entry → Image
 put m g e =
-    changed m (afterTaken m) g (advancedRow (rowIn m g) (e .position) (taken m)) (joined (m .slots) (taken m) (rowIn m g .last) (heldSlot g e))
+    let row = rowIn m g in
+    changed m (afterTaken m) g (advancedRow row (e .position) (taken m)) (joined (m .slots) (taken m) (row .last) (heldSlot g e))
 
 -- "the digest of the entry at the old H (32). On a fresh log the last part is 32 zero bytes": those of slot 0
 abbrev pub previousIn : Image → ℕ → List ℕ
@@ -107,13 +108,15 @@ previousIn m g = slotAt (m .slots) (rowIn m g .last) .digest
 -- the log's first slot becomes free, at the free chain's end
 unfoldable pub release : Image → ℕ → Image
 release m g =
-    changed m (firstOf (joint m) (m .free) (rowIn m g .first)) g (truncatedRow (rowIn m g) (rowIn m g .low) (slotAt (m .slots) (rowIn m g .first) .next))
-    (joined (m .slots) (rowIn m g .first) (joint m) (freeSlot 0))
+    let row = rowIn m g in
+    let s = row .first in
+    let last = joint m in
+    changed m (firstOf last (m .free) s) g (truncatedRow row (row .low) (slotAt (m .slots) s .next)) (joined (m .slots) s last (freeSlot 0))
 
 -- "Entries below n leave, their slots become free": one by one, by rising position
 unfoldable pub releases : ℕ → ℕ → Image → ℕ → Image
 releases zero n m g = m
-releases (suc k) n m g = elim (leb n (slotAt (m .slots) (rowIn m g .first) .position)) [ true ↦ m | false ↦ releases k n (release m g) g ]
+releases (suc k) n m g = let lowest = slotAt (m .slots) (rowIn m g .first) in elim (leb n (lowest .position)) [ true ↦ m | false ↦ releases k n (release m g) g ]
 
 -- "L becomes n"
 unfoldable pub lowered : Image → ℕ → ℕ → Image
@@ -152,19 +155,19 @@ endAttested m g nonce = record {
 -- ---- the calls
 
 -- "An accepted append, advance or truncate answers 0 with the L and H of that row", as it is after
-unfoldable pub imageDone : Image → ℕ → Outcome Image
-imageDone m g = outcome (done (rowIn m g .low) (rowIn m g .high)) m
+unfoldable pub imageDone : Image → ℕ → Effect Image
+imageDone m g = effect (done (rowIn m g .low) (rowIn m g .high)) m
 
 -- what an accepted call answers, and the table after
-unfoldable pub imageAccept : Image → Call → Outcome Image
+unfoldable pub imageAccept : Image → Call → Effect Image
 imageAccept m (append g x) = imageDone (put m g (newEntry (rowIn m g .high + 1) x (previousIn m g))) g
 imageAccept m (advance g n d x) = imageDone (put m g (newEntry n x d)) g
 imageAccept m (truncate g n) = imageDone (lowered (releases (length (m .slots)) n m g) g n) g
 imageAccept m (lookup g n c k) =
     let f = lookedUp (rowIn m g) (entriesIn m g) n in
-    outcome (found (receiptBytes (m .key) (lookupAttested m g n c f)) (f .examined)) m
-imageAccept m (end g c k) = outcome (ended (receiptBytes (m .key) (endAttested m g c))) m
+    effect (found (receiptBytes (m .key) (lookupAttested m g n c f)) (f .examined)) m
+imageAccept m (end g c k) = effect (ended (receiptBytes (m .key) (endAttested m g c))) m
 
 -- "A refusal changes no lent byte and returns its number alone."
-unfoldable pub imageStep : Image → Call → Outcome Image
-imageStep m call = elim (imageRefusal m call) [ none ↦ imageAccept m call | some k ↦ outcome (refused k) m ]
+unfoldable pub imageStep : Image → Call → Effect Image
+imageStep m call = elim (imageRefusal m call) [ none ↦ imageAccept m call | some k ↦ effect (refused k) m ]

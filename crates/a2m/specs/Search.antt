@@ -16,6 +16,7 @@ pub record Found : Type 0 where
 
 -- "assigned if an entry stands at n, reference n; otherwise skipped, reference the position of the next entry above n";
 -- "the held entries from the lowest up to the first at n or above, that one included": k are behind
+-- No whole table reaches the empty list: its last entry stands at H, and n is at most H.
 unfoldable pub search : ℕ → ℕ → List Entry → Found
 search n k [] = record { kind = 2; reference = 0; shown = blankEntry; examined = k }
 search n k (e ∷ es) =

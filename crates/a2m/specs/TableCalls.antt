@@ -7,17 +7,17 @@ use Rattle.refusal.specs.Order.{firstFault}
 use Rattle.layout.specs.Image.{Image}
 use Rattle.layout.specs.Layout.{readTable, writeTable}
 use Rattle.table.specs.Whole.{whole}
-use Rattle.a2m.specs.Call.{Call, refused, Outcome, outcome}
+use Rattle.a2m.specs.Call.{Call, refused, Effect, effect}
 use Rattle.a2m.specs.ImageCalls.{faults, imageAccept}
 
 -- document 01: "Order: table calls 7 (receipt output included), 1, 2, 3, 4, 6, 5"; 1 where the bytes are not a whole table
 unfoldable pub tableRefusal : List ℕ → Call → Option ℕ
 tableRefusal b call = firstFault (faults (not (whole b)) (readTable b) call)
 
--- an outcome's table as bytes
-abbrev pub written : Outcome Image → Outcome (List ℕ)
-written o = outcome (o .reply) (writeTable (o .state))
+-- an effect's table as bytes
+abbrev pub written : Effect Image → Effect (List ℕ)
+written o = effect (o .reply) (writeTable (o .state))
 
 -- "A refusal changes no lent byte and returns its number alone."
-unfoldable pub tableStep : List ℕ → Call → Outcome (List ℕ)
-tableStep b call = elim (tableRefusal b call) [ none ↦ written (imageAccept (readTable b) call) | some k ↦ outcome (refused k) b ]
+unfoldable pub tableStep : List ℕ → Call → Effect (List ℕ)
+tableStep b call = elim (tableRefusal b call) [ none ↦ written (imageAccept (readTable b) call) | some k ↦ effect (refused k) b ]

@@ -1,10 +1,9 @@
 // Format, and the check of a table.
-use table::Check;
 ghost use mathlib.Core.Path.{_≡_};
 ghost use lib.ListN.{length};
 ghost use Rattle.refusal.specs.Order.{answerOf};
 ghost use Rattle.table.specs.Format.{formatRefusal, formatBytes};
-ghost use Rattle.capi_results.specs.Results.{checkRefusal};
+ghost use Rattle.table.specs.Whole.{wholeRefusal};
 
 #[no_mangle]
 pub extern "C" fn keeper_format(
@@ -23,10 +22,8 @@ pub extern "C" fn keeper_format(
 
 #[no_mangle]
 pub extern "C" fn keeper_check(table: &[u8]) -> u8
-    ensures { λ r. ⌜ r ≡ answerOf (checkRefusal (now (table .entry))) ⌝ }
+    ensures { λ r. ⌜ r ≡ answerOf (wholeRefusal (now (table .entry))) ⌝ }
 {
-    match table_check::check(table) {
-        Check::Torn => 1,
-        Check::Whole { free: _, last: _ } => 0,
-    }
+    let outcome = table_check::is_whole(table);
+    outcome.number()
 }

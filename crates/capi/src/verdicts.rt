@@ -4,9 +4,9 @@ use quorum::Station;
 use receipt::Ask;
 use receipt::Question;
 ghost use mathlib.Core.Path.{_≡_};
-ghost use Rattle.receipt.specs.Verdict.{verdict as verdictOn};
+ghost use Rattle.receipt.specs.Verdict.{verdict as verdictOn, lookupOf, endOf};
 ghost use Rattle.quorum.specs.Certificate.{certificate as certificateFor};
-ghost use Rattle.capi_results.specs.Results.{lookupOf, endOf, verdictAfter, placeAfter, maskAfter};
+ghost use Rattle.capi_results.specs.Results.{verdictAfter, placeAfter, maskAfter};
 
 #[no_mangle]
 pub extern "C" fn keeper_verify_lookup(

@@ -1,23 +1,17 @@
 -- C's results, taken from an answer in each of the ways that it can come out.
 use Prim.Native.Nat.{ℕ}
 use mathlib.Core.Path.{_≡_, refl, sym, ap, ap₂, subst, _∙_}
-use mathlib.Core.Bool.{Bool, true, false, not, cond}
+use mathlib.Core.Bool.{Bool, false, cond}
 use mathlib.Core.List.{List, [], _∷_}
 use native.Mathlib.Nat.{ne-of-gt}
 use borrow.Author.Tests.{ne-eqb}
 use lib.Dec.{eqb}
 use lib.ListN.{getD}
 use Rattle.refusal.specs.Number.{numberOf, outcomeNumber}
-use Rattle.refusal.specs.Order.{fault, firstFault, answerOf}
 use Rattle.refusal.specs.declared.Refusal.{Refusal}
 use Rattle.refusal.proofs.NumberLaws.{numberOf-positive}
 use Rattle.refusal.specs.declared.Outcome.{Outcome}
 use Rattle.refusal.specs.declared.Outcome.the-variants.{Done, Refused}
-use Rattle.table.specs.Whole.{whole, checked, checkOf}
-use Rattle.table.specs.declared.Check.{Check}
-use Rattle.table.specs.declared.Check.the-variants as check
-use Rattle.table.specs.Free.{freeChain}
-use Rattle.layout.specs.Layout.{readTable}
 use Rattle.a2m.specs.Call.{Reply}
 use Rattle.a2m.specs.Opened.{changeReply, endReply}
 use Rattle.a2m.specs.declared.Change.{Change}
@@ -26,26 +20,11 @@ use Rattle.receipt.specs.Answer.{Answer, answer}
 use Rattle.receipt.specs.Verdict.{verdictAnswer}
 use Rattle.receipt.specs.declared.Verdict.{Verdict}
 use Rattle.receipt.specs.declared.Verdict.the-variants as verdict
-use Rattle.capi_results.specs.Results.{checkRefusal, replyNumber, lowAfter, highAfter, examinedAfter, verdictAfter, placeAfter, maskAfter}
+use Rattle.capi_results.specs.Results.{replyNumber, lowAfter, highAfter, examinedAfter, verdictAfter, placeAfter, maskAfter}
 
 -- no refusal has the number 0
 not-done : (why : Refusal) → eqb (numberOf why) 0 ≡ false
 not-done why = ne-eqb (numberOf why) 0 (λ (e : numberOf why ≡ 0). ne-of-gt (numberOf-positive why) e)
-
--- ---- the check
-
-abbrev pub checkNumber : Check → ℕ
-checkNumber check.Torn = 1
-checkNumber (check.Whole free last) = 0
-
-of-test : (t : Bool) (c : List ℕ) → checkNumber (checked t c) ≡ answerOf (firstFault (fault 1 (not t) ∷ []))
-unfolding checked answerOf firstFault
-of-test true c = refl
-of-test false c = refl
-
-pub check-number : (b : List ℕ) → checkNumber (checkOf b) ≡ answerOf (checkRefusal b)
-unfolding checkOf checkRefusal
-check-number b = of-test (whole b) (freeChain (readTable b))
 
 -- ---- the calls on a table
 

@@ -1,31 +1,20 @@
 -- What C gets of each answer: the number returned, and each result after the call. Document 01: "A refusal .. returns its
 -- number alone", so that a refusal leaves every result as it was.
 use Prim.Native.Nat.{ℕ}
-use mathlib.Core.Bool.{not, cond}
-use mathlib.Core.List.{List, [], _∷_}
+use mathlib.Core.Bool.{cond}
+use mathlib.Core.List.{List}
 use mathlib.Core.Option.{Option, none, some}
 use lib.Dec.{eqb}
 use lib.ListN.{getD}
-use Rattle.refusal.specs.Order.{fault, firstFault}
-use Rattle.table.specs.Whole.{whole}
-use Rattle.a2m.specs.Call.{Reply, refused, done, found, ended}
+use Rattle.a2m.specs.Call.{Reply, refused, done, found, ended, numbered}
 use Rattle.receipt.specs.Answer.{Answer}
-use Rattle.receipt.specs.declared.Ask.the-variants.{Lookup, End}
-use Rattle.receipt.specs.declared.Question.{Question}
 use Rattle.runs.specs.Compare.{Verdict, differ, agree, collision}
-
--- the check's one fault: 1 "torn"
-unfoldable pub checkRefusal : List ℕ → Option ℕ
-checkRefusal b = firstFault (fault 1 (not (whole b)) ∷ [])
 
 -- ---- the calls on a table
 
 -- a reply's number: 0 "done", or the refusal's
 unfoldable pub replyNumber : Reply → ℕ
-replyNumber (refused k) = k
-replyNumber (done l h) = 0
-replyNumber (found receipt k) = 0
-replyNumber (ended receipt) = 0
+replyNumber r = numbered r .number
 
 -- "0 with the L and H of that row"
 unfoldable pub lowAfter : Reply → ℕ → ℕ
@@ -48,13 +37,6 @@ examinedAfter (found receipt k) old = k
 examinedAfter (ended receipt) old = old
 
 -- ---- the verifier and certificates
-
--- "A question names keeper, log, LOOKUP or END, nonce, and for LOOKUP the position"
-abbrev pub lookupOf : ℕ → ℕ → ℕ → Question
-lookupOf keeper log position = record { keeper = keeper; log = log; ask = Lookup position }
-
-abbrev pub endOf : ℕ → ℕ → Question
-endOf keeper log = record { keeper = keeper; log = log; ask = End }
 
 -- a verdict's five numbers: keeper, log, position, kind and reference
 unfoldable pub verdictAfter : Answer → List ℕ → List ℕ

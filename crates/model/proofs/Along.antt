@@ -1,13 +1,13 @@
 -- The model along a list of calls: what call i meets and answers.
 use Prim.Native.Nat.{ℕ, zero, suc, _^_, _≤_, _<_}
-use mathlib.Core.Path.{_≡_, refl, ap, _∙_}
+use mathlib.Core.Path.{_≡_, refl, ap, subst, _∙_}
 use mathlib.Core.List.{List, [], _∷_}
 use mathlib.Core.Option.{some, Option·none-ne-some, Option·some-injective}
 use native.Mathlib.Omega.{arith}
 use lib.ListN.{length, take, getElem?, length-set}
 use lib.Seq.{getD-set-same}
 use Rattle.layout.specs.Image.{Entry}
-use Rattle.a2m.specs.Call.{Call, append, advance, truncate, lookup, end, refused, done, Outcome, replies, after, AllWide, Wide}
+use Rattle.a2m.specs.Call.{Call, append, advance, truncate, lookup, end, refused, done, Effect, replies, after, AllWide, Wide}
 use Rattle.model.specs.Log.{freshLog, entered, cutAt}
 use Rattle.model.specs.Model.{Rules, Model, logAt, modelDone, modelAccept, modelStep}
 use Rattle.model.specs.Claim.{replyAt, ShowsAt}
@@ -23,30 +23,31 @@ use Rattle.model.proofs.Shown.{step-shown}
 pub record Fixed (b c : Model) : Type 0 where
   pub size : c .size ≡ b .size
   pub keeper : c .keeper ≡ b .keeper
+  pub key : c .key ≡ b .key
   pub count : length (c .logs) ≡ length (b .logs)
 
 accept-fixed : (ru : Rules) (b : Model) (c : Call) → Fixed b (modelAccept ru b c .state)
 unfolding modelAccept modelDone
-accept-fixed ru b (append g x) = record { size = refl; keeper = refl; count = length-set (b .logs) g _ }
-accept-fixed ru b (advance g n d x) = record { size = refl; keeper = refl; count = length-set (b .logs) g _ }
-accept-fixed ru b (truncate g n) = record { size = refl; keeper = refl; count = length-set (b .logs) g _ }
-accept-fixed ru b (lookup g n c k) = record { size = refl; keeper = refl; count = refl }
-accept-fixed ru b (end g c k) = record { size = refl; keeper = refl; count = refl }
+accept-fixed ru b (append g x) = record { size = refl; keeper = refl; key = refl; count = length-set (b .logs) g _ }
+accept-fixed ru b (advance g n d x) = record { size = refl; keeper = refl; key = refl; count = length-set (b .logs) g _ }
+accept-fixed ru b (truncate g n) = record { size = refl; keeper = refl; key = refl; count = length-set (b .logs) g _ }
+accept-fixed ru b (lookup g n c k) = record { size = refl; keeper = refl; key = refl; count = refl }
+accept-fixed ru b (end g c k) = record { size = refl; keeper = refl; key = refl; count = refl }
 
 pub step-fixed : (ru : Rules) (b : Model) (c : Call) → Fixed b (modelStep ru b c .state)
 step-fixed ru b c = go (stepped ru b c)
   where
     go : Stepped ru b c → Fixed b (modelStep ru b c .state)
-    go (turned k e) = rw e (record { size = refl; keeper = refl; count = refl })
+    go (turned k e) = rw e (record { size = refl; keeper = refl; key = refl; count = refl })
     go (taken a e) = rw e (accept-fixed ru b c)
 
 pub after-fixed : (ru : Rules) (b : Model) (cs : List Call) → Fixed b (after (modelStep ru) b cs)
 unfolding after
-after-fixed ru b [] = record { size = refl; keeper = refl; count = refl }
+after-fixed ru b [] = record { size = refl; keeper = refl; key = refl; count = refl }
 after-fixed ru b (c ∷ cs) =
     let r = after-fixed ru (modelStep ru b c .state) cs in
     let s = step-fixed ru b c in
-    record { size = r .size ∙ s .size; keeper = r .keeper ∙ s .keeper; count = r .count ∙ s .count }
+    record { size = r .size ∙ s .size; keeper = r .keeper ∙ s .keeper; key = r .key ∙ s .key; count = r .count ∙ s .count }
 
 -- ---- what every call keeps
 
@@ -75,6 +76,12 @@ module _ (ru : Rules) where
   at-later b [] (suc i) (suc j) h g = later-refl (logAt (b .logs) g)
   at-later b (c ∷ cs) (suc i) (suc j) h g = at-later (modelStep ru b c .state) cs i j (omega arith) g
 
+  -- call i has numbers of its width
+  pub at-wide : (cs : List Call) → AllWide cs → (i : ℕ) (c : Call) → getElem? cs i ≡ some c → Wide c
+  at-wide [] w i c h = absurd (Option·none-ne-some c h)
+  at-wide (x ∷ cs) w zero c h = subst Wide (Option·some-injective x c h) (w .0)
+  at-wide (x ∷ cs) w (suc i) c h = at-wide cs (w .1) i c h
+
   pub at-next : (b : Model) (cs : List Call) (j : ℕ) (c : Call) → getElem? cs j ≡ some c → after (modelStep ru) b (take (suc j) cs) ≡ modelStep ru (after (modelStep ru) b (take j cs)) c .state
   unfolding after
   at-next b [] j c h = absurd (Option·none-ne-some c h)
@@ -101,7 +108,7 @@ module _ (ru : Rules) where
     where
       go : Stepped ru b (advance g n d x) → (e : Entry) × (e .position ≡ n) × (logAt (modelStep ru b (advance g n d x) .state .logs) g ≡ entered (logAt (b .logs) g) e)
       go (turned k e) = absurd (let q : refused k ≡ done lo hi = rw e at h in let z : _≡_ {A = ℕ} 0 1 = cc in omega arith)
-      go (taken a e) = (_, refl, ap (λ (o : Outcome Model). logAt (o .state .logs) g) e ∙ getD-set-same (b .logs) g _ freshLog (a .log))
+      go (taken a e) = (_, refl, ap (λ (o : Effect Model). logAt (o .state .logs) g) e ∙ getD-set-same (b .logs) g _ freshLog (a .log))
 
   pub truncated : (b : Model) (g n : ℕ) (lo hi : ℕ) → modelStep ru b (truncate g n) .reply ≡ done lo hi → logAt (modelStep ru b (truncate g n) .state .logs) g ≡ cutAt n (logAt (b .logs) g)
   unfolding modelAccept modelDone

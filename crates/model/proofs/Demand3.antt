@@ -38,7 +38,7 @@ module _ (lent : List ℕ) (G S keeper : ℕ) (key : List ℕ) (k64 : keeper < 2
       let q = peel 7 (not (eqb (length key) 32 && eqb (length lent) (tableSize G S))) _ p .0 in
       eqb-true (length key) 32 (and-left _ _ (not-false _ q))
 
-  stands : Stands (formatted G S keeper key) (newModel G S keeper key)
+  pub stands : Stands (formatted G S keeper key) (newModel G S keeper key)
   stands =
       record {
         says = formatted-rep G S keeper key (in-counts .slots-least);
@@ -47,7 +47,7 @@ module _ (lent : List ℕ) (G S keeper : ℕ) (key : List ℕ) (k64 : keeper < 2
         counts = rw (length-replicate G freshLog) in-counts;
       }
 
-  bytes-are : formatBytes lent G S keeper key ≡ writeTable (formatted G S keeper key)
+  pub bytes-are : formatBytes lent G S keeper key ≡ writeTable (formatted G S keeper key)
   unfolding formatBytes afterwards
   bytes-are = rw (accepted, formatBytes)
 

@@ -4,12 +4,13 @@ use mathlib.Core.Path.{_≡_, refl, sym, ap, subst, _∙_}
 use mathlib.Core.Logic.{_⊎_, inl, inr}
 use mathlib.Core.List.{List, [], _∷_}
 use mathlib.Core.Bool.{Bool, true, false}
+use mathlib.Core.Option.{some, Option·some-injective}
 use native.Mathlib.Omega.{arith}
-use lib.ListN.{take}
+use lib.ListN.{take, getElem?}
 use lib.Dec.{leb}
 use borrow.Author.Tests.{leb-true, leb-false}
 use Rattle.layout.specs.Image.{Entry}
-use Rattle.a2m.specs.Call.{Call, advance, truncate, replies, after, AllWide}
+use Rattle.a2m.specs.Call.{Call, advance, truncate, Reply, replies, after, AllWide}
 use Rattle.a2m.proofs.Lists.{In, in-cases}
 use Rattle.model.specs.Log.{Log, entered, cutAt}
 use Rattle.model.specs.Model.{Rules, Model, logAt, modelStep}
@@ -97,3 +98,23 @@ module _ (ru : Rules) (b : Model) (keeps : Keeps b) (cs : List Call) (w : AllWid
       let L : Later (cutAt n (logAt (after (modelStep ru) b (take j cs) .logs) g)) (logAt (after (modelStep ru) b (take i cs) .logs) g) = rw next at (at-later ru b cs (suc j) i ji g) in
       let low : n ≤ logAt (after (modelStep ru) b (take i cs) .logs) g .low = L .low in
       omega arith
+
+  pub model-positive : (i g n : ℕ) (v d : List ℕ) → ShowsAt (replies (modelStep ru) b cs) i g n v d → 1 ≤ n
+  model-positive i g n v d s =
+      let e = at-shown ru b keeps cs w i g n v d s in
+      let ok = at-keeps ru b keeps cs w i .sound g in
+      let q = e .position in
+      let c = in-bounds (logAt (after (modelStep ru) b (take i cs) .logs) g) ok (e .entry) (e .there) .0 in
+      let l = ok .low1 in
+      omega arith
+
+-- "With n = H + 1 nothing is skipped.", of call j on log g, H being the log's high as the calls before it left it
+pub next-skips-none : (ru : Rules) (b : Model) (cs : List Call) (rs : List Reply) (j g p : ℕ) (d x : List ℕ)
+    → getElem? cs j ≡ some (advance g (suc (logAt (after (modelStep ru) b (take j cs) .logs) g .high)) d x) → SkipsAt ru b cs rs j g p → ⊥
+next-skips-none ru b cs rs j g p d x h s =
+    let high = logAt (after (modelStep ru) b (take j cs) .logs) g .high in
+    let e : advance g (suc high) d x ≡ advance g (s .n) (s .given) (s .value) = Option·some-injective _ _ (sym h ∙ s .call) in
+    let n : suc high ≡ s .n = cc in
+    let above = s .above in
+    let below = s .below in
+    omega arith

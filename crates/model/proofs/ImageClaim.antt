@@ -15,8 +15,9 @@ use Rattle.model.proofs.Reading.{entries-are}
 use Rattle.model.proofs.Step.{step-agrees}
 use Rattle.model.proofs.Sound.{step-sound}
 use Rattle.model.proofs.Along.{Keeps, after-fixed}
-use Rattle.model.proofs.History.{model-agreeing, model-unskipped, model-remembered}
+use Rattle.model.proofs.History.{model-agreeing, model-unskipped, model-remembered, model-positive}
 use Rattle.model.proofs.Remembers.{model-remembers}
+use Rattle.model.proofs.Accepted.{model-verified}
 use Rattle.model.proofs.Once.{meets-once}
 use Rattle.model.proofs.Untorn.{model-untorn}
 use Rattle.model.proofs.Fresh.{getD-same, fresh-sound}
@@ -46,8 +47,8 @@ new-keeps G S keeper key h = record {
 }
 
 -- from any image that says the new model
-pub image-claim : (G S keeper : ℕ) (key : List ℕ) → keeper < 2 ^ 64 → (m : Image) → Rep m (newModel G S keeper key) → (cs : List Call) → AllWide cs → ListClaim G S keeper key cs (replies imageStep m cs) (after imageStep m cs)
-image-claim G S keeper key k64 m R cs w =
+pub image-claim : (G S keeper : ℕ) (key : List ℕ) → keeper < 2 ^ 64 → length key ≡ 32 → G ≤ 16 → (m : Image) → Rep m (newModel G S keeper key) → (cs : List Call) → AllWide cs → ListClaim G S keeper key cs (replies imageStep m cs) (after imageStep m cs)
+image-claim G S keeper key k64 k32 few m R cs w =
     let b = newModel G S keeper key in
     let keeps = new-keeps G S keeper key k64 in
     let A = list-agrees m b R (keeps .sound) cs in
@@ -58,10 +59,12 @@ image-claim G S keeper key k64 m R cs w =
       agreeing = rw e (model-agreeing rules01 b keeps cs w);
       unskipped = rw e (model-unskipped rules01 b keeps cs w);
       remembered = rw e (model-remembered rules01 b keeps cs w);
+      positive = rw e (model-positive rules01 b keeps cs w);
+      verified = rw e (model-verified b keeps k32 (rw (length-replicate G freshLog) few) cs w);
       slots = λ (s : ℕ) (s1 : 1 ≤ s) (sS : s ≤ S). meets-once (after imageStep m cs) (after (modelStep rules01) b cs) (A .state) s s1 (rw size sS);
       rows = λ (g : ℕ) (gG : g < G). row-says (after imageStep m cs) (after (modelStep rules01) b cs) (A .state) g;
       logs = A .state .count ∙ after-fixed rules01 b cs .count ∙ length-replicate G freshLog;
       size = size;
       untorn = rw e (model-untorn b cs);
-      found = rw e (model-remembers rules01 b keeps cs w);
+      recalled = rw e (model-remembers rules01 b keeps cs w);
     }

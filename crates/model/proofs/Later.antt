@@ -1,12 +1,13 @@
 -- A log later: low and high only grow, and what the high position has passed is decided for good.
 use Prim.Native.Nat.{ℕ, _≤_, _<_}
 use native.Mathlib.Nat.{le-refl, le-trans}
-use mathlib.Core.Path.{_≡_, ap}
+use mathlib.Core.Path.{_≡_, ap, subst}
 use mathlib.Core.Logic.{_⊎_, inl, inr}
 use mathlib.Core.List.{List, [], _∷_, _++_}
 use mathlib.Core.Bool.{Bool, true, false, cond}
 use native.Mathlib.Omega.{arith}
 use lib.Dec.{leb}
+use borrow.Author.Tests.{le-leb}
 use Rattle.layout.specs.Image.{Entry}
 use Rattle.a2m.specs.Call.{Call, after, Wide}
 use Rattle.a2m.proofs.Lists.{In, in-cases}
@@ -33,6 +34,16 @@ in-keepFrom n e (x ∷ es) m = go (leb n (x .position)) m (λ (q : In e (keepFro
     go true (inl q) below = inl q
     go true (inr q) below = inr (below q)
     go false q below = inr (below q)
+
+-- an entry at n or above is kept
+pub in-kept : (n : ℕ) (e : Entry) (es : List Entry) → In e es → n ≤ e .position → In e (keepFrom n es)
+unfolding keepFrom
+in-kept n e (x ∷ es) (inl p) h = rw (keepFrom, le-leb n (x .position) (subst (λ (y : Entry). n ≤ y .position) p h)) (inl p)
+in-kept n e (x ∷ es) (inr m) h = go (leb n (x .position)) (in-kept n e es m h)
+  where
+    go : (t : Bool) → In e (keepFrom n es) → In e (cond t (x ∷ keepFrom n es) (keepFrom n es))
+    go true q = inr q
+    go false q = q
 
 later-entered : (l : Log) (e : Entry) → l .high < e .position → Later l (entered l e)
 unfolding entered

@@ -22,7 +22,7 @@ use Rattle.layout.specs.Fits.{Range}
 use Rattle.table.specs.Whole.{whole}
 use Rattle.table.proofs.WholeLaws.{whole-formed, whole-range, whole-image}
 use Rattle.table.specs.WholeImage.{heldBy, meets, wholeImage}
-use Rattle.a2m.specs.Call.{Call, Wide, Outcome, outcome}
+use Rattle.a2m.specs.Call.{Call, Wide, Effect, effect}
 use Rattle.a2m.specs.ImageCalls.{rowIn, entriesIn, imageStep}
 use Rattle.a2m.specs.TableCalls.{written, tableStep}
 use Rattle.a2m.proofs.Links.{chain-links}
@@ -106,7 +106,7 @@ rep-model m b R =
 -- ---- calls on a whole table
 
 -- a call answers as the model, leaves a table that says the model after, and that is whole
-pub record Follows (m : Image) (call : Call) (o : Outcome Image) : Type 0 where
+pub record Follows (m : Image) (call : Call) (o : Effect Image) : Type 0 where
   pub reply : o .reply ≡ modelStep rules01 (modelOf m) call .reply
   pub model : modelOf (o .state) ≡ modelStep rules01 (modelOf m) call .state
   pub whole : wholeImage (o .state) ≡ true
@@ -122,7 +122,7 @@ whole-step m w call =
 
 -- the same of bytes
 pub table-step : (b : List ℕ) → Bytes b → whole b ≡ true → (call : Call) → Wide call
-    → Follows (readTable b) call (outcome (tableStep b call .reply) (readTable (tableStep b call .state)))
+    → Follows (readTable b) call (effect (tableStep b call .reply) (readTable (tableStep b call .state)))
 table-step b h w call wide =
     let m = readTable b in
     let f = fits-read b h (whole-formed b w) in

@@ -9,7 +9,7 @@ use lib.ListN.{length}
 use lib.Dec.{eqb, leb, ltb}
 use borrow.Author.Tests.{eqb-true, eqb-false, leb-false, ltb-false, not-false}
 use Rattle.octets.proofs.Tests.{or-none}
-use Rattle.a2m.specs.Call.{Call, append, advance, truncate, lookup, end, refused, outcome}
+use Rattle.a2m.specs.Call.{Call, append, advance, truncate, lookup, end, refused, effect}
 use Rattle.model.specs.Model.{Rules, Model, logAt, isNil, not32, modelRefusal, modelAccept, modelStep}
 
 pub record AppendPassed (ru : Rules) (b : Model) (g : ℕ) (x : List ℕ) : Type 0 where
@@ -83,7 +83,7 @@ passed ru b (end g c k) h =
 
 -- the model's answer is a refusal, or what an accepted call gives
 pub data Stepped (ru : Rules) (b : Model) (call : Call) : Type 0 where
-  turned : (k : ℕ) → modelStep ru b call ≡ outcome (refused k) b → Stepped ru b call
+  turned : (k : ℕ) → modelStep ru b call ≡ effect (refused k) b → Stepped ru b call
   taken : Passed ru b call → modelStep ru b call ≡ modelAccept ru b call → Stepped ru b call
 
 pub stepped : (ru : Rules) (b : Model) (call : Call) → Stepped ru b call

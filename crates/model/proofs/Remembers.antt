@@ -1,10 +1,10 @@
 -- The model is no empty one: what a call put at n, a later lookup of n shows assigned, until a truncate goes past n.
-use Prim.Native.Nat.{ℕ, zero, suc, _-_, _^_, _≤_, _<_}
+use Prim.Native.Nat.{ℕ, zero, suc, _^_, _≤_, _<_}
 use native.Mathlib.Nat.{le-refl}
 use mathlib.Core.Path.{_≡_, refl, sym, ap, subst, _∙_}
 use mathlib.Core.Logic.{inl, inr}
 use mathlib.Core.List.{List, [], _∷_}
-use mathlib.Core.Bool.{Bool, true, false, cond}
+use mathlib.Core.Bool.{Bool, true, false}
 use mathlib.Core.Option.{Option, none, some, Option·none-ne-some}
 use native.Mathlib.Omega.{arith}
 use native.Mathlib.Decide.{ℕ-discrete}
@@ -15,27 +15,19 @@ use borrow.Author.Tests.{leb-true, leb-false, eq-eqb, ne-eqb, le-leb, lt-leb, le
 use Rattle.receipt.specs.Attestation.{Attestation, LOOKUP, receiptBytes, readAttestation}
 use Rattle.receipt.proofs.Fields.{read-receipt}
 use Rattle.layout.specs.Image.{Entry}
-use Rattle.a2m.specs.Call.{Call, append, advance, truncate, lookup, end, refused, done, Outcome, Reply, replies, after, AllWide}
+use Rattle.a2m.specs.Call.{Call, append, advance, truncate, lookup, end, refused, done, Effect, Reply, replies, after, AllWide, receiptIn}
 use Rattle.a2m.proofs.Lists.{In, in-left, in-right}
 use Rattle.model.specs.Log.{Log, freshLog, keepFrom, entered, cutAt, assigned, standingAmong, standing, kindOf, referenceOf}
-use Rattle.model.specs.Model.{Rules, Model, logAt, modelRefusal, modelReceipt, shownFor, lookupReply, modelDone, modelAccept, modelStep}
-use Rattle.model.specs.Claim.{Shows, receiptIn, replyAt, ShowsAt, Stores, Asked}
+use Rattle.model.specs.Model.{Rules, Model, logAt, modelRefusal, modelReceipt, shownFor, modelLookup, modelDone, modelAccept, modelStep}
+use Rattle.model.specs.Claim.{Shows, replyAt, ShowsAt, Stores, Asked}
 use Rattle.model.proofs.Represents.{LogOk, Rising}
 use Rattle.model.proofs.Passed.{Passed, Stepped, turned, taken, stepped}
+use Rattle.model.proofs.Later.{in-kept}
 use Rattle.model.proofs.Entries.{EntryAt, in-bounds, rising-in}
 use Rattle.model.proofs.Shown.{length-LOOKUP}
 use Rattle.model.proofs.Along.{Keeps, after-fixed, at-keeps, at-next, at-reply}
 
 -- ---- a log keeps its entries down to its low
-
-in-kept : (n : ℕ) (e : Entry) (es : List Entry) → In e es → n ≤ e .position → In e (keepFrom n es)
-unfolding keepFrom
-in-kept n e (x ∷ es) (inl p) h = rw (keepFrom, le-leb n (x .position) (subst (λ (y : Entry). n ≤ y .position) p h)) (inl p)
-in-kept n e (x ∷ es) (inr m) h = go (leb n (x .position)) (in-kept n e es m h)
-  where
-    go : (t : Bool) → In e (keepFrom n es) → In e (cond t (x ∷ keepFrom n es) (keepFrom n es))
-    go true q = inr q
-    go false q = q
 
 kept-at : (l : Log) (m n : ℕ) (v d : List ℕ) → m ≤ n → EntryAt l n v d → EntryAt (cutAt m l) n v d
 unfolding cutAt
@@ -68,7 +60,7 @@ module _ (ru : Rules) (b : Model) (g n : ℕ) (v d : List ℕ) (h : EntryAt (log
     where
       go : Dec (k ≡ g) → (t : Bool) → leb m n ≡ t → Next ru b g n v d (truncate k m)
       go (yes q) true f = stays (rw e (set-at k _ (a .log) (λ (z : k ≡ g). kept-at (logAt (b .logs) k) m n v d (leb-true m n f) (rw z h))))
-      go (yes q) false f = forgets m _ _ (ap (λ (j : ℕ). truncate j m) q) (ap (λ (o : Outcome Model). o .reply) e) (leb-false m n f)
+      go (yes q) false f = forgets m _ _ (ap (λ (j : ℕ). truncate j m) q) (ap (λ (o : Effect Model). o .reply) e) (leb-false m n f)
       go (no z) t f = stays (rw e (set-at k _ (a .log) (λ (q : k ≡ g). absurd (z q))))
   accept-next (lookup k m c r) a e = stays (rw e h)
   accept-next (end k c r) a e = stays (rw e h)
@@ -137,7 +129,7 @@ module _ (ru : Rules) (b : Model) (keeps : Keeps b) (g n : ℕ) (v d : List ℕ)
       let w = keeps .sound g .low1 in
       rw (modelRefusal, eq-eqb (length c) 32 hc, lt-leb (length (b .logs)) g gG, ne-eqb n 0 (λ (z : n ≡ 0). omega arith))
 
-  reply-is : modelStep ru b (lookup g n c 160) .reply ≡ lookupReply ru b g n c (logAt (b .logs) g) (assigned (h .entry))
+  reply-is : modelStep ru b (lookup g n c 160) .reply ≡ modelLookup ru b g n c (logAt (b .logs) g) (assigned (h .entry))
   unfolding modelStep modelAccept
   reply-is = rw (modelStep, accepted, modelAccept, standing-is (logAt (b .logs) g) (keeps .sound g) n v d h)
 
@@ -154,7 +146,7 @@ module _ (ru : Rules) (b : Model) (keeps : Keeps b) (g n : ℕ) (v d : List ℕ)
       record { assigned = ap (λ (x : Attestation). x .kind) q; log = ap (λ (x : Attestation). x .log) q; position = ap (λ (x : Attestation). x .position) q; value = ap (λ (x : Attestation). x .value) q ∙ h .value; digest = ap (λ (x : Attestation). x .digest) q ∙ h .digest }
 
   shows-at : (rs : List Reply) (j : ℕ) → replyAt rs j ≡ modelStep ru b (lookup g n c 160) .reply → ShowsAt rs j g n v d
-  unfolding lookupReply kindOf referenceOf shownFor
+  unfolding modelLookup kindOf referenceOf shownFor
   shows-at rs j e = record { receipt = _; there = ap receiptIn (e ∙ reply-is); shows = shows }
 
 -- ---- along the list

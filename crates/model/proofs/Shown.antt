@@ -1,27 +1,24 @@
 -- A receipt that shows a position assigned shows an entry that the model has then.
 use Prim.Native.Nat.{ℕ, _^_, _<_}
 use mathlib.Core.Path.{_≡_, refl, sym, ap, subst, _∙_}
-use mathlib.Core.Logic.{inl}
-use mathlib.Core.List.{List, [], _∷_, append-assoc}
+use mathlib.Core.List.{List, _∷_, append-assoc}
 use mathlib.Core.Bool.{Bool, true, false, cond}
 use mathlib.Core.Option.{some, Option·none-ne-some, Option·some-injective}
 use native.Mathlib.Omega.{arith}
 use lib.ListN.{length, getD}
 use lib.Seq.{getD-at}
-use lib.Dec.{eqb, ltb}
-use borrow.Author.Tests.{eqb-true}
 use Rattle.hmac.specs.Hmac.{hmac}
 use Rattle.receipt.specs.Attestation.{Attestation, LOOKUP, END, attestedBytes, receiptBytes, readAttestation, Sized}
 use Rattle.receipt.proofs.Fields.{read-receipt}
 use Rattle.layout.specs.Image.{Entry}
-use Rattle.a2m.specs.Call.{Call, append, advance, truncate, lookup, end, Wide}
+use Rattle.a2m.specs.Call.{Call, append, advance, truncate, lookup, end, Wide, receiptIn}
 use Rattle.a2m.proofs.Lists.{In}
-use Rattle.model.specs.Log.{Log, lastEntry, keepFrom, Standing, unassigned, forgotten, assigned, skipped, standingAmong, standing, kindOf, referenceOf}
-use Rattle.model.specs.Model.{Rules, Model, logAt, isNil, modelReceipt, shownFor, lookupReply, endReply, modelDone, modelAccept, modelStep}
-use Rattle.model.specs.Claim.{Shows, receiptIn}
+use Rattle.model.specs.Log.{Log, lastEntry, Standing, unassigned, forgotten, assigned, skipped, standing, kindOf, referenceOf}
+use Rattle.model.specs.Model.{Rules, Model, logAt, isNil, modelReceipt, shownFor, modelLookup, modelEnd, modelDone, modelAccept, modelStep}
+use Rattle.model.specs.Claim.{Shows}
 use Rattle.model.proofs.Represents.{Sound}
 use Rattle.model.proofs.Passed.{Passed, Stepped, turned, taken, stepped}
-use Rattle.model.proofs.Later.{in-keepFrom}
+use Rattle.model.proofs.Standings.{Means, standing-means}
 use Rattle.model.proofs.Entries.{EntryAt, Fit, AllFit, last-in}
 
 -- ---- a receipt's bytes
@@ -39,43 +36,9 @@ pub length-LOOKUP : length LOOKUP ≡ 6
 unfolding LOOKUP
 length-LOOKUP = refl
 
-length-END : length END ≡ 6
+pub length-END : length END ≡ 6
 unfolding END
 length-END = refl
-
--- ---- standings
-
-among-assigned : (n : ℕ) (es : List Entry) (e : Entry) → standingAmong n es ≡ assigned e → In e es × (e .position ≡ n)
-unfolding standingAmong
-among-assigned n [] e h = absurd (let z : _≡_ {A = ℕ} 0 1 = cc in omega arith)
-among-assigned n (x ∷ es) e h = go (eqb (x .position) n) refl
-  where
-    go : (t : Bool) → eqb (x .position) n ≡ t → In e (x ∷ es) × (e .position ≡ n)
-    go true q =
-        let k : assigned x ≡ assigned e = rw (standingAmong, q) at h in
-        let p : e ≡ x = cc in
-        (inl p, ap (λ (y : Entry). y .position) p ∙ eqb-true (x .position) n q)
-    go false q =
-        let k : skipped x ≡ assigned e = rw (standingAmong, q) at h in
-        let z : _≡_ {A = ℕ} 0 1 = cc in
-        absurd (omega arith)
-
-standing-assigned : (l : Log) (n : ℕ) (e : Entry) → standing l n ≡ assigned e → In e (l .entries) × (e .position ≡ n)
-unfolding standing
-standing-assigned l n e h = go (ltb (l .high) n) refl (ltb n (l .low)) refl
-  where
-    go : (t : Bool) → ltb (l .high) n ≡ t → (u : Bool) → ltb n (l .low) ≡ u → In e (l .entries) × (e .position ≡ n)
-    go true p u q =
-        let k : unassigned ≡ assigned e = rw (standing, p) at h in
-        let z : _≡_ {A = ℕ} 0 1 = cc in
-        absurd (omega arith)
-    go false p true q =
-        let k : forgotten ≡ assigned e = rw (standing, p, q) at h in
-        let z : _≡_ {A = ℕ} 0 1 = cc in
-        absurd (omega arith)
-    go false p false q =
-        let r = among-assigned n (keepFrom n (l .entries)) e (rw (standing, p, q) at h) in
-        (in-keepFrom n e (l .entries) (r .0), r .1)
 
 -- ---- an assigned receipt shows its entry
 
@@ -98,16 +61,15 @@ module _ (b : Model) (keeper : b .keeper < 2 ^ 64) (l : Log) (fit : Fit l) (e : 
       )
 
 module _ (ru : Rules) (b : Model) (ok : Sound b) (keeper : b .keeper < 2 ^ 64) (fits : AllFit b) where
-  lookup-shown : (g n : ℕ) (c : List ℕ) → length c ≡ 32 → n < 2 ^ 64 → (s : Standing) → standing (logAt (b .logs) g) n ≡ s → (r : List ℕ)
+  lookup-shown : (g n : ℕ) (c : List ℕ) → length c ≡ 32 → n < 2 ^ 64 → (s : Standing) → Means (logAt (b .logs) g) n s → (r : List ℕ)
       → modelReceipt b LOOKUP (kindOf s) g n (referenceOf (logAt (b .logs) g) s) c (shownFor ru s) ≡ r → (k p : ℕ) (v d : List ℕ) → Shows r k p v d → EntryAt (logAt (b .logs) k) p v d
   unfolding kindOf referenceOf shownFor
   lookup-shown g n c hc n64 unassigned e r q k p v d s = absurd (let z : _≡_ {A = ℕ} 0 1 = sym (shown-kind b LOOKUP length-LOOKUP 0 g n _ c _ r q) ∙ s .assigned in omega arith)
   lookup-shown g n c hc n64 forgotten e r q k p v d s = absurd (let z : _≡_ {A = ℕ} 3 1 = sym (shown-kind b LOOKUP length-LOOKUP 3 g n _ c _ r q) ∙ s .assigned in omega arith)
   lookup-shown g n c hc n64 (skipped x) e r q k p v d s = absurd (let z : _≡_ {A = ℕ} 2 1 = sym (shown-kind b LOOKUP length-LOOKUP 2 g n _ c _ r q) ∙ s .assigned in omega arith)
   lookup-shown g n c hc n64 (assigned x) e r q k p v d s =
-      let w = standing-assigned (logAt (b .logs) g) n x e in
-      let q1 : modelReceipt b LOOKUP 1 g n n c x ≡ r = ap (λ (y : ℕ). modelReceipt b LOOKUP 1 g n y c x) (sym (w .1)) ∙ q in
-      let z = reads b keeper (logAt (b .logs) g) (fits g) x (w .0) LOOKUP length-LOOKUP g n (w .1) n64 c hc r q1 k p v d s in
+      let q1 : modelReceipt b LOOKUP 1 g n n c x ≡ r = ap (λ (y : ℕ). modelReceipt b LOOKUP 1 g n y c x) (sym (e .1)) ∙ q in
+      let z = reads b keeper (logAt (b .logs) g) (fits g) x (e .0) LOOKUP length-LOOKUP g n (e .1) n64 c hc r q1 k p v d s in
       subst (λ (y : ℕ). EntryAt (logAt (b .logs) y) p v d) (z .0) (z .1)
 
   end-shown : (g : ℕ) (c : List ℕ) → length c ≡ 32 → (t : Bool) → isNil (logAt (b .logs) g .entries) ≡ t → (r : List ℕ)
@@ -122,12 +84,13 @@ module _ (ru : Rules) (b : Model) (ok : Sound b) (keeper : b .keeper < 2 ^ 64) (
       subst (λ (y : ℕ). EntryAt (logAt (b .logs) y) p v d) (z .0) (z .1)
 
   accept-shown : (call : Call) → Wide call → Passed ru b call → (r : List ℕ) → receiptIn (modelAccept ru b call .reply) ≡ some r → (k p : ℕ) (v d : List ℕ) → Shows r k p v d → EntryAt (logAt (b .logs) k) p v d
-  unfolding modelAccept modelDone lookupReply endReply
+  unfolding modelAccept modelDone modelLookup modelEnd
   accept-shown (append g x) wide a r q k p v d s = absurd (Option·none-ne-some r q)
   accept-shown (advance g n y x) wide a r q k p v d s = absurd (Option·none-ne-some r q)
   accept-shown (truncate g n) wide a r q k p v d s = absurd (Option·none-ne-some r q)
   accept-shown (lookup g n c len) wide a r q k p v d s =
-      lookup-shown g n c (a .nonce) wide (standing (logAt (b .logs) g) n) refl r (Option·some-injective _ _ q) k p v d s
+      let n0 = a .position in
+      lookup-shown g n c (a .nonce) wide (standing (logAt (b .logs) g) n) (standing-means (logAt (b .logs) g) (ok g) n (omega arith)) r (Option·some-injective _ _ q) k p v d s
   accept-shown (end g c len) wide a r q k p v d s =
       end-shown g c (a .nonce) (isNil (logAt (b .logs) g .entries)) refl r (Option·some-injective _ _ q) k p v d s
 

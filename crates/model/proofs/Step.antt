@@ -12,12 +12,12 @@ use lib.Seq.{getD-set-same}
 use lib.Dec.{eqb}
 use Rattle.receipt.specs.Attestation.{receiptBytes}
 use Rattle.layout.specs.Image.{Entry, Image, entryOf, slotAt}
-use Rattle.a2m.specs.Call.{Call, append, advance, truncate, lookup, end, Reply, done, found, ended, Outcome}
+use Rattle.a2m.specs.Call.{Call, append, advance, truncate, lookup, end, Reply, done, found, ended, Effect}
 use Rattle.a2m.specs.NewEntry.{newEntry}
 use Rattle.a2m.specs.Search.{lookedUp}
 use Rattle.a2m.specs.ImageCalls.{rowIn, entriesIn, put, previousIn, lookupAttested, endAttested, imageDone, imageAccept, imageStep}
 use Rattle.model.specs.Log.{Log, freshLog, lastEntry, entered, standing, examinedFor}
-use Rattle.model.specs.Model.{rules01, Model, logAt, total, withLog, isNil, modelRefusal, modelReceipt, lookupReply, endReply, modelDone, modelAccept, modelStep}
+use Rattle.model.specs.Model.{rules01, Model, logAt, total, withLog, isNil, modelRefusal, modelReceipt, modelLookup, modelEnd, modelDone, modelAccept, modelStep}
 use Rattle.model.proofs.Represents.{Rep, Sound}
 use Rattle.model.proofs.Reading.{entries-are, full-is, last-is}
 use Rattle.model.proofs.Put.{put-keeps}
@@ -27,7 +27,7 @@ use Rattle.model.proofs.Lookups.{foundAs, lookup-is}
 use Rattle.model.proofs.Passed.{Passed, peel, passed}
 
 -- one answer, and states that say the same
-pub record Agree (x : Outcome Image) (y : Outcome Model) : Type 0 where
+pub record Agree (x : Effect Image) (y : Effect Model) : Type 0 where
   pub reply : x .reply ≡ y .reply
   pub state : Rep (x .state) (y .state)
 
@@ -48,15 +48,15 @@ module _ (m : Image) (b : Model) (R : Rep m b) (ok : Sound b) where
   some-held g h = peel (isNil (logAt (b .logs) g .entries)) 6 none h .0
 
   lookup-agrees : (g n : ℕ) (c : List ℕ) → n ≢ 0
-      → _≡_ {A = Reply} (found (receiptBytes (m .key) (lookupAttested m g n c (lookedUp (rowIn m g) (entriesIn m g) n))) (lookedUp (rowIn m g) (entriesIn m g) n .examined)) (lookupReply rules01 b g n c (logAt (b .logs) g) (standing (logAt (b .logs) g) n))
-  unfolding lookupAttested lookupReply modelReceipt foundAs
+      → _≡_ {A = Reply} (found (receiptBytes (m .key) (lookupAttested m g n c (lookedUp (rowIn m g) (entriesIn m g) n))) (lookedUp (rowIn m g) (entriesIn m g) n .examined)) (modelLookup rules01 b g n c (logAt (b .logs) g) (standing (logAt (b .logs) g) n))
+  unfolding lookupAttested modelLookup modelReceipt foundAs
   lookup-agrees g n c n0 =
       let l = logAt (b .logs) g in
       let f : lookedUp (rowIn m g) (entriesIn m g) n ≡ foundAs l (standing l n) (examinedFor l n (standing l n)) = ap (λ (es : List Entry). lookedUp (rowIn m g) es n) (entries-are m b R g) ∙ lookup-is l (ok g) (rowIn m g) (R .rows g .low) (R .rows g .high) n (omega arith) in
       rw (f, R .key, R .keeper)
 
-  end-agrees : (g : ℕ) (c : List ℕ) → isNil (logAt (b .logs) g .entries) ≡ false → _≡_ {A = Reply} (ended (receiptBytes (m .key) (endAttested m g c))) (endReply b g c (logAt (b .logs) g .entries))
-  unfolding endAttested endReply modelReceipt
+  end-agrees : (g : ℕ) (c : List ℕ) → isNil (logAt (b .logs) g .entries) ≡ false → _≡_ {A = Reply} (ended (receiptBytes (m .key) (endAttested m g c))) (modelEnd b g c (logAt (b .logs) g .entries))
+  unfolding endAttested modelEnd modelReceipt
   end-agrees g c held =
       let e : entryOf (slotAt (m .slots) (rowIn m g .last)) ≡ lastEntry (logAt (b .logs) g .entries) = last-is m b R g in
       let p : rowIn m g .high ≡ lastEntry (logAt (b .logs) g .entries) .position = R .rows g .high ∙ sym (ok g .top) in

@@ -1,9 +1,9 @@
 -- Demand 3 on bytes: along every list of calls the table's bytes are those of the image, so what holds of images holds of them.
 use Prim.Native.Nat.{ℕ, _^_, _<_}
-use mathlib.Core.Path.{_≡_, refl, ap, _∙_}
+use mathlib.Core.Path.{_≡_, refl, sym, ap, _∙_}
 use mathlib.Core.List.{List, [], _∷_}
 use mathlib.Core.Bool.{true}
-use lib.ListN.{length}
+use lib.ListN.{length, length-replicate}
 use Rattle.layout.specs.Image.{Image}
 use Rattle.layout.specs.Layout.{readTable, writeTable}
 use Rattle.layout.specs.Fits.{Fits}
@@ -16,6 +16,7 @@ use Rattle.a2m.specs.ImageCalls.{imageStep}
 use Rattle.a2m.specs.TableCalls.{tableStep}
 use Rattle.a2m.proofs.FitsAfter.{step-fits}
 use Rattle.a2m.proofs.Written.{step-written}
+use Rattle.model.specs.Log.{freshLog}
 use Rattle.model.specs.Model.{rules01, Model, newModel, modelStep}
 use Rattle.model.specs.Claim.{ListClaim}
 use Rattle.model.proofs.Represents.{Rep, Sound}
@@ -32,10 +33,10 @@ pub record Stands (m : Image) (b : Model) : Type 0 where
   pub fits : Fits m
   pub counts : Range (length (b .logs)) (b .size)
 
-in-range : (m : Image) (b : Model) → Stands m b → Range (length (m .rows)) (length (m .slots))
+pub in-range : (m : Image) (b : Model) → Stands m b → Range (length (m .rows)) (length (m .slots))
 in-range m b s = rw (s .says .count, s .says .size) (s .counts)
 
-step-stands : (m : Image) (b : Model) → Stands m b → (c : Call) (w : AllWide (c ∷ [])) → Stands (imageStep m c .state) (modelStep rules01 b c .state)
+pub step-stands : (m : Image) (b : Model) → Stands m b → (c : Call) (w : AllWide (c ∷ [])) → Stands (imageStep m c .state) (modelStep rules01 b c .state)
 step-stands m b s c w = record {
   says = step-agrees m b (s .says) (s .sound) c .state;
   sound = step-sound rules01 b (s .sound) c;
@@ -66,7 +67,7 @@ pub table-claim : (G S keeper : ℕ) (key : List ℕ) → keeper < 2 ^ 64 → (m
     → ListClaim G S keeper key cs (replies tableStep (writeTable m) cs) (readTable (after tableStep (writeTable m) cs))
 table-claim G S keeper key k64 m s cs w =
     let W = list-written m (newModel G S keeper key) s cs w in
-    rw (W .answers, W .bytes, read-write (after imageStep m cs) (W .stands .fits)) (image-claim G S keeper key k64 m (s .says) cs w)
+    rw (W .answers, W .bytes, read-write (after imageStep m cs) (W .stands .fits)) (image-claim G S keeper key k64 (rw (sym (s .says .key)) (s .fits .key)) (rw (length-replicate G freshLog) at (s .counts .logs-most)) m (s .says) cs w)
 
 -- and the table is whole all along
 pub table-whole : (m : Image) (b : Model) → Stands m b → (cs : List Call) → AllWide cs → whole (after tableStep (writeTable m) cs) ≡ true

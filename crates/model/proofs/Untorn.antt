@@ -9,7 +9,7 @@ use native.Mathlib.Omega.{arith}
 use lib.ListN.{length}
 use lib.Dec.{eqb, leb, ltb}
 use Rattle.a2m.specs.Call.{Call, append, advance, truncate, lookup, end, refused, replies}
-use Rattle.model.specs.Model.{rules01, Model, logAt, total, isNil, not32, modelRefusal, lookupReply, endReply, modelDone, modelAccept, modelStep}
+use Rattle.model.specs.Model.{rules01, Model, logAt, total, isNil, not32, modelRefusal, modelLookup, modelEnd, modelDone, modelAccept, modelStep}
 use Rattle.model.specs.Claim.{replyAt}
 
 none-not : _≢_ {A = Option ℕ} none (some 1)
@@ -39,7 +39,7 @@ refusal-not b (end g c k) =
     (unless (leb (length (b .logs)) g) 2 _ (λ z. omega arith) (unless (isNil (logAt (b .logs) g .entries)) 6 _ (λ z. omega arith) none-not))
 
 accept-not : (b : Model) (call : Call) → modelAccept rules01 b call .reply ≢ refused 1
-unfolding modelAccept modelDone lookupReply endReply
+unfolding modelAccept modelDone modelLookup modelEnd
 accept-not b (append g x) h = let z : _≡_ {A = ℕ} 0 1 = cc in omega arith
 accept-not b (advance g n d x) h = let z : _≡_ {A = ℕ} 0 1 = cc in omega arith
 accept-not b (truncate g n) h = let z : _≡_ {A = ℕ} 0 1 = cc in omega arith

@@ -7,13 +7,16 @@ use mathlib.Core.Option.{Option, none, some}
 use mathlib.Core.Bool.{cond}
 use lib.ListN.{length, getD, take, getElem?}
 use lib.Dec.{eqb}
+use Rattle.receipt.specs.Answer.{answer}
 use Rattle.receipt.specs.Attestation.{readAttestation}
+use Rattle.receipt.specs.Verdict.{verdict}
 use Rattle.layout.specs.Image.{Image}
 use Rattle.table.specs.WholeImage.{meets}
-use Rattle.a2m.specs.Call.{Call, append, advance, truncate, lookup, end, Reply, refused, done, found, ended, replies, after}
+use Rattle.a2m.specs.Call.{Call, append, advance, truncate, lookup, end, Reply, refused, done, found, ended, replies, after, receiptIn}
 use Rattle.a2m.specs.ImageCalls.{rowIn, entriesIn}
 use Rattle.model.specs.Log.{Log}
 use Rattle.model.specs.Model.{Rules, rules01, Model, newModel, logAt, modelStep}
+use Rattle.model.specs.Question.{questionOf, nonceOf, valuesOf}
 
 -- ---- what a list's answers show
 
@@ -24,13 +27,6 @@ pub record Shows (r : List ℕ) (g n : ℕ) (v d : List ℕ) : Type 0 where
   pub position : readAttestation r .position ≡ n
   pub value : readAttestation r .value ≡ v
   pub digest : readAttestation r .digest ≡ d
-
--- document 01: "a refused call has no receipt"
-abbrev pub receiptIn : Reply → Option (List ℕ)
-receiptIn (refused k) = none
-receiptIn (done l h) = none
-receiptIn (found r k) = some r
-receiptIn (ended r) = some r
 
 abbrev pub replyAt : List Reply → ℕ → Reply
 replyAt rs i = getD rs i (refused 0)
@@ -107,6 +103,11 @@ pub record ListClaim (G S keeper : ℕ) (key : List ℕ) (cs : List Call) (rs : 
   pub unskipped : (i j g p : ℕ) (v d : List ℕ) → SkipsAt rules01 (newModel G S keeper key) cs rs j g p → ShowsAt rs i g p v d → ⊥
   -- "or one forgotten by then"
   pub remembered : (i j g p n : ℕ) (v d : List ℕ) → j < i → ForgetsAt cs rs j g n → p < n → ShowsAt rs i g p v d → ⊥
+  -- "Position 0 is never assigned."
+  pub positive : (i g n : ℕ) (v d : List ℕ) → ShowsAt rs i g n v d → 1 ≤ n
+  -- what a lookup or an end wrote, the verifier accepts under the format's key, for the question that the call was, with what the book says then
+  pub verified : (i : ℕ) (c : Call) (r : List ℕ) → getElem? cs i ≡ some c → receiptIn (replyAt rs i) ≡ some r
+      → verdict key r (nonceOf c) (questionOf keeper c) ≡ answer 0 (valuesOf (after (modelStep rules01) (newModel G S keeper key) (take i cs)) c)
   -- "after the list every slot is free or held by one log, exactly once": "all these chains together meet every slot from 1 to S exactly once"
   pub slots : (s : ℕ) → 1 ≤ s → s ≤ S → times s (meets m) ≡ 1
   -- "After the list, each row's L and H and the entries along its chain are the book's."
@@ -117,4 +118,4 @@ pub record ListClaim (G S keeper : ℕ) (key : List ℕ) (cs : List Call) (rs : 
   -- "1 never occurs."
   pub untorn : (i : ℕ) → replyAt rs i ≢ refused 1
   -- and what a call put is found again: a later lookup shows it assigned with the value put, unless an accepted truncate went past it
-  pub found : (i j g n : ℕ) (x : List ℕ) → Asked cs rs i j g n x → (d : List ℕ) × ShowsAt rs j g n x d
+  pub recalled : (i j g n : ℕ) (x : List ℕ) → Asked cs rs i j g n x → (d : List ℕ) × ShowsAt rs j g n x d

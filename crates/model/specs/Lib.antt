@@ -3,3 +3,5 @@ pub mod Log
 pub mod Marked
 pub mod Model
 pub mod ModelOf
+pub mod Program
+pub mod Question

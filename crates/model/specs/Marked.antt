@@ -1,10 +1,13 @@
 -- Document 01's marked set: the 11 log calls of its script and the lines answered, as one table.
 use Prim.Native.Nat.{ℕ}
 use mathlib.Core.List.{List, [], _∷_}
+use mathlib.Core.Option.{none, some}
 use Rattle.octets.specs.Octets.{zeros}
 use Rattle.bigendian.specs.BigEndian.{unbe, placed}
 use Rattle.receipt.specs.Attestation.{Attestation, readAttestation}
-use Rattle.a2m.specs.Call.{Call, append, advance, truncate, lookup, end, logOf, Reply, refused, done, found, ended, Outcome}
+use Rattle.layout.specs.Layout.{readTable}
+use Rattle.a2m.specs.Call.{Call, append, advance, truncate, lookup, end, logOf, Reply, Effect, numbered, receiptIn}
+use Rattle.a2m.specs.ImageCalls.{rowIn}
 
 -- "kind (U, A, S, F), position, reference, value"; "a dash where there is none"
 pub data Columns : Type 0 where
@@ -57,25 +60,23 @@ marked =
 
 -- ---- what the calls answer
 
-abbrev pub answerOf : Reply → ℕ
-answerOf (refused k) = k
-answerOf (done low high) = 0
-answerOf (found r k) = 0
-answerOf (ended r) = 0
-
 abbrev pub columnsFrom : Attestation → Columns
 columnsFrom a = shown (a .kind) (a .position) (a .reference) (unbe (a .value))
 
 abbrev pub columnsOf : Reply → Columns
-columnsOf (refused k) = dashes
-columnsOf (done low high) = dashes
-columnsOf (found r k) = columnsFrom (readAttestation r)
-columnsOf (ended r) = columnsFrom (readAttestation r)
+columnsOf reply = elim (receiptIn reply) [ none ↦ dashes | some r ↦ columnsFrom (readAttestation r) ]
+
+-- L and H of a log, as a table's bytes say
+abbrev pub lowIn : List ℕ → ℕ → ℕ
+lowIn b g = rowIn (readTable b) g .low
+
+abbrev pub highIn : List ℕ → ℕ → ℕ
+highIn b g = rowIn (readTable b) g .high
 
 -- the lines that the calls give, one after the other, with the low and high that the state after each says of its log
-unfoldable pub answered : {State : Type 0} → (State → Call → Outcome State) → (State → ℕ → ℕ) → (State → ℕ → ℕ) → State → List Line → List Line
+unfoldable pub answered : {State : Type 0} → (State → Call → Effect State) → (State → ℕ → ℕ) → (State → ℕ → ℕ) → State → List Line → List Line
 answered step low high s [] = []
 answered step low high s (l ∷ ls) =
     let o = step s (l .call) in
-    line (l .number) (l .call) (answerOf (o .reply)) (columnsOf (o .reply)) (low (o .state) (logOf (l .call))) (high (o .state) (logOf (l .call))) ∷
+    line (l .number) (l .call) (numbered (o .reply) .number) (columnsOf (o .reply)) (low (o .state) (logOf (l .call))) (high (o .state) (logOf (l .call))) ∷
     answered step low high (o .state) ls

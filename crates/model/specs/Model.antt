@@ -9,7 +9,7 @@ use lib.ListN.{length, getD, set, replicate}
 use lib.Dec.{eqb, leb, ltb}
 use Rattle.layout.specs.Image.{Entry, blankEntry}
 use Rattle.receipt.specs.Attestation.{LOOKUP, END, receiptBytes}
-use Rattle.a2m.specs.Call.{Call, append, advance, truncate, lookup, end, Reply, refused, done, found, ended, Outcome, outcome}
+use Rattle.a2m.specs.Call.{Call, append, advance, truncate, lookup, end, Reply, refused, done, found, ended, Effect, effect}
 use Rattle.a2m.specs.NewEntry.{newEntry}
 use Rattle.model.specs.Log.{Log, freshLog, lastEntry, entered, cutAt, Standing, unassigned, forgotten, assigned, skipped, standing, kindOf, referenceOf, examinedFor}
 
@@ -58,20 +58,22 @@ rules01 = record { gap = λ e. blankEntry; noSlot = λ b g. cond (eqb (total (b 
 abbrev pub not32 : List ℕ → Bool
 not32 x = not (eqb (length x) 32)
 
+abbrev pub noLog : Model → ℕ → Bool
+noLog b g = leb (length (b .logs)) g
+
+-- the number k if the fault is found, otherwise what is left to test
+abbrev pub refuse : ℕ → Bool → Option ℕ → Option ℕ
+refuse k fault rest = cond fault (some k) rest
+
 -- "A call is refused with the first number that fits .. 7 by the lengths, 2 by G, 3 and 4 by the log's L and H, 6 by an empty list, 5 when all lists
 -- together have S entries. 1 never occurs."
 unfoldable pub modelRefusal : Rules → Model → Call → Option ℕ
-modelRefusal ru b (append g x) =
-    cond (not32 x) (some 7) (cond (leb (length (b .logs)) g) (some 2) (cond (eqb (logAt (b .logs) g .high) (2 ^ 64 - 1)) (some 4) (ru .noSlot b g)))
-modelRefusal ru b (advance g n d x) =
-    cond (not32 d || not32 x) (some 7) (cond (leb (length (b .logs)) g) (some 2) (cond (leb n (logAt (b .logs) g .high)) (some 3) (ru .noSlot b g)))
-modelRefusal ru b (truncate g n) =
-    cond (leb (length (b .logs)) g) (some 2) (cond (leb n (logAt (b .logs) g .low) || ltb (logAt (b .logs) g .high) n) (some 3) none)
-modelRefusal ru b (lookup g n c k) =
-    cond (not32 c || not (eqb k 160)) (some 7) (cond (leb (length (b .logs)) g) (some 2) (cond (eqb n 0) (some 3) none))
+modelRefusal ru b (append g x) = refuse 7 (not32 x) (refuse 2 (noLog b g) (refuse 4 (eqb (logAt (b .logs) g .high) (2 ^ 64 - 1)) (ru .noSlot b g)))
+modelRefusal ru b (advance g n d x) = refuse 7 (not32 d || not32 x) (refuse 2 (noLog b g) (refuse 3 (leb n (logAt (b .logs) g .high)) (ru .noSlot b g)))
+modelRefusal ru b (truncate g n) = let l = logAt (b .logs) g in refuse 2 (noLog b g) (refuse 3 (leb n (l .low) || ltb (l .high) n) none)
+modelRefusal ru b (lookup g n c k) = refuse 7 (not32 c || not (eqb k 160)) (refuse 2 (noLog b g) (refuse 3 (eqb n 0) none))
 modelRefusal ru b (end g c k) =
-    cond (not32 c || not (eqb k 160)) (some 7)
-    (cond (leb (length (b .logs)) g) (some 2) (cond (isNil (logAt (b .logs) g .entries)) (ru .emptyEnd) none))
+    refuse 7 (not32 c || not (eqb k 160)) (refuse 2 (noLog b g) (cond (isNil (logAt (b .logs) g .entries)) (ru .emptyEnd) none))
 
 -- ---- receipts
 
@@ -96,30 +98,30 @@ shownFor ru forgotten = blankEntry
 shownFor ru (assigned e) = e
 shownFor ru (skipped e) = ru .gap e
 
-unfoldable pub lookupReply : Rules → Model → ℕ → ℕ → List ℕ → Log → Standing → Reply
-lookupReply ru b g n nonce l s =
+unfoldable pub modelLookup : Rules → Model → ℕ → ℕ → List ℕ → Log → Standing → Reply
+modelLookup ru b g n nonce l s =
     found (modelReceipt b LOOKUP (kindOf s) g n (referenceOf l s) nonce (shownFor ru s)) (examinedFor l n s)
 
 -- "End gives the entry at H", the list's last; an empty list has none
-unfoldable pub endReply : Model → ℕ → List ℕ → List Entry → Reply
-endReply b g nonce es =
+unfoldable pub modelEnd : Model → ℕ → List ℕ → List Entry → Reply
+modelEnd b g nonce es =
     ended (modelReceipt b END (cond (isNil es) 0 1) g (lastEntry es .position) (lastEntry es .position) nonce (lastEntry es))
 
 -- ---- the calls
 
 -- "An accepted append, advance or truncate answers 0 with the log's L and H after it."
-unfoldable pub modelDone : Model → ℕ → Log → Outcome Model
-modelDone b g l = outcome (done (l .low) (l .high)) (withLog b g l)
+unfoldable pub modelDone : Model → ℕ → Log → Effect Model
+modelDone b g l = effect (done (l .low) (l .high)) (withLog b g l)
 
 -- "Lookup and end change nothing"
-unfoldable pub modelAccept : Rules → Model → Call → Outcome Model
+unfoldable pub modelAccept : Rules → Model → Call → Effect Model
 modelAccept ru b (append g x) =
     let l = logAt (b .logs) g in modelDone b g (entered l (newEntry (suc (l .high)) x (lastEntry (l .entries) .digest)))
 modelAccept ru b (advance g n d x) = modelDone b g (entered (logAt (b .logs) g) (newEntry n x d))
 modelAccept ru b (truncate g n) = modelDone b g (cutAt n (logAt (b .logs) g))
-modelAccept ru b (lookup g n c k) = let l = logAt (b .logs) g in outcome (lookupReply ru b g n c l (standing l n)) b
-modelAccept ru b (end g c k) = outcome (endReply b g c (logAt (b .logs) g .entries)) b
+modelAccept ru b (lookup g n c k) = let l = logAt (b .logs) g in effect (modelLookup ru b g n c l (standing l n)) b
+modelAccept ru b (end g c k) = effect (modelEnd b g c (logAt (b .logs) g .entries)) b
 
 -- a refused call: "The book stays as it was."
-unfoldable pub modelStep : Rules → Model → Call → Outcome Model
-modelStep ru b call = elim (modelRefusal ru b call) [ none ↦ modelAccept ru b call | some k ↦ outcome (refused k) b ]
+unfoldable pub modelStep : Rules → Model → Call → Effect Model
+modelStep ru b call = elim (modelRefusal ru b call) [ none ↦ modelAccept ru b call | some k ↦ effect (refused k) b ]

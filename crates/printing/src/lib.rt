@@ -1,4 +1,7 @@
 // What the test programs print with, on standard output: texts, decimal numbers, and bytes in hexadecimal.
+ghost use mathlib.Core.Path.{_≡_};
+ghost use Prim.Native.Nat.{_<_};
+ghost use Rattle.printing.specs.Hex.{hexDigit, hexPair};
 use decimal::put;
 use libc::STDOUT_FILENO;
 
@@ -14,16 +17,25 @@ pub fn number(n: u64) {
 }
 
 // The hexadecimal digit of a number below 16.
-fn digit(n: u8) -> u8 {
-    if n < 10 { 48 + n } else { 87 + n % 16 }
+fn digit(n: u8) -> u8
+    requires { ⌜ n < 16 ⌝ }
+    ensures { λ r. ⌜ r ≡ hexDigit n ⌝ }
+{
+    if n < 10 { 48 + n } else { 87 + n }
+}
+
+// A byte as two hexadecimal digits.
+fn pair(b: u8) -> [u8; 2]
+    ensures { λ r. ⌜ r ≡ hexPair b ⌝ }
+{
+    [digit(b / 16), digit(b % 16)]
 }
 
 // Each byte as two hexadecimal digits.
 pub fn hex(bytes: &[u8]) {
     let mut i = 0;
     while i < bytes.len() {
-        let b = bytes[i];
-        let digits = [digit(b / 16), digit(b % 16)];
+        let digits = pair(bytes[i]);
         text(&digits);
         i += 1;
     }

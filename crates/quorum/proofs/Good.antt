@@ -16,11 +16,11 @@ use Rattle.refusal.specs.declared.Outcome.the-variants.{Done, Refused as Turned
 use Rattle.refusal.proofs.NumberLaws.{outcomeNumber-injective}
 use Rattle.receipt.specs.Answer.{Answer, answer}
 use Rattle.receipt.specs.Attestation.{Attestation, readAttestation}
-use Rattle.receipt.specs.Verdict.{verdict, carried, answers, Genuine}
+use Rattle.receipt.specs.Verdict.{verdict, carried, answers}
 use Rattle.receipt.specs.declared.Question.{Question}
 use Rattle.receipt.proofs.Verifier.{says, complete, sound, passes, carries}
 use Rattle.quorum.specs.Roster.{size, keeperAt, keyAt, distinct}
-use Rattle.quorum.specs.Certificate.{askedOf, goodBy}
+use Rattle.quorum.specs.Certificate.{askedOf, goodBy, GoodBy, GenuineBy}
 use Rattle.quorum.specs.Tally.{member, ifGood, goodMember, codeOf}
 use Rattle.quorum.specs.declared.Found.{Found}
 use Rattle.quorum.specs.declared.Found.the-variants.{At, Nothing}
@@ -66,35 +66,38 @@ module _ (roster nonce : List ℕ) (log position : ℕ) (r : List ℕ) where
     unfolding goodBy
     good-assigned h = simp (eq-eqb (verdictBy i .number) 0 number-is, eq-eqb (readAttestation r .kind) 1 (kind-is ∙ h))
 
-  -- a good receipt is accepted, and assigned
-  pub good-number : (i : ℕ) → goodBy roster nonce log position r i ≡ true → (verdictBy i .number ≡ 0) × (readAttestation r .kind ≡ 1)
+  -- the test and the condition agree
+  pub good-by : (i : ℕ) → goodBy roster nonce log position r i ≡ true ↔ GoodBy roster nonce log position r i
   unfolding goodBy
-  good-number i h =
-      (eqb-true (verdictBy i .number) 0 (and-left (eqb (verdictBy i .number) 0) _ h), eqb-true (readAttestation r .kind) 1 (and-right (eqb (verdictBy i .number) 0) _ h))
+  good-by i = (
+    λ h. record {
+      accepted = eqb-true (verdictBy i .number) 0 (and-left (eqb (verdictBy i .number) 0) _ h);
+      assigned = eqb-true (readAttestation r .kind) 1 (and-right (eqb (verdictBy i .number) 0) _ h);
+    },
+    λ g. and-both (eqb (verdictBy i .number) 0) (eqb (readAttestation r .kind) 1) (eq-eqb (verdictBy i .number) 0 (g .accepted)) (eq-eqb (readAttestation r .kind) 1 (g .assigned)),
+  )
 
   -- it has the member's keeper number
   good-keeper : (i : ℕ) → goodBy roster nonce log position r i ≡ true → readAttestation r .keeper ≡ keeperAt roster i
   good-keeper i h =
       let q : Question = askedOf roster nonce log position i in
-      answers-keeper (readAttestation r) q nonce (passes (keyAt roster i) r nonce q (good-number i h .0) .answers)
+      answers-keeper (readAttestation r) q nonce (passes (keyAt roster i) r nonce q (good-by i .0 h .accepted) .answers)
 
   -- so it is good by one member at most
   pub good-once : distinct roster (size roster) ≡ true → (i j : ℕ) → i < size roster → j < size roster
       → goodBy roster nonce log position r i ≡ true → goodBy roster nonce log position r j ≡ true → i ≡ j
   good-once d i j h k g e = distinct-sound roster (size roster) i j d h k (sym (good-keeper i g) ∙ good-keeper j e)
 
-  -- "the verifier accepts it for a LOOKUP by a roster member and its kind is assigned": the bytes are those of an assigned
-  -- entry under member i's key that answers the question
-  pub good-exactly : Bytes r → (i : ℕ)
-      → goodBy roster nonce log position r i ≡ true ↔ ((a : Attestation) × (Genuine (keyAt roster i) r nonce (askedOf roster nonce log position i) a) × (a .kind ≡ 1))
-  unfolding goodBy
+  -- of bytes: they are those of an assigned entry under member i's key that answers the question
+  pub good-exactly : Bytes r → (i : ℕ) → GoodBy roster nonce log position r i ↔ GenuineBy roster nonce log position r i
   good-exactly b i =
       let key = keyAt roster i in
       let q = askedOf roster nonce log position i in (
-        λ h. (readAttestation r, sound key r nonce q b (good-number i h .0), good-number i h .1),
-        λ g. and-both (eqb (verdictBy i .number) 0) (eqb (readAttestation r .kind) 1)
-            (eq-eqb (verdictBy i .number) 0 (ap (λ (x : Answer). x .number) (complete key r nonce q (g .0) (g .1))))
-            (eq-eqb (readAttestation r .kind) 1 (ap (λ (a : Attestation). a .kind) (says key r nonce q (g .0) (g .1)) ∙ g .2)),
+        λ g. record { entry = readAttestation r; genuine = sound key r nonce q b (g .accepted); assigned = g .assigned },
+        λ g. record {
+          accepted = ap (λ (x : Answer). x .number) (complete key r nonce q (g .entry) (g .genuine));
+          assigned = ap (λ (a : Attestation). a .kind) (says key r nonce q (g .entry) (g .genuine)) ∙ g .assigned;
+        },
       )
 
   -- the member found by the keeper number

@@ -2,7 +2,7 @@
 use mathlib.Core.Path.{_≡_, refl, sym, ap, ap₂, _∙_, subst}
 use mathlib.Core.Logic.{⊎-elim}
 use Prim.Native.Nat.{ℕ, zero, suc, _+_, _-_, _*_, _/_, _%_, _^_, _≤_, _<_}
-use native.Mathlib.Nat.{not-suc-le-zero, pow-suc, zero-mul, one-mul, add-zero, add-suc, mul-assoc, mul-add-div-right, mul-add-mod-self-right}
+use native.Mathlib.Nat.{not-suc-le-zero, pow-suc, zero-mul, one-mul, add-zero, add-suc, mul-assoc, mul-add-div-right, mul-add-mod-self-right, div-lt-iff-lt-mul, div-add-mod', mod-lt, mod-eq-of-lt}
 use native.Mathlib.Omega.{arith}
 use mathlib.Core.Bool.{Bool, true, false, _&&_, _||_, cond}
 use lib.Bits.{bitOr, or-block, or-zero-r}
@@ -11,7 +11,7 @@ use lib.Dec.{eqb}
 use lib.Arith.{digits-div}
 use lib.Pow.{pow-add, pow-pos, pow-lt}
 use borrow.Author.Tests.{eq-eqb, ne-eqb}
-use Rattle.octets.proofs.Tests.{equal-or-not}
+use Rattle.octets.proofs.Tests.{equal-or-not, or-cases}
 use Rattle.quorum.specs.Bits.{countBelow, anyBelow, maskBelow}
 use Rattle.quorum.specs.Tally.{withCode}
 
@@ -154,6 +154,19 @@ mask-bit (suc n) f i h =
     ⊎-elim (λ (e : i ≡ n). ap (λ (k : ℕ). (cond (f n) 1 0 * 2 ^ n + maskBelow n f) / 2 ^ k % 2) e ∙ top-bit (f n) n (maskBelow n f) (mask-lt n f) ∙ ap (λ (k : ℕ). cond (f k) 1 0) (sym e))
     (λ e. low-bit (f n) n i (maskBelow n f) (omega arith) ∙ mask-bit n f i (omega arith)) (equal-or-not i n)
 
+-- a mask is determined by its bits
+pub mask-by-bits : (n : ℕ) (f : ℕ → Bool) (m : ℕ) → m < 2 ^ n → ((i : ℕ) → i < n → m / 2 ^ i % 2 ≡ cond (f i) 1 0) → m ≡ maskBelow n f
+unfolding maskBelow
+mask-by-bits zero f m h k = omega arith
+mask-by-bits (suc n) f m h k =
+    let r : ℕ = m % 2 ^ n in
+    let t : m / 2 ^ n < 2 = div-lt-iff-lt-mul (pow-pos n) .1 (omega (arith, pow-suc 2 n)) in
+    let b : m / 2 ^ n ≡ cond (f n) 1 0 = sym (mod-eq-of-lt t) ∙ k n (omega arith) in
+    let s : m ≡ cond (f n) 1 0 * 2 ^ n + r = sym (div-add-mod' m (2 ^ n)) ∙ ap (λ (x : ℕ). x * 2 ^ n + r) b in
+    let low : (i : ℕ) → i < n → r / 2 ^ i % 2 ≡ cond (f i) 1 0 =
+    λ i l. sym (low-bit (f n) n i r l) ∙ ap (λ (x : ℕ). x / 2 ^ i % 2) (sym s) ∙ k i (omega arith) in
+    s ∙ ap (λ (x : ℕ). cond (f n) 1 0 * 2 ^ n + x) (mask-by-bits n f r (mod-lt m (pow-pos n)) low)
+
 -- whether there is one
 pub any-eq : (n : ℕ) (f g : ℕ → Bool) → ((i : ℕ) → i < n → f i ≡ g i) → anyBelow n f ≡ anyBelow n g
 unfolding anyBelow
@@ -171,3 +184,9 @@ any-at zero f i h e = absurd (not-suc-le-zero h)
 any-at (suc n) f i h e =
     ⊎-elim (λ (z : i ≡ n). ap (λ (b : Bool). b || anyBelow n f) (ap f (sym z) ∙ e))
     (λ z. ap (λ (b : Bool). f n || b) (any-at n f i (omega arith) e) ∙ or-true (f n)) (equal-or-not i n)
+
+pub any-some : (n : ℕ) (f : ℕ → Bool) → anyBelow n f ≡ true → (i : ℕ) × (i < n) × (f i ≡ true)
+unfolding anyBelow
+any-some zero f h = let z : _≡_ {A = ℕ} 0 1 = cc in absurd (omega arith)
+any-some (suc n) f h =
+    ⊎-elim (λ (e : f n ≡ true). (n, omega arith, e)) (λ e. let r = any-some n f e in (r .0, omega (arith, r .1), r .2)) (or-cases (f n) (anyBelow n f) h)

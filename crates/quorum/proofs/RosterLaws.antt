@@ -171,9 +171,6 @@ module _ (roster : List ℕ) where
   pub roster-most : isRoster roster ≡ true → size roster ≤ 31
   roster-most h = seen h .most
 
-  pub roster-odd : isRoster roster ≡ true → size roster % 2 ≡ 1
-  roster-odd h = seen h .odd
-
   pub roster-distinct : isRoster roster ≡ true → distinct roster (size roster) ≡ true
   roster-distinct h = seen h .distinct
 

@@ -1,6 +1,6 @@
 -- The tally: one place more, one bit more, one place tried; and that what the program finds by codes is the definition.
 use mathlib.Core.Path.{_≡_, refl, sym, ap, ap₂, _∙_, subst}
-use mathlib.Core.Logic.{⊎-elim}
+use mathlib.Core.Logic.{⊎-elim, _↔_}
 use Prim.Native.Nat.{ℕ, zero, suc, _+_, _-_, _/_, _%_, _^_, _≤_, _<_}
 use native.Mathlib.Nat.{zero-mul}
 use native.Mathlib.Omega.{arith}
@@ -11,15 +11,15 @@ use lib.Count.{ones}
 use lib.Dec.{eqb, leb}
 use lib.ListN.{length, getD, replicate, length-set}
 use lib.Seq.{getD-set-same, getD-set-other}
-use borrow.Author.Tests.{eq-eqb, ne-eqb, le-leb, lt-leb}
+use borrow.Author.Tests.{eq-eqb, ne-eqb, le-leb, lt-leb, eqb-true, leb-true}
 use Rattle.octets.specs.Octets.{same}
-use Rattle.octets.proofs.Tests.{equal-or-not}
+use Rattle.octets.proofs.Tests.{equal-or-not, and-left, and-right, and-both}
 use Rattle.refusal.specs.Order.{firstFault}
 use Rattle.receipt.specs.Answer.{Answer, answer, answerWith}
 use Rattle.receipt.specs.Attestation.{receiptSize}
 use Rattle.quorum.specs.Bits.{anyBelow, maskBelow}
 use Rattle.quorum.specs.Roster.{size, isRoster, distinct, majority}
-use Rattle.quorum.specs.Certificate.{receiptCount, isCertificate, receiptAt, pairAt, isNone, goodBy, showsIn, shows, certified, goodAt, firstOf, firstPlace, named, certificateRefusal, certificate}
+use Rattle.quorum.specs.Certificate.{receiptCount, isCertificate, receiptAt, pairAt, isNone, goodBy, showsIn, shows, certified, goodAt, firstOf, firstPlace, named, certificateRefusal, certificate, IsCertificate}
 use Rattle.quorum.specs.Tally.{goodMember, codeOf, noted, Codes, Bounded, withCode, codeShown, maskAt, triedAt, orElse, firstIn}
 use Rattle.quorum.specs.declared.Found.{Found}
 use Rattle.quorum.specs.declared.Found.the-variants.{At, Nothing}
@@ -241,6 +241,18 @@ module _ (roster nonce : List ℕ) (log position : ℕ) (cert : List ℕ) where
           first-is roster nonce log position cert t (roster-distinct roster r) (omega (arith, roster-most roster r)) c (majority (size roster)) (receiptCount cert) 0 (omega arith)
           ∙ by-first h
 
+-- the test of a certificate's length, and the conditions
+module _ (cert : List ℕ) where
   pub is-certificate : length cert % receiptSize ≡ 0 → length cert / receiptSize ≤ 32 → isCertificate cert ≡ true
   unfolding isCertificate receiptCount
   is-certificate w h = simp (eq-eqb (length cert % receiptSize) 0 w, le-leb (length cert / receiptSize) 32 h)
+
+  pub receipts-exactly : isCertificate cert ≡ true ↔ IsCertificate cert
+  unfolding isCertificate
+  receipts-exactly = (
+    λ h. record {
+      whole = eqb-true (length cert % receiptSize) 0 (and-left (eqb (length cert % receiptSize) 0) (leb (receiptCount cert) 32) h);
+      most = leb-true (receiptCount cert) 32 (and-right (eqb (length cert % receiptSize) 0) (leb (receiptCount cert) 32) h);
+    },
+    λ c. and-both (eqb (length cert % receiptSize) 0) (leb (receiptCount cert) 32) (eq-eqb (length cert % receiptSize) 0 (c .whole)) (le-leb (receiptCount cert) 32 (c .most)),
+  )

@@ -1,29 +1,30 @@
 -- Document 01, "Certificates": good receipts, the members whose good receipts show a pair, and the verdict.
-use Prim.Native.Nat.{ℕ, zero, suc, _+_, _*_, _/_, _%_, _^_, _<_}
+use Prim.Native.Nat.{ℕ, zero, suc, _*_, _/_, _%_, _^_, _≤_, _<_}
 use mathlib.Core.Path.{_≡_}
 use mathlib.Core.Logic.{_↔_}
 use mathlib.Core.Bool.{Bool, true, false, not, _&&_, _||_, cond}
 use mathlib.Core.List.{List, [], _∷_}
 use mathlib.Core.Option.{Option, none, some}
 use lib.ListN.{length}
+use lib.Count.{ones}
 use lib.Dec.{eqb, leb}
 use Rattle.octets.specs.Octets.{part, same}
 use Rattle.refusal.specs.Number.{numberOf}
 use Rattle.refusal.specs.Order.{fault, firstFault}
 use Rattle.receipt.specs.Answer.{Answer, answer, answerWith}
-use Rattle.receipt.specs.Attestation.{receiptSize, readAttestation, pairIn}
-use Rattle.receipt.specs.Verdict.{verdict}
+use Rattle.receipt.specs.Attestation.{receiptSize, Attestation, readAttestation, pairIn}
+use Rattle.receipt.specs.Verdict.{verdict, Genuine}
 use Rattle.receipt.specs.declared.Ask.the-variants.{Lookup}
 use Rattle.receipt.specs.declared.Question.{Question}
 use Rattle.quorum.specs.Bits.{countBelow, anyBelow, maskBelow}
-use Rattle.quorum.specs.Roster.{size, keeperAt, keyAt, isRoster, majority}
+use Rattle.quorum.specs.Roster.{size, keeperAt, keyAt, isRoster, IsRoster, majority}
 use Rattle.quorum.specs.declared.Station.{Station}
-use Rattle.quorum.specs.declared.Station.the-variants.{Certified, Refused}
+use Rattle.quorum.specs.declared.Station.the-variants as variants
 
 -- number and values of each verdict: one that stands carries "the first good receipt" and "the members"
 abbrev pub stationAnswer : Station → Answer
-stationAnswer (Certified place mask) = answer 0 (place ∷ mask ∷ [])
-stationAnswer (Refused why) = answer (numberOf why) []
+stationAnswer (variants.Certified place mask) = answer 0 (place ∷ mask ∷ [])
+stationAnswer (variants.Refused why) = answer (numberOf why) []
 
 -- the number of receipts in a certificate
 unfoldable pub receiptCount : List ℕ → ℕ
@@ -100,30 +101,69 @@ module _ (roster nonce : List ℕ) (log position : ℕ) where
     unfoldable pub certificate : Answer
     certificate = answerWith certificateRefusal (named firstPlace)
 
+-- ---- the same as conditions; proofs/Certificates shows that they agree
+
+-- "A certificate is 0 to 32 receipts on end"
+pub record IsCertificate (cert : List ℕ) : Type 0 where
+  pub whole : length cert % receiptSize ≡ 0
+  pub most : receiptCount cert ≤ 32
+
 -- what is asked before the receipts are looked at
 pub record Admitted (r n c : List ℕ) : Type 0 where
   pub nonce : length n ≡ 32
-  pub roster : isRoster r ≡ true
-  pub receipts : isCertificate c ≡ true
+  pub roster : IsRoster r
+  pub receipts : IsCertificate c
 
--- member i has a good receipt that shows the pair v: at place q
-pub record Shows (roster nonce : List ℕ) (log position : ℕ) (cert v : List ℕ) (i q : ℕ) : Type 0 where
-  pub place : q < receiptCount cert
-  pub good : goodBy roster nonce log position (receiptAt cert q) i ≡ true
-  pub pair : pairAt cert q ≡ v
+module _ (roster nonce : List ℕ) (log position : ℕ) where
+  -- "A receipt is good if the verifier accepts it for a LOOKUP by a roster member and its kind is assigned": by member i
+  pub record GoodBy (r : List ℕ) (i : ℕ) : Type 0 where
+    pub accepted : verdict (keyAt roster i) r nonce (askedOf roster nonce log position i) .number ≡ 0
+    pub assigned : readAttestation r .kind ≡ 1
 
--- "The verdict names the first good receipt in order whose pair is certified, and the members whose good receipts show that
--- pair": bit i of the mask for roster item i, and no bit beyond the roster
-pub record Named (roster nonce : List ℕ) (log position : ℕ) (cert : List ℕ) (place mask : ℕ) : Type 0 where
-  pub within : place < receiptCount cert
-  pub good : goodAt roster nonce log position cert place ≡ true
-  pub enough : certified roster nonce log position cert (majority (size roster)) (pairAt cert place) ≡ true
-  pub first : (q : ℕ) → q < place → goodAt roster nonce log position cert q && certified roster nonce log position cert (majority (size roster)) (pairAt cert q) ≡ false
-  pub members : (i : ℕ) → i < size roster → mask / 2 ^ i % 2 ≡ 1 ↔ ((q : ℕ) × Shows roster nonce log position cert (pairAt cert place) i q)
-  pub none-else : mask < 2 ^ size roster
+  -- the same of bytes: they are those of an assigned entry under member i's key that answers the question
+  pub record GenuineBy (r : List ℕ) (i : ℕ) : Type 0 where
+    pub entry : Attestation
+    pub genuine : Genuine (keyAt roster i) r nonce (askedOf roster nonce log position i) entry
+    pub assigned : entry .kind ≡ 1
 
--- "no member has good receipts with different pairs"
-abbrev pub Consistent : List ℕ → List ℕ → ℕ → ℕ → List ℕ → Type 0
-Consistent roster nonce log position cert =
-    (i q r : ℕ) → i < size roster → q < receiptCount cert → r < receiptCount cert
-    → goodBy roster nonce log position (receiptAt cert q) i ≡ true → goodBy roster nonce log position (receiptAt cert r) i ≡ true → pairAt cert q ≡ pairAt cert r
+-- `Good r i` says that the receipt r is good by member i
+module _ (roster cert : List ℕ) (Good : List ℕ → ℕ → Type 0) where
+  -- a member has a good receipt at place p
+  abbrev pub GoodAt : ℕ → Type 0
+  GoodAt p = (i : ℕ) × (i < size roster) × Good (receiptAt cert p) i
+
+  -- member i has a good receipt that shows the pair v: at place q
+  pub record Shows (v : List ℕ) (i q : ℕ) : Type 0 where
+    pub place : q < receiptCount cert
+    pub good : Good (receiptAt cert q) i
+    pub pair : pairAt cert q ≡ v
+
+  -- the mask holds "the members whose good receipts show that pair": bit i for roster item i, and no bit beyond the roster
+  pub record Members (v : List ℕ) (mask : ℕ) : Type 0 where
+    pub bits : (i : ℕ) → i < size roster → mask / 2 ^ i % 2 ≡ 1 ↔ ((q : ℕ) × Shows v i q)
+    pub none-else : mask < 2 ^ size roster
+
+  -- "A value and digest are certified when (N + 1)/2 distinct members have good receipts showing both": k members are needed
+  abbrev pub Certified : ℕ → List ℕ → Type 0
+  Certified k v = (mask : ℕ) × (Members v mask) × (k ≤ ones mask)
+
+  -- "The verdict names the first good receipt in order whose pair is certified, and the members whose good receipts show that
+  -- pair"
+  pub record Named (place mask : ℕ) : Type 0 where
+    pub within : place < receiptCount cert
+    pub good : GoodAt place
+    pub members : Members (pairAt cert place) mask
+    pub enough : majority (size roster) ≤ ones mask
+    pub first : (q : ℕ) → q < place → GoodAt q → Certified (majority (size roster)) (pairAt cert q) → ⊥
+
+  -- "no member has good receipts with different pairs"
+  abbrev pub Consistent : Type 0
+  Consistent =
+      (i q r : ℕ) → i < size roster → q < receiptCount cert → r < receiptCount cert
+      → Good (receiptAt cert q) i → Good (receiptAt cert r) i → pairAt cert q ≡ pairAt cert r
+
+-- the answer is 0 with a place and a mask exactly when nonce, roster and receipts are as they must be, and those are named
+abbrev pub NamesExactly : List ℕ → List ℕ → ℕ → ℕ → List ℕ → Answer → Type 0
+NamesExactly roster nonce log position cert given =
+    (place mask : ℕ) → given ≡ answer 0 (place ∷ mask ∷ [])
+    ↔ ((Admitted roster nonce cert) × (Named roster cert (GenuineBy roster nonce log position) place mask))

@@ -5,7 +5,7 @@ mod places;
 mod receipts;
 
 ghost use mathlib.Core.Path.{_≡_};
-ghost use Rattle.quorum.specs.Certificate.{certificate, stationAnswer};
+ghost use Rattle.quorum.specs.Certificate.{certificate, stationAnswer, NamesExactly};
 use counting::tally_of;
 use members::is_roster;
 use members::majority;
@@ -40,7 +40,8 @@ pub enum Tried {
 // The verdict on a certificate. Refused with 7: a nonce of another length than 32; 12: no roster; 9: not 0 to 32 whole
 // receipts; 13: no pair is certified.
 pub fn certify(roster: &[u8], nonce: &[u8], log: u64, position: u64, cert: &[u8]) -> Station
-    ensures { λ r. ⌜ stationAnswer r ≡ certificate (now (roster .entry)) (now (nonce .entry)) log position (now (cert .entry)) ⌝ }
+    ensures answer { λ r. ⌜ stationAnswer r ≡ certificate (now (roster .entry)) (now (nonce .entry)) log position (now (cert .entry)) ⌝ }
+    ensures exactly { λ r. ⌜ NamesExactly (now (roster .entry)) (now (nonce .entry)) log position (now (cert .entry)) (stationAnswer r) ⌝ }
 {
     if nonce.len() != 32 {
         return Station::Refused(Refusal::Length);

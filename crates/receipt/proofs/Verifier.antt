@@ -1,6 +1,5 @@
 -- The verifier accepts exactly the bytes of a possible entry under the key that answers the question.
-use mathlib.Core.Path.{_≡_, refl, sym, ap, ap₂, _∙_}
-use mathlib.Core.Logic.{_↔_}
+use mathlib.Core.Path.{_≡_, refl, sym, ap, ap₂, _∙_, subst}
 use Prim.Native.Nat.{ℕ}
 use native.Mathlib.Omega.{arith}
 use mathlib.Core.Bool.{true, not, _&&_}
@@ -18,7 +17,7 @@ use Rattle.octets.proofs.Parts.{part-second, part-add}
 use Rattle.receipt.specs.Answer.{Answer, answer}
 use Rattle.receipt.specs.Attestation.{Attestation, attestedBytes, receiptBytes, readAttestation}
 use Rattle.receipt.specs.Possible.{possible}
-use Rattle.receipt.specs.Verdict.{carried, answers, asks, isTagged, verifyRefusal, verdict, Genuine}
+use Rattle.receipt.specs.Verdict.{carried, answers, asks, isTagged, verifyRefusal, verdict, Genuine, AcceptsExactly}
 use Rattle.receipt.specs.declared.Question.{Question}
 use Rattle.receipt.proofs.AnswerLaws.{no-fault}
 use Rattle.receipt.proofs.Cases.{by-ask, accepts}
@@ -123,11 +122,15 @@ module _ (key r nonce : List ℕ) (q : Question) where
   pub sound : Bytes r → verdict key r nonce q .number ≡ 0 → Genuine key r nonce q (readAttestation r)
   sound b e = let p = passes e in genuine b (p .key) (p .size) (p .possible) (p .tagged) (p .answers)
 
-  -- the verifier's theorem: the bytes are accepted, with the values vs, exactly when they are those of a possible entry under
-  -- the key that answers the question, and vs are its keeper, log, position, kind and reference
-  pub accepted-exactly : Bytes r → (vs : List ℕ) → verdict key r nonce q ≡ answer 0 vs ↔ ((a : Attestation) × (Genuine key r nonce q a) × (carried a ≡ vs))
+  -- the verifier's theorem, of a list of bytes
+  pub accepted-exactly : Bytes r → AcceptsExactly key r nonce q (verdict key r nonce q)
   accepted-exactly b vs = (
     λ e. let n : verdict key r nonce q .number ≡ 0 = ap (λ (x : Answer). x .number) e in
         (readAttestation r, sound b n, ap (λ (x : Answer). x .values) (sym (carries n) ∙ e)),
     λ g. complete (g .0) (g .1) ∙ ap (answer 0) (g .2),
   )
+
+-- an answer that is the verdict on a list of bytes accepts exactly
+pub verdict-exactly : {key r nonce : List ℕ} {q : Question} {given : Answer} → Bytes r → given ≡ verdict key r nonce q
+    → (given ≡ verdict key r nonce q) × AcceptsExactly key r nonce q given
+verdict-exactly {key} {r} {nonce} {q} {given} b e = (e, subst (AcceptsExactly key r nonce q) (sym e) (accepted-exactly key r nonce q b))

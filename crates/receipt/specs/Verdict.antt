@@ -1,6 +1,7 @@
 -- The verifier's verdict on a receipt.
 use Prim.Native.Nat.{ℕ}
 use mathlib.Core.Path.{_≡_}
+use mathlib.Core.Logic.{_↔_}
 use mathlib.Core.Bool.{Bool, not, _&&_}
 use mathlib.Core.List.{List, [], _∷_}
 use mathlib.Core.Option.{Option}
@@ -32,6 +33,13 @@ carried a = a .keeper ∷ a .log ∷ a .position ∷ a .kind ∷ a .reference �
 unfoldable pub asks : Ask → Attestation → Bool
 asks (Lookup n) a = same (a .name) LOOKUP && eqb (a .position) n
 asks End a = same (a .name) END
+
+-- the two questions; their nonce stands beside them
+abbrev pub lookupOf : ℕ → ℕ → ℕ → Question
+lookupOf keeper log position = record { keeper = keeper; log = log; ask = Lookup position }
+
+abbrev pub endOf : ℕ → ℕ → Question
+endOf keeper log = record { keeper = keeper; log = log; ask = End }
 
 -- "A question names keeper, log, LOOKUP or END, nonce, and for LOOKUP the position"
 unfoldable pub answers : Attestation → Question → List ℕ → Bool
@@ -71,3 +79,9 @@ pub record Genuine (k r b : List ℕ) (q : Question) (a : Attestation) : Type 0 
   pub log : a .log ≡ q .log
   pub nonce : a .nonce ≡ b
   pub ask : Asks (q .ask) a
+
+-- demand 2: the answer is 0 with the values vs exactly when r are the bytes of a possible entry under the key that answers the
+-- question, and vs are its keeper, log, position, kind and reference
+abbrev pub AcceptsExactly : List ℕ → List ℕ → List ℕ → Question → Answer → Type 0
+AcceptsExactly key r nonce q given =
+    (vs : List ℕ) → given ≡ answer 0 vs ↔ ((a : Attestation) × (Genuine key r nonce q a) × (carried a ≡ vs))

@@ -6,7 +6,7 @@ ghost use mathlib.Core.Path.{_≡_};
 ghost use lib.ListN.{length};
 ghost use Rattle.receipt.specs.Answer.{answer};
 ghost use Rattle.receipt.specs.Attestation.{receiptSize, readAttestation};
-ghost use Rattle.receipt.specs.Verdict.{carried, isTagged, verdict, verdictAnswer};
+ghost use Rattle.receipt.specs.Verdict.{carried, isTagged, verdict, verdictAnswer, AcceptsExactly};
 use crate::answers::is_answer;
 use crate::possible::is_possible;
 use octets::equal;
@@ -52,7 +52,8 @@ fn accepted(r: &[u8]) -> Verdict
 // The verdict on a receipt. Refused with 7: key or nonce of another length than 32; 9: not 160 bytes, or no possible entry;
 // 10: the tag is wrong; 11: the question differs.
 pub fn verify(key: &[u8], receipt: &[u8], nonce: &[u8], q: Question) -> Verdict
-    ensures { λ v. ⌜ verdictAnswer v ≡ verdict (now (key .entry)) (now (receipt .entry)) (now (nonce .entry)) q ⌝ }
+    ensures answer { λ v. ⌜ verdictAnswer v ≡ verdict (now (key .entry)) (now (receipt .entry)) (now (nonce .entry)) q ⌝ }
+    ensures exactly { λ v. ⌜ AcceptsExactly (now (key .entry)) (now (receipt .entry)) (now (nonce .entry)) q (verdictAnswer v) ⌝ }
 {
     if key.len() != 32 {
         return Verdict::Refused(Refusal::Length);

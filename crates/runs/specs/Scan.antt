@@ -1,4 +1,4 @@
--- The one forward pass over both runs: what it keeps, and what it concludes.
+-- The program's own: the one forward pass over both runs, what it keeps and what it concludes. The product's contract cites `Call` and `Compare`.
 use Prim.Native.Nat.{ℕ, _+_, _-_, _*_, _^_, _≤_}
 use mathlib.Core.Bool.{Bool, true, false, cond}
 use mathlib.Core.Option.{Option, none, some}

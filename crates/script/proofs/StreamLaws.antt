@@ -1,14 +1,17 @@
 -- Laws of a script that comes in pieces.
 use Prim.Native.Nat.{ℕ, suc, _+_, _-_, _≤_, _<_, min}
 use mathlib.Core.Path.{_≡_, refl, sym, ap, ap₂, _∙_}
+use mathlib.Core.Logic.{_≢_}
 use mathlib.Core.Bool.{Bool, true, false, cond}
 use mathlib.Core.List.{List, [], _∷_, _++_, append-assoc, append-nil}
 use native.Mathlib.Omega.{arith}
 use native.Mathlib.Decide.{decLe}
 use native.Mathlib.Nat.{add-zero, zero-add}
-use lib.ListN.{length, take, drop, length-append, length-take, length-drop}
-use lib.Seq.{take-all, take-append-le, take-append-add, take-add, take-take, length-take-le, drop-drop}
+use lib.ListN.{length, take, drop, getD, length-append, length-take, length-drop}
+use lib.Seq.{take-all, take-append-le, take-append-add, take-add, take-take, length-take-le, drop-cons}
 use lib.Dec.{eqb}
+use borrow.Author.Tests.{eq-eqb, ne-eqb}
+use native.Mathlib.Numerals.{add-one}
 use Rattle.octets.specs.Octets.{splice}
 use Rattle.octets.proofs.Parts.{part-splice-same}
 use Rattle.line.specs.Fields.{upTo}
@@ -69,6 +72,15 @@ newlines-append (x ∷ a) b = go (eqb x 10) (newlines-append a b)
     go : (t : Bool) → newlines (a ++ b) ≡ newlines a + newlines b → cond t (suc (newlines (a ++ b))) (newlines (a ++ b)) ≡ cond t (suc (newlines a)) (newlines a) + newlines b
     go true p = omega arith
     go false p = p
+
+pub newlines-most : (l : List ℕ) → newlines l ≤ length l
+unfolding newlines
+newlines-most [] = omega arith
+newlines-most (x ∷ l) = go (eqb x 10) (newlines-most l)
+  where
+    go : (t : Bool) → newlines l ≤ length l → cond t (suc (newlines l)) (newlines l) ≤ suc (length l)
+    go true p = omega arith
+    go false p = omega arith
 
 pub answered-append : (T h : List ℕ) (n : ℕ) (a b : List ℕ) → answered T h n (a ++ b) ≡ answered T h n a ++ answered (tableRead T h a) (heldAfter h a) (n + newlines a) b
 unfolding answered heldAfter newlines tableRead
@@ -171,6 +183,24 @@ pub table-newline : (T h : List ℕ) → tableRead T h (10 ∷ []) ≡ tableAfte
 unfolding tableRead
 table-newline T h = refl
 
+-- counted from a place on
+pub newlines-one : (l : List ℕ) (i : ℕ) → i < length l → getD l i 0 ≡ 10 → newlines (drop i l) ≡ suc (newlines (drop (i + 1) l))
+unfolding newlines
+newlines-one l i h e =
+    ap newlines (drop-cons l i 0 h)
+    ∙ ap (λ (b : Bool). cond b (suc (newlines (drop (suc i) l))) (newlines (drop (suc i) l))) (eq-eqb (getD l i 0) 10 e)
+    ∙ ap (λ (k : ℕ). suc (newlines (drop k l))) (sym (add-one i))
+
+pub newlines-none : (l : List ℕ) (i : ℕ) → i < length l → getD l i 0 ≢ 10 → newlines (drop i l) ≡ newlines (drop (i + 1) l)
+unfolding newlines
+newlines-none l i h e =
+    ap newlines (drop-cons l i 0 h)
+    ∙ ap (λ (b : Bool). cond b (suc (newlines (drop (suc i) l))) (newlines (drop (suc i) l))) (ne-eqb (getD l i 0) 10 e)
+    ∙ ap (λ (k : ℕ). newlines (drop k l)) (sym (add-one i))
+
+pub newlines-end : (l : List ℕ) (i : ℕ) → i ≡ length l → newlines (drop i l) ≡ 0
+newlines-end l i e = let z : length (drop i l) ≡ 0 = omega (arith, length-drop i l) in omega (arith, newlines-most (drop i l))
+
 -- the table at a buffer's start
 pub table-at : (l x : List ℕ) (n : ℕ) → n ≡ length x → n ≤ length l → take n (splice l 0 x) ≡ x
 table-at l x n e h = ap (λ (k : ℕ). take k (splice l 0 x)) e ∙ part-splice-same l x 0 (omega (arith, zero-add (length x)))
@@ -199,22 +229,20 @@ answer-length T n l = line-length (cellsOf n (commandAnswer T (commandOf l))) (c
 
 -- ---- a line more is read
 
--- the bytes read from a on, to place at and then to the end of the line
-module _ (buf : List ℕ) (a at e : ℕ) (h : a ≤ at) (ends : e ≡ at + length (upTo 10 (drop at buf))) where
-  read-on : (m : ℕ) → take (at - a + m) (drop a buf) ≡ take (at - a) (drop a buf) ++ take m (drop at buf)
-  read-on m =
-      let q : a + (at - a) ≡ at = omega arith in
-      take-add (at - a) m (drop a buf) ∙ ap (λ (l : List ℕ). take (at - a) (drop a buf) ++ take m l) (drop-drop (at - a) a buf ∙ ap (λ (k : ℕ). drop k buf) q)
-
-  pub read-part : take (e - a) (drop a buf) ≡ take (at - a) (drop a buf) ++ upTo 10 (drop at buf)
+-- the bytes read up to place at, and then to the end of the line
+module _ (text : List ℕ) (at e : ℕ) (ends : e ≡ at + length (upTo 10 (drop at text))) where
+  pub read-part : take e text ≡ take at text ++ upTo 10 (drop at text)
   read-part =
-      let q : e - a ≡ at - a + length (upTo 10 (drop at buf)) = omega arith in
-      ap (λ (k : ℕ). take k (drop a buf)) q ∙ read-on (length (upTo 10 (drop at buf))) ∙ ap (λ (l : List ℕ). take (at - a) (drop a buf) ++ l) (take-first 10 (drop at buf))
+      ap (λ (k : ℕ). take k text) ends
+      ∙ take-add at (length (upTo 10 (drop at text))) text
+      ∙ ap (λ (l : List ℕ). take at text ++ l) (take-first 10 (drop at text))
 
-  pub read-line : e < length buf → take (e + 1 - a) (drop a buf) ≡ take (at - a) (drop a buf) ++ (upTo 10 (drop at buf) ++ (10 ∷ []))
+  pub read-line : e < length text → take (e + 1) text ≡ take at text ++ (upTo 10 (drop at text) ++ (10 ∷ []))
   read-line k =
-      let q : e + 1 - a ≡ at - a + (length (upTo 10 (drop at buf)) + 1) = omega arith in
-      ap (λ (k : ℕ). take k (drop a buf)) q ∙ read-on (length (upTo 10 (drop at buf)) + 1) ∙ ap (λ (l : List ℕ). take (at - a) (drop a buf) ++ l) (take-marked 10 (drop at buf) (omega (arith, length-drop at buf)))
+      let q : e + 1 ≡ at + (length (upTo 10 (drop at text)) + 1) = omega arith in
+      ap (λ (k : ℕ). take k text) q
+      ∙ take-add at (length (upTo 10 (drop at text)) + 1) text
+      ∙ ap (λ (l : List ℕ). take at text ++ l) (take-marked 10 (drop at text) (omega (arith, length-drop at text)))
 
 -- H is held after c and T the table, and x is the line that the next bytes end
 module _ (T₀ T H₀ H c l x : List ℕ) (n : ℕ) (held : H ≡ heldAfter H₀ c) (table : T ≡ tableRead T₀ H₀ c) (small : length H ≤ 201) (line : x ≡ cut (H ++ upTo 10 l)) where

@@ -9,8 +9,8 @@ use lib.Dec.{eqb}
 use Rattle.line.specs.Fields.{onFirst, partsOf, upTo}
 use Rattle.line.proofs.FieldLaws.{parts-cons}
 use Rattle.script.specs.Script.{answerText, tableAfter}
-use Rattle.script.specs.Stream.{lastLine, endedLines, linesOf, answersOf, cut, heldAfter, newlines, answered, tableRead, lastAnswer}
-use Rattle.script.proofs.StreamLaws.{cut-cut, answer-cut, table-cut}
+use Rattle.script.specs.Stream.{lastLine, endedLines, linesOf, answersOf, cut, heldAfter, newlines, answered, tableRead, lastAnswer, joined, inPieces}
+use Rattle.script.proofs.StreamLaws.{cut-cut, answer-cut, table-cut, held-append, newlines-append, answered-append, table-append}
 
 -- the parts, with bytes before the first
 abbrev after : List ℕ → List (List ℕ) → List (List ℕ)
@@ -76,3 +76,32 @@ from T g h n (x ∷ t) e = go (eqb x 10) (λ U. from U [] [] (suc n) t refl) (fr
 -- a script in full: what is answered on the way, and at its end
 pub whole-script : (T t : List ℕ) → answered T [] 1 t ++ lastAnswer (tableRead T [] t) (heldAfter [] t) (1 + newlines t) ≡ answersOf T 1 (linesOf t)
 whole-script T t = from T [] [] 1 t refl ∙ ap (λ (l : List (List ℕ)). answersOf T 1 (endedLines l)) (after-nil t)
+
+-- ---- in any pieces
+
+rest-none : (T h : List ℕ) (n : ℕ) → lastAnswer T h n ≡ answered T h n [] ++ lastAnswer (tableRead T h []) (heldAfter h []) (n + newlines [])
+unfolding answered heldAfter newlines tableRead
+rest-none T h n = ap (lastAnswer T h) (sym (add-zero n))
+
+rest-more : (T h : List ℕ) (n : ℕ) (x y z : List ℕ)
+    → z ≡ answered (tableRead T h x) (heldAfter h x) (n + newlines x) y ++ lastAnswer (tableRead (tableRead T h x) (heldAfter h x) y) (heldAfter (heldAfter h x) y) (n + newlines x + newlines y)
+    → answered T h n x ++ z ≡ answered T h n (x ++ y) ++ lastAnswer (tableRead T h (x ++ y)) (heldAfter h (x ++ y)) (n + newlines (x ++ y))
+rest-more T h n x y z e =
+    let U : List ℕ = tableRead T h x in
+    let H : List ℕ = heldAfter h x in
+    let m : ℕ = n + newlines x in
+    let k : m + newlines y ≡ n + newlines (x ++ y) = omega (arith, newlines-append x y) in
+    ap (λ (w : List ℕ). answered T h n x ++ w) e
+    ∙ sym (append-assoc (answered T h n x) (answered U H m y) (lastAnswer (tableRead U H y) (heldAfter H y) (m + newlines y)))
+    ∙ ap₂ (λ (a w : List ℕ). a ++ lastAnswer w (heldAfter H y) (m + newlines y)) (sym (answered-append T h n x y)) (sym (table-append T h x y))
+    ∙ ap₂ (λ (w : List ℕ) (j : ℕ). answered T h n (x ++ y) ++ lastAnswer (tableRead T h (x ++ y)) w j) (sym (held-append h x y)) k
+
+with-rest : (T h : List ℕ) (n : ℕ) (xs : List (List ℕ))
+    → inPieces T h n xs ≡ answered T h n (joined xs) ++ lastAnswer (tableRead T h (joined xs)) (heldAfter h (joined xs)) (n + newlines (joined xs))
+unfolding inPieces joined
+with-rest T h n [] = rest-none T h n
+with-rest T h n (x ∷ xs) = rest-more T h n x (joined xs) (inPieces (tableRead T h x) (heldAfter h x) (n + newlines x) xs) (with-rest (tableRead T h x) (heldAfter h x) (n + newlines x) xs)
+
+-- the answers to the pieces of a script, and to its last line, are those to the whole
+pub pieces-script : (T : List ℕ) (xs : List (List ℕ)) → inPieces T [] 1 xs ≡ answersOf T 1 (linesOf (joined xs))
+pieces-script T xs = with-rest T [] 1 xs ∙ whole-script T (joined xs)

@@ -2,13 +2,14 @@
 use Prim.Native.Nat.{ℕ}
 use mathlib.Core.Bool.{cond, _||_}
 use mathlib.Core.List.{List}
+use mathlib.Core.Option.{none, some}
 use lib.Dec.{eqb}
 use Rattle.octets.specs.Octets.{part}
 use Rattle.bigendian.specs.BigEndian.{unbe}
 use Rattle.receipt.specs.Attestation.{Attestation, readAttestation}
 use Rattle.layout.specs.declared.Row.{Row}
 use Rattle.layout.specs.Layout.{readTable}
-use Rattle.a2m.specs.Call.{Call, logOf, Reply, refused, done, found, ended}
+use Rattle.a2m.specs.Call.{Call, logOf, Reply, numbered, receiptIn}
 use Rattle.a2m.specs.ImageCalls.{rowIn}
 use Rattle.a2m.specs.TableCalls.{tableStep}
 use Rattle.script.specs.declared.Answer.{Answer}
@@ -27,11 +28,12 @@ abbrev pub attestedAnswer : Attestation → Row → Answer
 attestedAnswer a r = Attested (letterOf (a .kind)) (a .position) (a .reference) (numberIn (a .value)) (r .low) (r .high)
 
 -- "a dash where there is none (L and H after .. answers 1, 2, 15)"
+abbrev pub boundedAnswer : ℕ → Row → Answer
+boundedAnswer k r = cond (eqb k 1 || eqb k 2) (Plain k) (Bounded k (r .low) (r .high))
+
+-- the columns of a reply: its receipt's, if it has one
 abbrev pub replyAnswer : Reply → Row → Answer
-replyAnswer (refused k) r = cond (eqb k 1 || eqb k 2) (Plain k) (Bounded k (r .low) (r .high))
-replyAnswer (done low high) r = Bounded 0 (r .low) (r .high)
-replyAnswer (found receipt examined) r = attestedAnswer (readAttestation receipt) r
-replyAnswer (ended receipt) r = attestedAnswer (readAttestation receipt) r
+replyAnswer reply r = elim (receiptIn reply) [ none ↦ boundedAnswer (numbered reply .number) r | some receipt ↦ attestedAnswer (readAttestation receipt) r ]
 
 -- the answer to a call, with the row of its log after the call
 unfoldable pub callAnswer : List ℕ → Call → Answer

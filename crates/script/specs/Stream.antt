@@ -1,11 +1,10 @@
 -- Document 01, "The script program": a script of any length, read in pieces.
-use Prim.Native.Nat.{ℕ, suc, _+_, _-_, _≤_, _<_}
+use Prim.Native.Nat.{ℕ, suc, _+_, _*_, _≤_}
 use mathlib.Core.Path.{_≡_}
 use mathlib.Core.Bool.{cond}
 use mathlib.Core.List.{List, [], _∷_, _++_}
-use mathlib.Core.Logic.{_⊎_}
 use lib.Dec.{eqb}
-use lib.ListN.{length, take, drop}
+use lib.ListN.{length, take}
 use Rattle.octets.specs.Octets.{splice}
 use Rattle.line.specs.Fields.{partsOf}
 use Rattle.script.specs.Script.{answerText, tableAfter}
@@ -64,6 +63,21 @@ abbrev pub lastAnswer : List ℕ → List ℕ → ℕ → List ℕ
 lastAnswer table [] n = []
 lastAnswer table (b ∷ l) n = answerText table n (b ∷ l)
 
+-- and the table after it
+abbrev pub lastTable : List ℕ → List ℕ → List ℕ
+lastTable table [] = table
+lastTable table (b ∷ l) = tableAfter table (b ∷ l)
+
+-- the pieces of a script as one text
+unfoldable pub joined : List (List ℕ) → List ℕ
+joined [] = []
+joined (x ∷ xs) = x ++ joined xs
+
+-- what is answered to a script in pieces: to each piece, and at the end
+unfoldable pub inPieces : List ℕ → List ℕ → ℕ → List (List ℕ) → List ℕ
+inPieces table h n [] = lastAnswer table h n
+inPieces table h n (x ∷ xs) = answered table h n x ++ inPieces (tableRead table h x) (heldAfter h x) (n + newlines x) xs
+
 -- ---- what the functions promise
 
 -- kept bytes of held and a part after them become r bytes of held′
@@ -76,24 +90,33 @@ pub record Keeps (held : List ℕ) (kept : ℕ) (part held′ : List ℕ) (r : �
 abbrev pub tableIn : List ℕ → Progress → List ℕ
 tableIn buffer p = take (p .size) buffer
 
--- the bytes of buf from place p .at to place r .at are read: their answers are put, and the state is that after them
-pub record Reading (buf buffer held out : List ℕ) (p : Progress) (buffer′ held′ out′ : List ℕ) (r : Progress) : Type 0 where
-  pub ahead : p .at ≤ r .at
-  pub within : r .at ≤ length buf
+-- a piece is answered: its answers stand at the start of out, and the state is that after its bytes
+pub record Feeds (piece buffer held out : List ℕ) (p : Progress) (buffer′ held′ out′ : List ℕ) (r : Progress) : Type 0 where
   pub line : length held′ ≡ 201
   pub most : r .kept ≤ 201
   pub whole : length buffer′ ≡ 61172
   pub sized : r .size ≤ 61172
-  pub same : length out′ ≡ length out
-  pub room : r .to ≤ length out
-  pub few : r .number + p .at ≤ p .number + r .at
-  pub bytes : take (r .kept) held′ ≡ heldAfter (take (p .kept) held) (take (r .at - p .at) (drop (p .at) buf))
-  pub count : r .number ≡ p .number + newlines (take (r .at - p .at) (drop (p .at) buf))
-  pub calls : tableIn buffer′ r ≡ tableRead (tableIn buffer p) (take (p .kept) held) (take (r .at - p .at) (drop (p .at) buf))
-  pub place : r .to ≡ p .to + length (answered (tableIn buffer p) (take (p .kept) held) (p .number) (take (r .at - p .at) (drop (p .at) buf)))
-  pub text : out′ ≡ splice out (p .to) (answered (tableIn buffer p) (take (p .kept) held) (p .number) (take (r .at - p .at) (drop (p .at) buf)))
+  pub few : r .number ≤ p .number + length piece
+  pub room : r .to ≤ 168 * length piece
+  pub bytes : take (r .kept) held′ ≡ heldAfter (take (p .kept) held) piece
+  pub count : r .number ≡ p .number + newlines piece
+  pub calls : tableIn buffer′ r ≡ tableRead (tableIn buffer p) (take (p .kept) held) piece
+  pub place : r .to ≡ length (answered (tableIn buffer p) (take (p .kept) held) (p .number) piece)
+  pub text : out′ ≡ splice out 0 (answered (tableIn buffer p) (take (p .kept) held) (p .number) piece)
 
--- all bytes are read, or there is no room for another answer
-pub record Feeds (buf buffer held out : List ℕ) (p : Progress) (buffer′ held′ out′ : List ℕ) (r : Progress) : Type 0 where
-  pub read : Reading buf buffer held out p buffer′ held′ out′ r
-  pub done : (r .at ≡ length buf) ⊎ (length out < r .to + 168)
+-- the end of the script: the answer to a last line that lacks its newline stands at the start of out
+pub record Finishes (buffer held out : List ℕ) (p : Progress) (buffer′ out′ : List ℕ) (r : ℕ) : Type 0 where
+  pub room : r ≤ 168
+  pub place : r ≡ length (lastAnswer (tableIn buffer p) (take (p .kept) held) (p .number))
+  pub text : out′ ≡ splice out 0 (lastAnswer (tableIn buffer p) (take (p .kept) held) (p .number))
+  pub calls : buffer′ ≡ splice buffer 0 (lastTable (tableIn buffer p) (take (p .kept) held))
+
+-- the state of a script of which some bytes were read, from the first on
+pub record After (read buffer held : List ℕ) (p : Progress) : Type 0 where
+  pub line : length held ≡ 201
+  pub most : p .kept ≤ 201
+  pub whole : length buffer ≡ 61172
+  pub sized : p .size ≤ 61172
+  pub bytes : take (p .kept) held ≡ heldAfter [] read
+  pub count : p .number ≡ 1 + newlines read
+  pub calls : tableIn buffer p ≡ tableRead [] [] read

@@ -30,10 +30,9 @@ pub struct Next {
     pub to: usize,
 }
 
-// How far a script was read: up to place at of the bytes at hand, with so many bytes of an unfinished line kept, the next line's number,
-// the size of the table, and the end of the answers.
+// A script between two pieces: so many bytes of an unfinished line are kept, the next line has this number, the table has so many
+// bytes, and the answers to the last piece end there.
 pub struct Progress {
-    pub at: usize,
     pub kept: usize,
     pub number: u64,
     pub size: usize,

@@ -1,18 +1,28 @@
 // Document 01's other cases, each refusal that a script can meet, and each kind of line that is none: scripts and their answers.
-ghost use Prim.Native.Nat.{_<_};
+ghost use mathlib.Core.Path.{_≡_};
+ghost use Prim.Native.Nat.{_≤_};
 ghost use lib.ListN.{length};
 use libc::STDOUT_FILENO;
 use script::Progress;
+use script_lines::KEPT;
+use script_lines::LARGEST;
+use script_lines::ROOM;
+
+// Room for the answers to a script of 1,024 bytes.
+fn room() -> [u8; 1024 * ROOM]
+    ensures { λ r. ⌜ length r ≡ 172032 ⌝ }
+{
+    [0; 1024 * ROOM]
+}
 
 // Writes the answers to a script, whose table is torn before its first format.
 fn answers(text: &[u8])
-    requires { ⌜ length (now text) < 65536 ⌝ }
+    requires { ⌜ length (now text) ≤ 1024 ⌝ }
 {
-    let mut table = [0u8; 61172];
-    let mut held = [0u8; 201];
-    let mut out = io::large_buffer();
+    let mut table = [0u8; LARGEST];
+    let mut held = [0u8; KEPT];
+    let mut out = room();
     let p = Progress {
-        at: 0,
         kept: 0,
         number: 1,
         size: 0,
@@ -25,7 +35,7 @@ fn answers(text: &[u8])
 
 // Writes a script, and its answers.
 fn show(text: &[u8])
-    requires { ⌜ length (now text) < 65536 ⌝ }
+    requires { ⌜ length (now text) ≤ 1024 ⌝ }
 {
     io::write_all(STDOUT_FILENO, text);
     answers(text);

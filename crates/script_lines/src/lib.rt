@@ -5,11 +5,12 @@ mod tables;
 
 pub use lines::answer_line;
 pub use pieces::feed;
+pub use pieces::finish;
 
-// The bytes of the largest table: each script has a buffer of so many, the first of which are its table, at first none.
+// What a program lends: the bytes of the largest table, the first of which are a script's table, at first none; the bytes of a line
+// that are kept, one more than a line may have; and the room that an answer takes at most.
 pub const LARGEST: usize = 61172;
 
-// The room that an answer line takes at most, and the bytes of a line that are kept: one more than a line may have.
-pub const ROOM: usize = 168;
-
 pub const KEPT: usize = 201;
+
+pub const ROOM: usize = 168;

@@ -1,10 +1,9 @@
 // The lines of a script that comes in pieces.
 ghost use mathlib.Core.Path.{_≡_};
-ghost use Prim.Native.Nat.{_+_, _≤_, _<_, _^_, min};
+ghost use Prim.Native.Nat.{_+_, _*_, _≤_, _<_, _^_, min};
 ghost use lib.ListN.{length};
-ghost use Rattle.script.specs.Stream.{Keeps, Feeds};
+ghost use Rattle.script.specs.Stream.{Keeps, Feeds, Finishes};
 use crate::KEPT;
-use crate::ROOM;
 use crate::lines::answer_line;
 use script::Progress;
 
@@ -28,29 +27,31 @@ fn keep(held: &mut [u8], kept: usize, part: &[u8]) -> usize
     kept + n
 }
 
-// Answers the lines of text from p.at on, while there is room; the table stands in the first p.size bytes of the buffer.
+// Answers a piece of a script: the answers to the lines that end in it go to the start of out. The table stands in the first p.size
+// bytes of the buffer, the unfinished line in the first p.kept of held. Each line ends with a byte of the piece, so there is room.
 pub fn feed(
-    text: &[u8],
+    piece: &[u8],
     buffer: &mut [u8],
     held: &mut [u8],
     out: &mut [u8],
     p: Progress,
 ) -> Progress
     requires { ⌜ (length (now held) ≡ 201) × (p .kept ≤ 201) × (length (now buffer) ≡ 61172) × (p .size ≤ 61172) ⌝ }
-    requires { ⌜ (p .at ≤ length (now text)) × (p .number + length (now text) < 2 ^ 64 + p .at) × (p .to ≤ length (now out)) ⌝ }
-    ensures { λ r. ⌜ Feeds (now (text .entry)) (now (buffer .entry)) (now (held .entry)) (now (out .entry)) p (now (buffer .exit)) (now (held .exit)) (now (out .exit)) r ⌝ }
+    requires { ⌜ (p .number + length (now piece) < 2 ^ 64) × (168 * length (now piece) ≤ length (now out)) ⌝ }
+    ensures { λ r. ⌜ Feeds (now (piece .entry)) (now (buffer .entry)) (now (held .entry)) (now (out .entry)) p (now (buffer .exit)) (now (held .exit)) (now (out .exit)) r ⌝ }
 {
-    let mut s = p;
-    while s.at < text.len() {
-        if out.len() - s.to < ROOM {
-            return s;
-        }
-        let at = s.at;
-        let e = line::find(text, at, 10);
-        let kept = keep(held, s.kept, &text[at..e]);
-        if e == text.len() {
+    let mut at = 0;
+    let mut s = Progress {
+        kept: p.kept,
+        number: p.number,
+        size: p.size,
+        to: 0,
+    };
+    while at < piece.len() {
+        let e = line::find(piece, at, 10);
+        let kept = keep(held, s.kept, &piece[at..e]);
+        if e == piece.len() {
             return Progress {
-                at: e,
                 kept,
                 number: s.number,
                 size: s.size,
@@ -59,12 +60,25 @@ pub fn feed(
         }
         let next = answer_line(buffer, s.size, out, s.to, s.number, &held[..kept]);
         s = Progress {
-            at: e + 1,
             kept: 0,
             number: s.number + 1,
             size: next.size,
             to: next.to,
         };
+        at = e + 1;
     }
     s
+}
+
+// Answers the last line of a script, where it lacks its newline: its answer goes to the start of out. The end of that answer.
+pub fn finish(buffer: &mut [u8], held: &[u8], out: &mut [u8], p: Progress) -> usize
+    requires { ⌜ (p .kept ≤ length (now held)) × (length (now buffer) ≡ 61172) × (p .size ≤ 61172) × (168 ≤ length (now out)) ⌝ }
+    ensures { λ r. ⌜ Finishes (now (buffer .entry)) (now (held .entry)) (now (out .entry)) p (now (buffer .exit)) (now (out .exit)) r ⌝ }
+{
+    let kept = p.kept;
+    if kept == 0 {
+        return 0;
+    }
+    let next = answer_line(buffer, p.size, out, 0, p.number, &held[..kept]);
+    next.to
 }

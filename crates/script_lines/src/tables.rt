@@ -2,6 +2,7 @@
 use layout::places::table_size;
 use line::Command;
 use refusal::Outcome;
+use refusal::Refusal;
 use script::Answer;
 use script::Turn;
 use script_calls::advance;
@@ -66,7 +67,7 @@ pub fn carry_out(buffer: &mut [u8], size: usize, command: Command) -> Turn
         Command::Truncate { log, position } => truncate(&mut buffer[0..size], log, position),
         Command::Lookup { log, position } => lookup(&buffer[0..size], log, position),
         Command::End { log } => end(&buffer[0..size], log),
-        Command::Malformed => Answer::Plain(15),
+        Command::Malformed => Answer::Plain(octets::wide(Refusal::Line.number())),
     };
     Turn { answer, size }
 }

@@ -1,5 +1,4 @@
--- The message schedule as a window of 16 words that moves on with the rounds: what the code keeps.
---
+-- The program's own: the message schedule as a window of 16 words that moves on with the rounds. The product's contracts cite `sha256/specs/Sha256`.
 use Prim.Native.Nat.{ℕ, zero, suc, _+_}
 use mathlib.Core.List.{List, [], _∷_}
 use lib.ListN.{getD}

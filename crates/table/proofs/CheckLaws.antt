@@ -1,23 +1,25 @@
 -- The check, way out by way out.
 use Prim.Native.Nat.{ℕ, _+_, _-_, _≤_, _<_}
-use mathlib.Core.Path.{_≡_, sym, ap, ap₂, _∙_}
+use mathlib.Core.Path.{_≡_, refl, sym, ap, ap₂, _∙_}
 use mathlib.Core.Bool.{Bool, true, false, not, _&&_}
-use mathlib.Core.List.{List}
+use mathlib.Core.List.{List, [], _∷_}
 use mathlib.Core.Logic.{_≢_}
 use native.Mathlib.Omega.{arith}
 use borrow.Author.Tests.{eq-eqb, ne-eqb, not-true, not-false}
 use lib.ListN.{length, length-append}
+use Rattle.refusal.specs.Order.{fault, firstFault, answerOf}
 use Rattle.layout.specs.Image.{Image}
 use Rattle.layout.specs.Layout.{logsOf, slotsOf, readTable}
 use Rattle.layout.specs.Fits.{Counted}
 use Rattle.table.specs.declared.Walk.the-variants as walked
 use Rattle.table.specs.declared.Held.the-variants as held
+use Rattle.table.specs.declared.Check.{Check}
 use Rattle.table.specs.declared.Check.the-variants as check
 use Rattle.table.specs.Chains.{lastOf}
 use Rattle.table.specs.Free.{freeChain}
 use Rattle.table.specs.Walks.{walkOf, heldOf}
 use Rattle.table.specs.WholeImage.{freeOk, rowsOk, heldBy, meets, wholeImage}
-use Rattle.table.specs.Whole.{whole, checked, checkOf}
+use Rattle.table.specs.Whole.{whole, wholeRefusal, checked, checkOf}
 use Rattle.layout.specs.Tests.{headerFits, padsFit}
 use Rattle.layout.proofs.TestLaws.{and-yes, and-no, and-not}
 use Rattle.table.proofs.WalkLaws.{len}
@@ -88,3 +90,17 @@ module _ (b : List ℕ) (logs slots : ℕ) (c : Counted b logs slots) where
         ∙ (and-yes _ (and-yes _ (f .0) ∙ h .0)
         ∙ eq-eqb (length (meets (readTable b))) (length (readTable b .slots)) (total ∙ omega (arith, len b logs slots c))) in
         sym (ap (λ (x : Bool). checked x (freeChain (readTable b))) w ∙ ap₂ check.Whole (f .1) (f .2))
+
+-- the number of what the check finds
+abbrev pub checkNumber : Check → ℕ
+checkNumber check.Torn = 1
+checkNumber (check.Whole free last) = 0
+
+of-test : (t : Bool) (c : List ℕ) → checkNumber (checked t c) ≡ answerOf (firstFault (fault 1 (not t) ∷ []))
+unfolding checked answerOf firstFault
+of-test true c = refl
+of-test false c = refl
+
+pub check-number : (b : List ℕ) → checkNumber (checkOf b) ≡ answerOf (wholeRefusal b)
+unfolding checkOf wholeRefusal
+check-number b = of-test (whole b) (freeChain (readTable b))

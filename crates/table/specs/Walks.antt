@@ -1,4 +1,4 @@
--- What the check's walks answer: broken, or how many slots they met, and the last.
+-- The program's own: what the check's walks answer, broken or how many slots they met, and the last. The product's contracts cite `Whole`.
 use Prim.Native.Nat.{ℕ, suc}
 use mathlib.Core.List.{List}
 use mathlib.Core.Bool.{Bool, true, false, _&&_}
@@ -28,5 +28,4 @@ rowWalk slots g r = walkOf (rowOk slots g r) (chain slots (suc g) (r .first))
 
 -- the same, where the row is not fresh
 abbrev pub startedWalk : List Slot → ℕ → Row → Walk
-startedWalk slots g r =
-    walkOf (reaches slots (suc g) (r .first) && started r (chain slots (suc g) (r .first)) (positionsOf slots (chain slots (suc g) (r .first)))) (chain slots (suc g) (r .first))
+startedWalk slots g r = let c = chain slots (suc g) (r .first) in walkOf (reaches slots (suc g) (r .first) && started r c (positionsOf slots c)) c

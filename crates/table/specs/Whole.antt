@@ -1,8 +1,10 @@
 -- Document 01, "A table is whole if ..", as a test on bytes.
 use Prim.Native.Nat.{ℕ}
-use mathlib.Core.List.{List}
-use mathlib.Core.Bool.{Bool, true, false, _&&_}
+use mathlib.Core.List.{List, [], _∷_}
+use mathlib.Core.Option.{Option}
+use mathlib.Core.Bool.{Bool, true, false, not, _&&_}
 use lib.ListN.{length}
+use Rattle.refusal.specs.Order.{fault, firstFault}
 use Rattle.layout.specs.Layout.{logsOf, slotsOf, readTable}
 use Rattle.layout.specs.Tests.{headerFits, padsFit}
 use Rattle.table.specs.declared.Check.{Check}
@@ -15,7 +17,11 @@ use Rattle.table.specs.WholeImage.{wholeImage}
 unfoldable pub whole : List ℕ → Bool
 whole b = headerFits b && padsFit b (logsOf b) (slotsOf b) && wholeImage (readTable b)
 
--- what the check answers: torn; or whole, with the number of free slots and the last of the free chain
+-- number 1: "table not whole"
+unfoldable pub wholeRefusal : List ℕ → Option ℕ
+wholeRefusal b = firstFault (fault 1 (not (whole b)) ∷ [])
+
+-- what the check inside finds: torn; or whole, with the number of free slots and the last of the free chain
 unfoldable pub checked : Bool → List ℕ → Check
 checked true c = variants.Whole (length c) (lastOf c)
 checked false c = variants.Torn

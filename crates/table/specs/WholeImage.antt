@@ -34,7 +34,7 @@ started r c ps = leb 1 (r .low) && leb (r .low) (r .high) && risingFrom (r .low)
 -- "each row is fresh .. or has .. a chain of its own slots": log g owns slots of owner g + 1
 unfoldable pub rowOk : List Slot → ℕ → Row → Bool
 rowOk slots g r =
-    fresh r || (reaches slots (suc g) (r .first) && started r (chain slots (suc g) (r .first)) (positionsOf slots (chain slots (suc g) (r .first))))
+    let c = chain slots (suc g) (r .first) in fresh r || (reaches slots (suc g) (r .first) && started r c (positionsOf slots c))
 
 -- the rows from log g on
 unfoldable pub rowsOk : List Slot → ℕ → List Row → Bool

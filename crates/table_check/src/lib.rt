@@ -7,13 +7,17 @@ use layout_header::header_fits;
 use layout_header::logs_of;
 use layout_header::slots_of;
 use layout_slots::pads_fit;
+use refusal::Outcome;
+use refusal::Refusal;
 use table::Check;
 use table::Held;
 use table::Walk;
 ghost use mathlib.Core.Path.{_≡_};
-ghost use Rattle.table.specs.Whole.{checkOf};
+ghost use Rattle.refusal.specs.Number.{outcomeNumber};
+ghost use Rattle.refusal.specs.Order.{answerOf};
+ghost use Rattle.table.specs.Whole.{checkOf, wholeRefusal};
 
-// Whether the table is whole; and if so, how many slots are free, and the last of the free chain.
+// Inner, for the calls on a table: whether the table is whole; and if so, how many slots are free, and the last of the free chain.
 pub fn check(table: &[u8]) -> Check
     ensures { λ r. ⌜ r ≡ checkOf (now (table .entry)) ⌝ }
 {
@@ -38,4 +42,14 @@ pub fn check(table: &[u8]) -> Check
         return Check::Torn;
     }
     Check::Whole { free: count, last }
+}
+
+// The check of a table. Refused with 1: torn.
+pub fn is_whole(table: &[u8]) -> Outcome
+    ensures { λ r. ⌜ outcomeNumber r ≡ answerOf (wholeRefusal (now (table .entry))) ⌝ }
+{
+    match check(table) {
+        Check::Torn => Outcome::Refused(Refusal::Torn),
+        Check::Whole { free: _, last: _ } => Outcome::Done,
+    }
 }

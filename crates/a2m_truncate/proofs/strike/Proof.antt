@@ -27,7 +27,8 @@ loop-holds : tie.Need-loop-holds Inv-loop μ-loop
 loop-holds c = let a = c .before .before .before .before .before .before .args in (refl, λ b B. releasing-first b (a .view) (B .opened) (a .n) (B .least) (B .most) (B .bytes) (c .before .before .join .last .0) (B .joined))
 
 link-at-requires : tie.Need-link-at-requires Inv-loop μ-loop
-link-at-requires c κs = (holds-counted _ _ _ _ (c .before .loop .inv .1 (c .before .before .before .before .before .before .before .before .args .table .now) (begins (c .before .before .before .before .before .before .before .before .args .table .now) (c .before .before .before .before .before .before .before .before .args .view) (c .before .before .before .before .before .before .before .before .args .n) (c .before .before .before .before .join .last .0) (c .before .before .before .before .before .before .before .before .pre .0) (λ i. omega (arith, c .before .before .before .before .before .before .before .slice-known .given i)) (c .before .before .before .before .before .before .before .before .pre .1 .0) (c .before .before .before .before .before .before .before .before .pre .1 .1) (c .before .before .before .before .join .ensures)) .held), slot-within (c .before .before .before .before .before .before .before .before .args .table .now) (c .before .before .before .before .before .before .before .before .args .view) (c .before .before .before .before .before .before .before .before .args .n) (c .before .loop .table) (c .before .loop .last) (c .before .loop .s) (c .before .before .before .before .before .before .before .before .pre .0) (c .before .loop .inv .1 (c .before .before .before .before .before .before .before .before .args .table .now) (begins (c .before .before .before .before .before .before .before .before .args .table .now) (c .before .before .before .before .before .before .before .before .args .view) (c .before .before .before .before .before .before .before .before .args .n) (c .before .before .before .before .join .last .0) (c .before .before .before .before .before .before .before .before .pre .0) (λ i. omega (arith, c .before .before .before .before .before .before .before .slice-known .given i)) (c .before .before .before .before .before .before .before .before .pre .1 .0) (c .before .before .before .before .before .before .before .before .pre .1 .1) (c .before .before .before .before .join .ensures))))
+link-at-requires c κs = let p8 = c .before .before .before .before .before .before .before .before in
+    (holds-counted _ _ _ _ (c .before .loop .inv .1 (p8 .args .table .now) (begins (p8 .args .table .now) (p8 .args .view) (p8 .args .n) (c .before .before .before .before .join .last .0) (p8 .pre .0) (λ i. omega (arith, c .before .before .before .before .before .before .before .slice-known .given i)) (p8 .pre .1 .0) (p8 .pre .1 .1) (c .before .before .before .before .join .ensures)) .held), slot-within (p8 .args .table .now) (p8 .args .view) (p8 .args .n) (c .before .loop .table) (c .before .loop .last) (c .before .loop .s) (p8 .pre .0) (c .before .loop .inv .1 (p8 .args .table .now) (begins (p8 .args .table .now) (p8 .args .view) (p8 .args .n) (c .before .before .before .before .join .last .0) (p8 .pre .0) (λ i. omega (arith, c .before .before .before .before .before .before .before .slice-known .given i)) (p8 .pre .1 .0) (p8 .pre .1 .1) (c .before .before .before .before .join .ensures))))
 
 slice-aggregate-put-slot : tie.Need-slice-aggregate-put-slot Inv-loop μ-loop
 slice-aggregate-put-slot c = search needs
@@ -37,30 +38,50 @@ slice-aggregate-put-slot-2 c = search needs
 
 put-slot-requires : tie.Need-put-slot-requires Inv-loop μ-loop
 unfolding zeros
-put-slot-requires c κs = (holds-counted _ _ _ _ (c .before .before .before .before .before .before .before .loop .inv .1 (c .before .before .before .before .before .before .before .before .before .before .before .before .before .before .args .table .now) (begins (c .before .before .before .before .before .before .before .before .before .before .before .before .before .before .args .table .now) (c .before .before .before .before .before .before .before .before .before .before .before .before .before .before .args .view) (c .before .before .before .before .before .before .before .before .before .before .before .before .before .before .args .n) (c .before .before .before .before .before .before .before .before .before .before .join .last .0) (c .before .before .before .before .before .before .before .before .before .before .before .before .before .before .pre .0) (λ i. omega (arith, c .before .before .before .before .before .before .before .before .before .before .before .before .before .slice-known .given i)) (c .before .before .before .before .before .before .before .before .before .before .before .before .before .before .pre .1 .0) (c .before .before .before .before .before .before .before .before .before .before .before .before .before .before .pre .1 .1) (c .before .before .before .before .before .before .before .before .before .before .join .ensures)) .held), (slot-within (c .before .before .before .before .before .before .before .before .before .before .before .before .before .before .args .table .now) (c .before .before .before .before .before .before .before .before .before .before .before .before .before .before .args .view) (c .before .before .before .before .before .before .before .before .before .before .before .before .before .before .args .n) (c .before .before .before .before .before .before .before .loop .table) (c .before .before .before .before .before .before .before .loop .last) (c .before .before .before .before .before .before .before .loop .s) (c .before .before .before .before .before .before .before .before .before .before .before .before .before .before .pre .0) (c .before .before .before .before .before .before .before .loop .inv .1 (c .before .before .before .before .before .before .before .before .before .before .before .before .before .before .args .table .now) (begins (c .before .before .before .before .before .before .before .before .before .before .before .before .before .before .args .table .now) (c .before .before .before .before .before .before .before .before .before .before .before .before .before .before .args .view) (c .before .before .before .before .before .before .before .before .before .before .before .before .before .before .args .n) (c .before .before .before .before .before .before .before .before .before .before .join .last .0) (c .before .before .before .before .before .before .before .before .before .before .before .before .before .before .pre .0) (λ i. omega (arith, c .before .before .before .before .before .before .before .before .before .before .before .before .before .slice-known .given i)) (c .before .before .before .before .before .before .before .before .before .before .before .before .before .before .pre .1 .0) (c .before .before .before .before .before .before .before .before .before .before .before .before .before .before .pre .1 .1) (c .before .before .before .before .before .before .before .before .before .before .join .ensures))), freed-fits (c .before .before .before .before .before .before .before .before .before .before .before .before .before .before .args .table .now) (c .before .before .before .before .before .before .before .before .before .before .before .before .before .before .args .view) (c .before .before .before .before .before .before .before .before .before .before .before .before .before .before .args .n) (c .before .before .before .before .before .before .before .loop .table) (c .before .before .before .before .before .before .before .loop .last) (c .before .before .before .before .before .before .before .loop .s) (c .before .before .before .before .before .before .before .before .before .before .before .before .before .before .pre .0) (c .before .before .before .before .before .before .before .loop .inv .1 (c .before .before .before .before .before .before .before .before .before .before .before .before .before .before .args .table .now) (begins (c .before .before .before .before .before .before .before .before .before .before .before .before .before .before .args .table .now) (c .before .before .before .before .before .before .before .before .before .before .before .before .before .before .args .view) (c .before .before .before .before .before .before .before .before .before .before .before .before .before .before .args .n) (c .before .before .before .before .before .before .before .before .before .before .join .last .0) (c .before .before .before .before .before .before .before .before .before .before .before .before .before .before .pre .0) (λ i. omega (arith, c .before .before .before .before .before .before .before .before .before .before .before .before .before .slice-known .given i)) (c .before .before .before .before .before .before .before .before .before .before .before .before .before .before .pre .1 .0) (c .before .before .before .before .before .before .before .before .before .before .before .before .before .before .pre .1 .1) (c .before .before .before .before .before .before .before .before .before .before .join .ensures))) (c .before .before .before .before .before .link-at .result) (c .before .before .before .before .before .link-at .ensures)))
+put-slot-requires c κs = let p10 = c .before .before .before .before .before .before .before .before .before .before in
+    let p13 = p10 .before .before .before in
+    let p14 = p13 .before in
+    (holds-counted _ _ _ _ (c .before .before .before .before .before .before .before .loop .inv .1 (p14 .args .table .now) (begins (p14 .args .table .now) (p14 .args .view) (p14 .args .n) (p10 .join .last .0) (p14 .pre .0) (λ i. omega (arith, p13 .slice-known .given i)) (p14 .pre .1 .0) (p14 .pre .1 .1) (p10 .join .ensures)) .held), (slot-within (p14 .args .table .now) (p14 .args .view) (p14 .args .n) (c .before .before .before .before .before .before .before .loop .table) (c .before .before .before .before .before .before .before .loop .last) (c .before .before .before .before .before .before .before .loop .s) (p14 .pre .0) (c .before .before .before .before .before .before .before .loop .inv .1 (p14 .args .table .now) (begins (p14 .args .table .now) (p14 .args .view) (p14 .args .n) (p10 .join .last .0) (p14 .pre .0) (λ i. omega (arith, p13 .slice-known .given i)) (p14 .pre .1 .0) (p14 .pre .1 .1) (p10 .join .ensures))), freed-fits (p14 .args .table .now) (p14 .args .view) (p14 .args .n) (c .before .before .before .before .before .before .before .loop .table) (c .before .before .before .before .before .before .before .loop .last) (c .before .before .before .before .before .before .before .loop .s) (p14 .pre .0) (c .before .before .before .before .before .before .before .loop .inv .1 (p14 .args .table .now) (begins (p14 .args .table .now) (p14 .args .view) (p14 .args .n) (p10 .join .last .0) (p14 .pre .0) (λ i. omega (arith, p13 .slice-known .given i)) (p14 .pre .1 .0) (p14 .pre .1 .1) (p10 .join .ensures))) (c .before .before .before .before .before .link-at .result) (c .before .before .before .before .before .link-at .ensures)))
 
 loop-less : tie.Need-loop-less Inv-loop μ-loop
 unfolding zeros
-loop-less c = falls (c .before .before .before .before .before .before .before .before .before .before .before .before .before .before .before .before .before .args .table .now) (c .before .before .before .before .before .before .before .before .before .before .before .before .before .before .before .before .before .args .view) (c .before .before .before .before .before .before .before .before .before .before .before .before .before .before .before .before .before .args .n) (c .before .before .before .before .before .before .before .before .before .before .loop .table) (c .before .before .before .before .before .before .before .before .before .before .loop .last) (c .before .before .before .before .before .before .before .before .before .before .loop .s) (c .before .before .before .before .before .before .before .before .before .before .before .before .before .before .before .before .before .pre .0) (c .before .before .before .before .before .before .before .before .before .before .loop .inv .1 (c .before .before .before .before .before .before .before .before .before .before .before .before .before .before .before .before .before .args .table .now) (begins (c .before .before .before .before .before .before .before .before .before .before .before .before .before .before .before .before .before .args .table .now) (c .before .before .before .before .before .before .before .before .before .before .before .before .before .before .before .before .before .args .view) (c .before .before .before .before .before .before .before .before .before .before .before .before .before .before .before .before .before .args .n) (c .before .before .before .before .before .before .before .before .before .before .before .before .before .join .last .0) (c .before .before .before .before .before .before .before .before .before .before .before .before .before .before .before .before .before .pre .0) (λ i. omega (arith, c .before .before .before .before .before .before .before .before .before .before .before .before .before .before .before .before .slice-known .given i)) (c .before .before .before .before .before .before .before .before .before .before .before .before .before .before .before .before .before .pre .1 .0) (c .before .before .before .before .before .before .before .before .before .before .before .before .before .before .before .before .before .pre .1 .1) (c .before .before .before .before .before .before .before .before .before .before .before .before .before .join .ensures))) (c .before .before .before .before .before .before .before .before .link-at .result) (c .before .before .before .before .before .before .before .before .link-at .ensures) (c .before .before .before .before .before .before .if1 .left) (c .before .before .put-slot .last .0) (c .before .before .put-slot .ensures)
+loop-less c = let p8 = c .before .before .before .before .before .before .before .before in
+    let p10 = p8 .before .before in
+    let p13 = p10 .before .before .before in
+    let p17 = p13 .before .before .before .before in
+    falls (p17 .args .table .now) (p17 .args .view) (p17 .args .n) (p10 .loop .table) (p10 .loop .last) (p10 .loop .s) (p17 .pre .0) (p10 .loop .inv .1 (p17 .args .table .now) (begins (p17 .args .table .now) (p17 .args .view) (p17 .args .n) (p13 .join .last .0) (p17 .pre .0) (λ i. omega (arith, p13 .before .before .before .slice-known .given i)) (p17 .pre .1 .0) (p17 .pre .1 .1) (p13 .join .ensures))) (p8 .link-at .result) (p8 .link-at .ensures) (c .before .before .before .before .before .before .if1 .left) (c .before .before .put-slot .last .0) (c .before .before .put-slot .ensures)
 
 loop-again : tie.Need-loop-again Inv-loop μ-loop
 unfolding zeros
-loop-again c = let a = c .before .before .before .before .before .before .before .before .before .before .before .before .before .before .before .before .before .args in let l = c .before .before .before .before .before .before .before .before .before .before .loop in (c .before .before .put-slot .kept .0 ∙ l .inv .0, λ b B. releasing-on b (a .view) (a .n) (l .table) (l .last) (l .s) (B .opened) (l .inv .1 b B) (c .before .before .before .before .before .before .before .before .link-at .result) (c .before .before .before .before .before .before .before .before .link-at .ensures) (c .before .before .before .before .before .before .if1 .left) (c .before .before .put-slot .last .0) (c .before .before .put-slot .ensures) .0)
+loop-again c = let p8 = c .before .before .before .before .before .before .before .before in
+    let a = p8 .before .before .before .before .before .before .before .before .before .args in let l = p8 .before .before .loop in (c .before .before .put-slot .kept .0 ∙ l .inv .0, λ b B. releasing-on b (a .view) (a .n) (l .table) (l .last) (l .s) (B .opened) (l .inv .1 b B) (p8 .link-at .result) (p8 .link-at .ensures) (c .before .before .before .before .before .before .if1 .left) (c .before .before .put-slot .last .0) (c .before .before .put-slot .ensures) .0)
 
 join-requires-2 : tie.Need-join-requires-2 Inv-loop μ-loop
-join-requires-2 c κs = (holds-counted _ _ _ _ (c .before .before .before .before .before .loop .inv .1 (c .before .before .before .before .before .before .before .before .before .before .before .before .args .table .now) (begins (c .before .before .before .before .before .before .before .before .before .before .before .before .args .table .now) (c .before .before .before .before .before .before .before .before .before .before .before .before .args .view) (c .before .before .before .before .before .before .before .before .before .before .before .before .args .n) (c .before .before .before .before .before .before .before .before .join .last .0) (c .before .before .before .before .before .before .before .before .before .before .before .before .pre .0) (λ i. omega (arith, c .before .before .before .before .before .before .before .before .before .before .before .slice-known .given i)) (c .before .before .before .before .before .before .before .before .before .before .before .before .pre .1 .0) (c .before .before .before .before .before .before .before .before .before .before .before .before .pre .1 .1) (c .before .before .before .before .before .before .before .before .join .ensures)) .held), (last-most-free (c .before .before .before .before .before .before .before .before .before .before .before .before .args .table .now) (c .before .before .before .before .before .before .before .before .before .before .before .before .args .view) (c .before .before .before .before .before .before .before .before .before .before .before .before .args .n) (c .before .before .before .before .before .loop .table) (c .before .before .before .before .before .loop .last) (c .before .before .before .before .before .loop .s) (c .before .before .before .before .before .before .before .before .before .before .before .before .pre .0) (c .before .before .before .before .before .loop .inv .1 (c .before .before .before .before .before .before .before .before .before .before .before .before .args .table .now) (begins (c .before .before .before .before .before .before .before .before .before .before .before .before .args .table .now) (c .before .before .before .before .before .before .before .before .before .before .before .before .args .view) (c .before .before .before .before .before .before .before .before .before .before .before .before .args .n) (c .before .before .before .before .before .before .before .before .join .last .0) (c .before .before .before .before .before .before .before .before .before .before .before .before .pre .0) (λ i. omega (arith, c .before .before .before .before .before .before .before .before .before .before .before .slice-known .given i)) (c .before .before .before .before .before .before .before .before .before .before .before .before .pre .1 .0) (c .before .before .before .before .before .before .before .before .before .before .before .before .pre .1 .1) (c .before .before .before .before .before .before .before .before .join .ensures))), omega arith))
+join-requires-2 c κs = let p8 = c .before .before .before .before .before .before .before .before in
+    let p11 = p8 .before .before .before in
+    let p12 = p11 .before in
+    (holds-counted _ _ _ _ (c .before .before .before .before .before .loop .inv .1 (p12 .args .table .now) (begins (p12 .args .table .now) (p12 .args .view) (p12 .args .n) (p8 .join .last .0) (p12 .pre .0) (λ i. omega (arith, p11 .slice-known .given i)) (p12 .pre .1 .0) (p12 .pre .1 .1) (p8 .join .ensures)) .held), (last-most-free (p12 .args .table .now) (p12 .args .view) (p12 .args .n) (c .before .before .before .before .before .loop .table) (c .before .before .before .before .before .loop .last) (c .before .before .before .before .before .loop .s) (p12 .pre .0) (c .before .before .before .before .before .loop .inv .1 (p12 .args .table .now) (begins (p12 .args .table .now) (p12 .args .view) (p12 .args .n) (p8 .join .last .0) (p12 .pre .0) (λ i. omega (arith, p11 .slice-known .given i)) (p12 .pre .1 .0) (p12 .pre .1 .1) (p8 .join .ensures))), omega arith))
 
 truncate-requires : tie.Need-truncate-requires Inv-loop μ-loop
 truncate-requires c κs = search needs
 
 put-row-requires : tie.Need-put-row-requires Inv-loop μ-loop
-put-row-requires c κs = (holds-counted _ _ _ _ (cut-held (c .before .before .before .before .before .before .before .before .before .before .before .before .before .before .before .before .before .args .table .now) (c .before .before .before .before .before .before .before .before .before .before .before .before .before .before .before .before .before .args .view) (c .before .before .before .before .before .before .before .before .before .before .before .before .before .before .before .before .before .args .n) (c .before .before .before .before .before .before .before .before .before .before .loop .table) (c .before .before .before .before .before .before .before .before .before .before .loop .last) (c .before .before .before .before .before .before .before .before .before .before .loop .s) (c .before .before .before .before .before .before .before .before .before .before .before .before .before .before .before .before .before .pre .0) (c .before .before .before .before .before .before .before .before .before .before .loop .inv .1 (c .before .before .before .before .before .before .before .before .before .before .before .before .before .before .before .before .before .args .table .now) (begins (c .before .before .before .before .before .before .before .before .before .before .before .before .before .before .before .before .before .args .table .now) (c .before .before .before .before .before .before .before .before .before .before .before .before .before .before .before .before .before .args .view) (c .before .before .before .before .before .before .before .before .before .before .before .before .before .before .before .before .before .args .n) (c .before .before .before .before .before .before .before .before .before .before .before .before .before .join .last .0) (c .before .before .before .before .before .before .before .before .before .before .before .before .before .before .before .before .before .pre .0) (λ i. omega (arith, c .before .before .before .before .before .before .before .before .before .before .before .before .before .before .before .before .slice-known .given i)) (c .before .before .before .before .before .before .before .before .before .before .before .before .before .before .before .before .before .pre .1 .0) (c .before .before .before .before .before .before .before .before .before .before .before .before .before .before .before .before .before .pre .1 .1) (c .before .before .before .before .before .before .before .before .before .before .before .before .before .join .ensures))) (c .before .before .before .before .join2 .last .0) (c .before .before .before .before .join2 .ensures)), (opened-log (c .before .before .before .before .before .before .before .before .before .before .before .before .before .before .before .before .before .args .table .now) (c .before .before .before .before .before .before .before .before .before .before .before .before .before .before .before .before .before .args .view) (c .before .before .before .before .before .before .before .before .before .before .before .before .before .before .before .before .before .pre .0), cut-row (c .before .before .before .before .before .before .before .before .before .before .before .before .before .before .before .before .before .args .table .now) (c .before .before .before .before .before .before .before .before .before .before .before .before .before .before .before .before .before .args .view) (c .before .before .before .before .before .before .before .before .before .before .before .before .before .before .before .before .before .args .n) (c .before .before .before .before .before .before .before .before .before .before .loop .table) (c .before .before .before .before .before .before .before .before .before .before .loop .last) (c .before .before .before .before .before .before .before .before .before .before .loop .s) (c .before .before .before .before .before .before .before .before .before .before .before .before .before .before .before .before .before .pre .0) (c .before .before .before .before .before .before .before .before .before .before .loop .inv .1 (c .before .before .before .before .before .before .before .before .before .before .before .before .before .before .before .before .before .args .table .now) (begins (c .before .before .before .before .before .before .before .before .before .before .before .before .before .before .before .before .before .args .table .now) (c .before .before .before .before .before .before .before .before .before .before .before .before .before .before .before .before .before .args .view) (c .before .before .before .before .before .before .before .before .before .before .before .before .before .before .before .before .before .args .n) (c .before .before .before .before .before .before .before .before .before .before .before .before .before .join .last .0) (c .before .before .before .before .before .before .before .before .before .before .before .before .before .before .before .before .before .pre .0) (λ i. omega (arith, c .before .before .before .before .before .before .before .before .before .before .before .before .before .before .before .before .slice-known .given i)) (c .before .before .before .before .before .before .before .before .before .before .before .before .before .before .before .before .before .pre .1 .0) (c .before .before .before .before .before .before .before .before .before .before .before .before .before .before .before .before .before .pre .1 .1) (c .before .before .before .before .before .before .before .before .before .before .before .before .before .join .ensures))) (λ i. omega (arith, c .before .before .before .before .before .before .before .before .before .before .before .before .before .before .before .before .slice-known .given i)) (omega (arith, c .before .before .before .before .before .before .before .before .before .before .before .before .before .before .before .before .before .fits .n)) (c .before .truncate .result) (c .before .truncate .ensures)))
+put-row-requires c κs = let p10 = c .before .before .before .before .before .before .before .before .before .before in
+    let p13 = p10 .before .before .before in
+    let p16 = p13 .before .before .before in
+    let p17 = p16 .before in
+    (holds-counted _ _ _ _ (cut-held (p17 .args .table .now) (p17 .args .view) (p17 .args .n) (p10 .loop .table) (p10 .loop .last) (p10 .loop .s) (p17 .pre .0) (p10 .loop .inv .1 (p17 .args .table .now) (begins (p17 .args .table .now) (p17 .args .view) (p17 .args .n) (p13 .join .last .0) (p17 .pre .0) (λ i. omega (arith, p16 .slice-known .given i)) (p17 .pre .1 .0) (p17 .pre .1 .1) (p13 .join .ensures))) (c .before .before .before .before .join2 .last .0) (c .before .before .before .before .join2 .ensures)), (opened-log (p17 .args .table .now) (p17 .args .view) (p17 .pre .0), cut-row (p17 .args .table .now) (p17 .args .view) (p17 .args .n) (p10 .loop .table) (p10 .loop .last) (p10 .loop .s) (p17 .pre .0) (p10 .loop .inv .1 (p17 .args .table .now) (begins (p17 .args .table .now) (p17 .args .view) (p17 .args .n) (p13 .join .last .0) (p17 .pre .0) (λ i. omega (arith, p16 .slice-known .given i)) (p17 .pre .1 .0) (p17 .pre .1 .1) (p13 .join .ensures))) (λ i. omega (arith, p16 .slice-known .given i)) (omega (arith, p17 .fits .n)) (c .before .truncate .result) (c .before .truncate .ensures)))
 
 same-length : tie.Need-same-length Inv-loop μ-loop
 same-length c = c .before .before .put-row .kept .0 ∙ c .before .before .before .before .before .before .before .join2 .kept .0 ∙ c .before .before .before .before .before .before .before .before .before .before .before .before .before .loop .inv .0 ∙ c .before .before .before .before .before .before .before .before .before .before .before .before .before .before .before .before .join .kept .0
 
 returns : tie.Need-returns Inv-loop μ-loop
-returns c = let a = c .before .before .before .before .before .before .before .before .before .before .before .before .before .before .before .before .before .before .before .before .args in (struck-answer (a .view) (a .n) (c .before .before .before .before .before .before .before .before .before .before .before .before .before .loop .s) (c .before .before .before .before .truncate .result) (c .before .before .before .before .truncate .ensures), struck (c .before .before .before .before .before .before .before .before .before .before .before .before .before .before .before .before .before .before .before .before .args .table .now) (c .before .before .before .before .before .before .before .before .before .before .before .before .before .before .before .before .before .before .before .before .args .view) (c .before .before .before .before .before .before .before .before .before .before .before .before .before .before .before .before .before .before .before .before .args .n) (c .before .before .before .before .before .before .before .before .before .before .before .before .before .loop .table) (c .before .before .before .before .before .before .before .before .before .before .before .before .before .loop .last) (c .before .before .before .before .before .before .before .before .before .before .before .before .before .loop .s) (c .before .before .before .before .before .before .before .before .before .before .before .before .before .before .before .before .before .before .before .before .pre .0) (c .before .before .before .before .before .before .before .before .before .before .before .before .before .loop .inv .1 (c .before .before .before .before .before .before .before .before .before .before .before .before .before .before .before .before .before .before .before .before .args .table .now) (begins (c .before .before .before .before .before .before .before .before .before .before .before .before .before .before .before .before .before .before .before .before .args .table .now) (c .before .before .before .before .before .before .before .before .before .before .before .before .before .before .before .before .before .before .before .before .args .view) (c .before .before .before .before .before .before .before .before .before .before .before .before .before .before .before .before .before .before .before .before .args .n) (c .before .before .before .before .before .before .before .before .before .before .before .before .before .before .before .before .join .last .0) (c .before .before .before .before .before .before .before .before .before .before .before .before .before .before .before .before .before .before .before .before .pre .0) (λ i. omega (arith, c .before .before .before .before .before .before .before .before .before .before .before .before .before .before .before .before .before .before .before .slice-known .given i)) (c .before .before .before .before .before .before .before .before .before .before .before .before .before .before .before .before .before .before .before .before .pre .1 .0) (c .before .before .before .before .before .before .before .before .before .before .before .before .before .before .before .before .before .before .before .before .pre .1 .1) (c .before .before .before .before .before .before .before .before .before .before .before .before .before .before .before .before .join .ensures))) (λ i. omega (arith, c .before .before .before .before .before .before .before .before .before .before .before .before .before .before .before .before .before .before .before .slice-known .given i)) (omega (arith, c .before .before .before .before .before .before .before .before .before .before .before .before .before .before .before .before .before .before .before .before .fits .n)) (c .before .before .before .before .before .before .before .before .before .before .before .link-at .result) (c .before .before .before .before .before .before .before .before .before .before .before .link-at .ensures) (c .before .before .before .before .before .before .before .before .before .if1 .taken) (c .before .before .before .before .before .before .before .join2 .last .0) (c .before .before .put-row .last .0) (c .before .before .before .before .truncate .result) (c .before .before .before .before .before .before .before .join2 .ensures) (c .before .before .before .before .truncate .ensures) (c .before .before .put-row .ensures))
+returns c = let p11 = c .before .before .before .before .before .before .before .before .before .before .before in
+    let p13 = p11 .before .before in
+    let p16 = p13 .before .before .before in
+    let p19 = p16 .before .before .before in
+    let p20 = p19 .before in
+    let a = p20 .args in (struck-answer (a .view) (a .n) (p13 .loop .s) (c .before .before .before .before .truncate .result) (c .before .before .before .before .truncate .ensures), struck (p20 .args .table .now) (p20 .args .view) (p20 .args .n) (p13 .loop .table) (p13 .loop .last) (p13 .loop .s) (p20 .pre .0) (p13 .loop .inv .1 (p20 .args .table .now) (begins (p20 .args .table .now) (p20 .args .view) (p20 .args .n) (p16 .join .last .0) (p20 .pre .0) (λ i. omega (arith, p19 .slice-known .given i)) (p20 .pre .1 .0) (p20 .pre .1 .1) (p16 .join .ensures))) (λ i. omega (arith, p19 .slice-known .given i)) (omega (arith, p20 .fits .n)) (p11 .link-at .result) (p11 .link-at .ensures) (c .before .before .before .before .before .before .before .before .before .if1 .taken) (c .before .before .before .before .before .before .before .join2 .last .0) (c .before .before .put-row .last .0) (c .before .before .before .before .truncate .result) (c .before .before .before .before .before .before .before .join2 .ensures) (c .before .before .before .before .truncate .ensures) (c .before .before .put-row .ensures))
 
 pub strike-spec : {M : Type 1} → statement M
 strike-spec =

@@ -18,7 +18,8 @@ same-length : tie.Need-same-length
 same-length c = search needs
 
 returns-3 : tie.Need-returns-3
-returns-3 c = let a = c .before .before .before .before .before .before .before .before .before .before .args in truncate-done (a .table .now) (a .position) (a .view) (c .before .before .before .before .before .before .before .before .before .before .pre) (c .before .before .before .before .before .before .if1 .left) (c .before .before .before .before .if2 .left) (changeReply (c .before .before .strike .result)) (c .before .before .strike .last .0) (c .before .before .strike .ensures .0) (c .before .before .strike .ensures .1)
+returns-3 c = let p10 = c .before .before .before .before .before .before .before .before .before .before in
+    let a = p10 .args in truncate-done (a .table .now) (a .position) (a .view) (p10 .pre) (c .before .before .before .before .before .before .if1 .left) (c .before .before .before .before .if2 .left) (changeReply (c .before .before .strike .result)) (c .before .before .strike .last .0) (c .before .before .strike .ensures .0) (c .before .before .strike .ensures .1)
 
 pub truncate-open-spec : {M : Type 1} → statement M
 truncate-open-spec = tie.close (tie.spec returns returns-2 strike-requires same-length returns-3)

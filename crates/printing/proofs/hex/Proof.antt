@@ -1,6 +1,6 @@
 -- `printing::hex` is safe.
-use Prim.Native.Nat.{_≤_, _-_}
 use lib.ListN.{length}
+use Prim.Native.Nat.{_≤_, _-_}
 use borrow.Author.Needs.{needs}
 use Rattle.printing.proofs.hex.Statement.{statement}
 use Rattle.printing.proofs.hex.Tie as tie
@@ -14,14 +14,11 @@ abbrev μ-loop : tie.MeasureT-loop
 loop-holds : tie.Need-loop-holds Inv-loop μ-loop
 loop-holds c = search needs
 
-shared-slice-read-b : tie.Need-shared-slice-read-b Inv-loop μ-loop
-shared-slice-read-b c = search needs
+shared-slice-read-pair : tie.Need-shared-slice-read-pair Inv-loop μ-loop
+shared-slice-read-pair c = search needs
 
-digit-requires : tie.Need-digit-requires Inv-loop μ-loop
-digit-requires c κs = search needs
-
-digit-requires-2 : tie.Need-digit-requires-2 Inv-loop μ-loop
-digit-requires-2 c κs = search needs
+pair-requires : tie.Need-pair-requires Inv-loop μ-loop
+pair-requires c κs = search needs
 
 slice-aggregate-text : tie.Need-slice-aggregate-text Inv-loop μ-loop
 slice-aggregate-text c = search needs
@@ -48,9 +45,8 @@ hex-spec =
     Inv-loop
     μ-loop
     loop-holds
-    shared-slice-read-b
-    digit-requires
-    digit-requires-2
+    shared-slice-read-pair
+    pair-requires
     slice-aggregate-text
     text-requires
     add-i

@@ -3,7 +3,7 @@ use mathlib.Core.Path.{_≡_, refl, ap}
 use mathlib.Core.List.{List}
 use Prim.Native.Nat.{ℕ, _+_, _≤_}
 use native.Mathlib.Omega.{arith}
-use lib.ListN.{length, take, length-take}
+use lib.ListN.{length, length-take}
 use Rattle.octets.specs.Octets.{splice}
 use Rattle.octets.proofs.Parts.{length-splice}
 use Rattle.decimal.specs.Decimal.{decimalOf}

@@ -33,10 +33,11 @@ same-length : tie.Need-same-length
 same-length c = search needs
 
 returns-3 : tie.Need-returns-3
-returns-3 c = let x = c .before .before .before .before .before .before .before .before .before .before .before .before .before .before .before .before .before .before .before .before .before .before .before .args in
-    let pre = c .before .before .before .before .before .before .before .before .before .before .before .before .before .before .before .before .before .before .before .before .before .before .before .pre in
+returns-3 c = let p23 = c .before .before .before .before .before .before .before .before .before .before .before .before .before .before .before .before .before .before .before .before .before .before .before in
+    let x = p23 .args in
+    let pre = p23 .pre in
     collides (x .first1) (x .values1 .now) (x .first2) (x .values2 .now) (x .s) (x .out .now) (sym (c .before .before .before .before .before .before .before .before .before .before .before .before .before .equal .ensures) ∙ not-false _ (c .before .before .before .before .before .before .before .before .before .before .before .before .if1 .left)) (not-false _ (c .before .before .before .before .before .before .before .before .before .before .if2 .left))
-    (pre .0) (size-blockFrom (x .first1) (x .values1 .now) (x .s .kept .one) (pre .1 .0) (simp length-map at (c .before .before .before .before .before .before .before .before .before .before .before .before .before .before .before .before .before .before .before .before .before .before .before .good .0 .1 .1 .1 .1 .0 .1 .1 .1 .0 .1 .1 .1 .0 .1 .0 .1))) (size-blockFrom (x .first2) (x .values2 .now) (x .s .kept .two) (pre .1 .1) (simp length-map at (c .before .before .before .before .before .before .before .before .before .before .before .before .before .before .before .before .before .before .before .before .before .before .before .good .0 .1 .1 .1 .1 .0 .1 .1 .1 .1 .0 .1 .1 .1 .0 .1 .0 .1))) _ _
+    (pre .0) (size-blockFrom (x .first1) (x .values1 .now) (x .s .kept .one) (pre .1 .0) (simp length-map at (p23 .good .0 .1 .1 .1 .1 .0 .1 .1 .1 .0 .1 .1 .1 .0 .1 .0 .1))) (size-blockFrom (x .first2) (x .values2 .now) (x .s .kept .two) (pre .1 .1) (simp length-map at (p23 .good .0 .1 .1 .1 .1 .0 .1 .1 .1 .1 .0 .1 .1 .1 .0 .1 .0 .1))) _ _
     (c .before .before .before .before .before .before .put-block .ensures) (c .before .before .put-block2 .ensures)
 
 pub conclude-spec : {M : Type 1} → statement M

@@ -30,15 +30,16 @@ loop-holds c = let x = c .before .before .before .before .before .before .args i
     (omega arith, scan-start a b (x .i) (x .j) (c .before .point-at .ensures) (c .point-at2 .ensures))
 
 step-requires : tie.Need-step-requires Inv-loop μ-loop
-step-requires c κs = let x = c .before .before .before .before .before .before .before .before .args in
+step-requires c κs = let p8 = c .before .before .before .before .before .before .before .before in
+    let x = p8 .args in
     let a = run (x .start1 .now) (x .first1) (x .values1 .now) in
     let b = run (x .start2 .now) (x .first2) (x .values2 .now) in
     let l = c .before .loop in
     let e = scan-passed a b (x .i) (x .j) (l .k) in
     let e1 : l .s .one .passed ≡ x .i + l .k = ap (λ (s : Scan). s .one .passed) (l .inv .1) ∙ e .0 in
     let e2 : l .s .two .passed ≡ x .j + l .k = ap (λ (s : Scan). s .two .passed) (l .inv .1) ∙ e .1 in (
-      reaches-fewer (x .first1) (x .values1 .now) (l .s .one .passed + 1) (x .i + x .m) (omega arith) (c .before .before .before .before .before .before .before .before .pre .0 .1),
-      reaches-fewer (x .first2) (x .values2 .now) (l .s .two .passed + 1) (x .j + x .m) (omega arith) (c .before .before .before .before .before .before .before .before .pre .1 .1),
+      reaches-fewer (x .first1) (x .values1 .now) (l .s .one .passed + 1) (x .i + x .m) (omega arith) (p8 .pre .0 .1),
+      reaches-fewer (x .first2) (x .values2 .now) (l .s .two .passed + 1) (x .j + x .m) (omega arith) (p8 .pre .1 .1),
     )
 
 add-k : tie.Need-add-k Inv-loop μ-loop

@@ -41,13 +41,15 @@ slice-aggregate-put : tie.Need-slice-aggregate-put
 slice-aggregate-put c = search needs
 
 put-requires-2 : tie.Need-put-requires-2
-put-requires-2 c κs = let size : length (c .before .before .before .before .before .before .before .before .before .before .before .before .before .before .args .p .digest) ≡ 32 = simp length-map at (c .before .before .before .before .before .before .before .before .before .before .before .before .before .before .good .1 .1 .1 .1 .0 .1 .1 .1 .0 .1 .0 .1) in omega (arith, c .before .before .before .before .before .before .before .before .before .put-u64 .kept .0, c .before .before .before .before .put .kept .0)
+put-requires-2 c κs = let p14 = c .before .before .before .before .before .before .before .before .before .before .before .before .before .before in
+    let size : length (p14 .args .p .digest) ≡ 32 = simp length-map at (p14 .good .1 .1 .1 .1 .0 .1 .1 .1 .0 .1 .0 .1) in omega (arith, c .before .before .before .before .before .before .before .before .before .put-u64 .kept .0, c .before .before .before .before .put .kept .0)
 
 same-length : tie.Need-same-length
 same-length c = search needs
 
 returns : tie.Need-returns
-returns c = let x = c .before .before .before .before .before .before .before .before .before .before .before .before .before .before .before .before .before .args in put-is (x .first) (x .values .now) (x .p) (c .before .before .before .before .before .before .before .before .before .before .before .before .before .before .before .before .before .pre .1) (x .out .now) _ _ _ (x .at) (simp length-map at (c .before .before .before .before .before .before .before .before .before .before .before .before .before .before .before .before .before .good .1 .1 .1 .1 .0 .1 .1 .1 .0 .1 .0 .1)) (c .before .before .before .before .before .before .before .before .before .before .before .before .before .before .before .before .before .pre .0) (c .before .before .before .before .before .before .before .before .before .before .before .before .put-u64 .ensures) (c .before .before .before .before .before .before .before .put .ensures) (c .before .before .put2 .ensures)
+returns c = let p17 = c .before .before .before .before .before .before .before .before .before .before .before .before .before .before .before .before .before in
+    let x = p17 .args in put-is (x .first) (x .values .now) (x .p) (p17 .pre .1) (x .out .now) _ _ _ (x .at) (simp length-map at (p17 .good .1 .1 .1 .1 .0 .1 .1 .1 .0 .1 .0 .1)) (p17 .pre .0) (c .before .before .before .before .before .before .before .before .before .before .before .before .put-u64 .ensures) (c .before .before .before .before .before .before .before .put .ensures) (c .before .before .put2 .ensures)
 
 pub put-block-spec : {M : Type 1} → statement M
 put-block-spec =

@@ -61,7 +61,8 @@ equal-requires-2 : tie.Need-equal-requires-2
 equal-requires-2 c κs = search needs
 
 returns-3 : tie.Need-returns-3
-returns-3 c = let x = c .before .before .before .before .before .before .before .before .before .before .before .before .args in by-digest (x .first1) (x .values1 .now) (x .p) (x .first2) (x .values2 .now) (x .q) (c .before .before .before .before .before .before .before .before .before .before .before .before .pre .0) (c .before .before .before .before .before .before .before .before .before .before .before .before .pre .1) _ (c .before .before .before .before .before .before .before .before .before .if1 .left) (sym (c .before .before .before .before .before .before .equal .ensures) ∙ not-false _ (c .before .before .before .before .before .if2 .left)) (c .equal2 .ensures)
+returns-3 c = let p12 = c .before .before .before .before .before .before .before .before .before .before .before .before in
+    let x = p12 .args in by-digest (x .first1) (x .values1 .now) (x .p) (x .first2) (x .values2 .now) (x .q) (p12 .pre .0) (p12 .pre .1) _ (c .before .before .before .before .before .before .before .before .before .if1 .left) (sym (c .before .before .before .before .before .before .equal .ensures) ∙ not-false _ (c .before .before .before .before .before .if2 .left)) (c .equal2 .ensures)
 
 pub same-block-spec : {M : Type 1} → statement M
 same-block-spec =

@@ -1,13 +1,13 @@
 -- `script_cases::answers` meets its contract.
-use lib.Seq.{length-take-le}
-use native.Mathlib.Omega.{arith}
 use mathlib.Core.Path.{sym}
+use native.Mathlib.Omega.{arith}
+use lib.Seq.{length-take-le}
 use borrow.Author.Needs.{needs}
 use Rattle.script_cases.proofs.answers.Statement.{statement}
 use Rattle.script_cases.proofs.answers.Tie as tie
 
-large-buffer-requires : tie.Need-large-buffer-requires
-large-buffer-requires c κs = search needs
+room-requires : tie.Need-room-requires
+room-requires c κs = search needs
 
 slice-aggregate-feed : tie.Need-slice-aggregate-feed
 slice-aggregate-feed c = search needs
@@ -37,7 +37,7 @@ pub answers-spec : {M : Type 1} → statement M
 answers-spec =
     tie.close
     (tie.spec
-    large-buffer-requires
+    room-requires
     slice-aggregate-feed
     slice-aggregate-feed-2
     slice-aggregate-feed-3

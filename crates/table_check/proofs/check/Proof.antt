@@ -35,10 +35,13 @@ enum-told : tie.Need-enum-told
 enum-told c = search needs
 
 returns-3 : tie.Need-returns-3
-returns-3 c = torn-free (c .before .before .before .before .before .before .before .before .before .before .args .table .now) (c .before .before .before .before .before .before .logs-of .result) (c .before .before .before .before .before .slots-of .result) (counted (c .before .before .before .before .before .before .before .before .before .before .args .table .now) (c .before .before .before .before .before .before .logs-of .result) (c .before .before .before .before .before .slots-of .result) (c .before .before .before .before .before .before .before .before .header-fits .result) (c .before .before .before .before .before .before .before .before .header-fits .ensures) (c .before .before .before .before .before .before .before .if1 .left) (c .before .before .before .before .before .before .logs-of .ensures .0) (c .before .before .before .before .before .slots-of .ensures .0)) (sym (c .enum-told .given .1) ∙ c .before .before .free-walk .ensures)
+returns-3 c = let p8 = c .before .before .before .before .before .before .before .before in
+    let p10 = p8 .before .before in
+    torn-free (p10 .args .table .now) (c .before .before .before .before .before .before .logs-of .result) (c .before .before .before .before .before .slots-of .result) (counted (p10 .args .table .now) (c .before .before .before .before .before .before .logs-of .result) (c .before .before .before .before .before .slots-of .result) (p8 .header-fits .result) (p8 .header-fits .ensures) (c .before .before .before .before .before .before .before .if1 .left) (c .before .before .before .before .before .before .logs-of .ensures .0) (c .before .before .before .before .before .slots-of .ensures .0)) (sym (c .enum-told .given .1) ∙ c .before .before .free-walk .ensures)
 
 held-walk-requires : tie.Need-held-walk-requires
-held-walk-requires c κs = (counted (c .before .before .before .before .before .before .before .before .before .before .before .args .table .now) (c .before .before .before .before .before .before .before .logs-of .result) (c .before .before .before .before .before .before .slots-of .result) (c .before .before .before .before .before .before .before .before .before .header-fits .result) (c .before .before .before .before .before .before .before .before .before .header-fits .ensures) (c .before .before .before .before .before .before .before .before .if1 .left) (c .before .before .before .before .before .before .before .logs-of .ensures .0) (c .before .before .before .before .before .before .slots-of .ensures .0))
+held-walk-requires c κs = let p9 = c .before .before .before .before .before .before .before .before .before in
+    (counted (p9 .before .before .args .table .now) (c .before .before .before .before .before .before .before .logs-of .result) (c .before .before .before .before .before .before .slots-of .result) (p9 .header-fits .result) (p9 .header-fits .ensures) (c .before .before .before .before .before .before .before .before .if1 .left) (c .before .before .before .before .before .before .before .logs-of .ensures .0) (c .before .before .before .before .before .before .slots-of .ensures .0))
 
 enum-known-held : tie.Need-enum-known-held
 enum-known-held c = search needs
@@ -47,16 +50,34 @@ enum-told-2 : tie.Need-enum-told-2
 enum-told-2 c = search needs
 
 returns-4 : tie.Need-returns-4
-returns-4 c = torn-held (c .before .before .before .before .before .before .before .before .before .before .before .before .before .before .args .table .now) (c .before .before .before .before .before .before .before .before .before .before .logs-of .result) (c .before .before .before .before .before .before .before .before .before .slots-of .result) (counted (c .before .before .before .before .before .before .before .before .before .before .before .before .before .before .args .table .now) (c .before .before .before .before .before .before .before .before .before .before .logs-of .result) (c .before .before .before .before .before .before .before .before .before .slots-of .result) (c .before .before .before .before .before .before .before .before .before .before .before .before .header-fits .result) (c .before .before .before .before .before .before .before .before .before .before .before .before .header-fits .ensures) (c .before .before .before .before .before .before .before .before .before .before .before .if1 .left) (c .before .before .before .before .before .before .before .before .before .before .logs-of .ensures .0) (c .before .before .before .before .before .before .before .before .before .slots-of .ensures .0)) (sym (c .enum-told2 .given .1) ∙ c .before .before .held-walk .ensures)
+returns-4 c = let p9 = c .before .before .before .before .before .before .before .before .before in
+    let p10 = p9 .before in
+    let p12 = p10 .before .before in
+    let p14 = p12 .before .before in
+    torn-held (p14 .args .table .now) (p10 .logs-of .result) (p9 .slots-of .result) (counted (p14 .args .table .now) (p10 .logs-of .result) (p9 .slots-of .result) (p12 .header-fits .result) (p12 .header-fits .ensures) (p10 .before .if1 .left) (p10 .logs-of .ensures .0) (p9 .slots-of .ensures .0)) (sym (c .enum-told2 .given .1) ∙ c .before .before .held-walk .ensures)
 
 returns-5 : tie.Need-returns-5
-returns-5 c = torn-over (c .before .before .before .before .before .before .before .before .before .before .before .before .before .before .before .before .args .table .now) (c .before .before .before .before .before .before .before .before .before .before .before .before .logs-of .result) (c .before .before .before .before .before .before .before .before .before .before .before .slots-of .result) (counted (c .before .before .before .before .before .before .before .before .before .before .before .before .before .before .before .before .args .table .now) (c .before .before .before .before .before .before .before .before .before .before .before .before .logs-of .result) (c .before .before .before .before .before .before .before .before .before .before .before .slots-of .result) (c .before .before .before .before .before .before .before .before .before .before .before .before .before .before .header-fits .result) (c .before .before .before .before .before .before .before .before .before .before .before .before .before .before .header-fits .ensures) (c .before .before .before .before .before .before .before .before .before .before .before .before .before .if1 .left) (c .before .before .before .before .before .before .before .before .before .before .before .before .logs-of .ensures .0) (c .before .before .before .before .before .before .before .before .before .before .before .slots-of .ensures .0)) (c .before .before .before .before .before .before .count .given .0 .0) _ (c .before .before .held .given .0 .0) (sym (c .before .before .before .before .before .before .count .given .1) ∙ c .before .before .before .before .before .before .before .before .free-walk .ensures) (sym (c .before .before .held .given .1) ∙ c .before .before .before .before .held-walk .ensures) (c .if3 .taken)
+returns-5 c = let p11 = c .before .before .before .before .before .before .before .before .before .before .before in
+    let p12 = p11 .before in
+    let p14 = p12 .before .before in
+    let p16 = p14 .before .before in
+    torn-over (p16 .args .table .now) (p12 .logs-of .result) (p11 .slots-of .result) (counted (p16 .args .table .now) (p12 .logs-of .result) (p11 .slots-of .result) (p14 .header-fits .result) (p14 .header-fits .ensures) (p12 .before .if1 .left) (p12 .logs-of .ensures .0) (p11 .slots-of .ensures .0)) (c .before .before .before .before .before .before .count .given .0 .0) _ (c .before .before .held .given .0 .0) (sym (c .before .before .before .before .before .before .count .given .1) ∙ c .before .before .before .before .before .before .before .before .free-walk .ensures) (sym (c .before .before .held .given .1) ∙ c .before .before .before .before .held-walk .ensures) (c .if3 .taken)
 
 returns-6 : tie.Need-returns-6
-returns-6 c = torn-total (c .before .before .before .before .before .before .before .before .before .before .before .before .before .before .before .before .before .args .table .now) (c .before .before .before .before .before .before .before .before .before .before .before .before .before .logs-of .result) (c .before .before .before .before .before .before .before .before .before .before .before .before .slots-of .result) (counted (c .before .before .before .before .before .before .before .before .before .before .before .before .before .before .before .before .before .args .table .now) (c .before .before .before .before .before .before .before .before .before .before .before .before .before .logs-of .result) (c .before .before .before .before .before .before .before .before .before .before .before .before .slots-of .result) (c .before .before .before .before .before .before .before .before .before .before .before .before .before .before .before .header-fits .result) (c .before .before .before .before .before .before .before .before .before .before .before .before .before .before .before .header-fits .ensures) (c .before .before .before .before .before .before .before .before .before .before .before .before .before .before .if1 .left) (c .before .before .before .before .before .before .before .before .before .before .before .before .before .logs-of .ensures .0) (c .before .before .before .before .before .before .before .before .before .before .before .before .slots-of .ensures .0)) (c .before .before .before .before .before .before .before .count .given .0 .0) _ (c .before .before .before .held .given .0 .0) (sym (c .before .before .before .before .before .before .before .count .given .1) ∙ c .before .before .before .before .before .before .before .before .before .free-walk .ensures) (sym (c .before .before .before .held .given .1) ∙ c .before .before .before .before .before .held-walk .ensures) (c .before .if3 .left) (c .if4 .taken)
+returns-6 c = let p12 = c .before .before .before .before .before .before .before .before .before .before .before .before in
+    let p13 = p12 .before in
+    let p15 = p13 .before .before in
+    let p17 = p15 .before .before in
+    torn-total (p17 .args .table .now) (p13 .logs-of .result) (p12 .slots-of .result) (counted (p17 .args .table .now) (p13 .logs-of .result) (p12 .slots-of .result) (p15 .header-fits .result) (p15 .header-fits .ensures) (p13 .before .if1 .left) (p13 .logs-of .ensures .0) (p12 .slots-of .ensures .0)) (c .before .before .before .before .before .before .before .count .given .0 .0) _ (c .before .before .before .held .given .0 .0) (sym (c .before .before .before .before .before .before .before .count .given .1) ∙ c .before .before .before .before .before .before .before .before .before .free-walk .ensures) (sym (c .before .before .before .held .given .1) ∙ c .before .before .before .before .before .held-walk .ensures) (c .before .if3 .left) (c .if4 .taken)
 
 returns-7 : tie.Need-returns-7
-returns-7 c = is-whole (c .before .before .before .before .before .before .before .before .before .before .before .before .before .before .before .before .before .args .table .now) (c .before .before .before .before .before .before .before .before .before .before .before .before .before .logs-of .result) (c .before .before .before .before .before .before .before .before .before .before .before .before .slots-of .result) (counted (c .before .before .before .before .before .before .before .before .before .before .before .before .before .before .before .before .before .args .table .now) (c .before .before .before .before .before .before .before .before .before .before .before .before .before .logs-of .result) (c .before .before .before .before .before .before .before .before .before .before .before .before .slots-of .result) (c .before .before .before .before .before .before .before .before .before .before .before .before .before .before .before .header-fits .result) (c .before .before .before .before .before .before .before .before .before .before .before .before .before .before .before .header-fits .ensures) (c .before .before .before .before .before .before .before .before .before .before .before .before .before .before .if1 .left) (c .before .before .before .before .before .before .before .before .before .before .before .before .before .logs-of .ensures .0) (c .before .before .before .before .before .before .before .before .before .before .before .before .slots-of .ensures .0)) (c .before .before .before .before .before .before .before .count .given .0 .0) _ (c .before .before .before .held .given .0 .0) (sym (c .before .before .before .before .before .before .before .count .given .1) ∙ c .before .before .before .before .before .before .before .before .before .free-walk .ensures) (sym (c .before .before .before .held .given .1) ∙ c .before .before .before .before .before .held-walk .ensures) (c .before .before .before .before .before .before .before .before .before .before .before .before .before .before .before .header-fits .result) (c .before .before .before .before .before .before .before .before .before .before .before .pads-fit .result) (c .before .before .before .before .before .before .before .before .before .before .before .before .before .before .before .header-fits .ensures) (c .before .before .before .before .before .before .before .before .before .before .before .before .before .before .if1 .left) (c .before .before .before .before .before .before .before .before .before .before .before .pads-fit .ensures) (c .before .before .before .before .before .before .before .before .before .before .if2 .left) (c .before .if3 .left) (c .if4 .left)
+returns-7 c = let p11 = c .before .before .before .before .before .before .before .before .before .before .before in
+    let p12 = p11 .before in
+    let p13 = p12 .before in
+    let p14 = p13 .before in
+    let p15 = p14 .before in
+    let p17 = p15 .before .before in
+    is-whole (p17 .args .table .now) (p13 .logs-of .result) (p12 .slots-of .result) (counted (p17 .args .table .now) (p13 .logs-of .result) (p12 .slots-of .result) (p15 .header-fits .result) (p15 .header-fits .ensures) (p14 .if1 .left) (p13 .logs-of .ensures .0) (p12 .slots-of .ensures .0)) (c .before .before .before .before .before .before .before .count .given .0 .0) _ (c .before .before .before .held .given .0 .0) (sym (c .before .before .before .before .before .before .before .count .given .1) ∙ c .before .before .before .before .before .before .before .before .before .free-walk .ensures) (sym (c .before .before .before .held .given .1) ∙ c .before .before .before .before .before .held-walk .ensures) (p15 .header-fits .result) (p11 .pads-fit .result) (p15 .header-fits .ensures) (p14 .if1 .left) (p11 .pads-fit .ensures) (c .before .before .before .before .before .before .before .before .before .before .if2 .left) (c .before .if3 .left) (c .if4 .left)
 
 pub check-spec : {M : Type 1} → statement M
 check-spec =

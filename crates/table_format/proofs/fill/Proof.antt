@@ -56,7 +56,8 @@ same-length : tie.Need-same-length
 same-length c = search needs
 
 returns : tie.Need-returns
-returns c = let x = c .before .before .before .before .before .before .before .before .before .before .before .before .before .before in let a = x .args in three (a .table .now) (c .before .before .before .before .before .before .before .before .before .before .write-header .last .0) (c .before .before .before .before .before .before .fill-rows .last .0) (c .before .before .fill-slots .last .0) (a .logs) (a .slots) (a .keeper) (a .key .now) (x .pre .1 .0) (x .pre .1 .1) (c .before .before .before .before .before .before .before .before .before .before .write-header .ensures) (c .before .before .before .before .before .before .fill-rows .ensures) (c .before .before .fill-slots .ensures)
+returns c = let p10 = c .before .before .before .before .before .before .before .before .before .before in
+    let x = p10 .before .before .before .before in let a = x .args in three (a .table .now) (p10 .write-header .last .0) (c .before .before .before .before .before .before .fill-rows .last .0) (c .before .before .fill-slots .last .0) (a .logs) (a .slots) (a .keeper) (a .key .now) (x .pre .1 .0) (x .pre .1 .1) (p10 .write-header .ensures) (c .before .before .before .before .before .before .fill-rows .ensures) (c .before .before .fill-slots .ensures)
 
 pub fill-spec : {M : Type 1} → statement M
 fill-spec =

@@ -22,7 +22,8 @@ enum-known-view : tie.Need-enum-known-view
 enum-known-view c = search needs
 
 advance-open-requires : tie.Need-advance-open-requires
-advance-open-requires c κs = (opened (c .before .before .before .before .before .before .before .before .before .before .before .args .table .now) (c .before .before .before .before .before .before .before .before .before .before .before .args .log) (c .before .before .view .given .0 .0) (sym (c .before .before .view .given .1) ∙ c .before .before .before .before .«open» .ensures) .0, (c .before .before .before .before .before .before .before .if1 .left, c .before .before .before .before .before .before .if2 .left))
+advance-open-requires c κs = let p11 = c .before .before .before .before .before .before .before .before .before .before .before in
+    (opened (p11 .args .table .now) (p11 .args .log) (c .before .before .view .given .0 .0) (sym (c .before .before .view .given .1) ∙ c .before .before .before .before .«open» .ensures) .0, (c .before .before .before .before .before .before .before .if1 .left, c .before .before .before .before .before .before .if2 .left))
 
 enum-known-why : tie.Need-enum-known-why
 enum-known-why c = search needs

@@ -19,7 +19,8 @@ enum-known-view : tie.Need-enum-known-view
 enum-known-view c = search needs
 
 append-open-requires : tie.Need-append-open-requires
-append-open-requires c κs = (opened (c .before .before .before .before .before .before .before .before .before .args .table .now) (c .before .before .before .before .before .before .before .before .before .args .log) (c .before .before .view .given .0 .0) (sym (c .before .before .view .given .1) ∙ c .before .before .before .before .«open» .ensures) .0, c .before .before .before .before .before .before .if1 .left)
+append-open-requires c κs = let p9 = c .before .before .before .before .before .before .before .before .before in
+    (opened (p9 .args .table .now) (p9 .args .log) (c .before .before .view .given .0 .0) (sym (c .before .before .view .given .1) ∙ c .before .before .before .before .«open» .ensures) .0, c .before .before .before .before .before .before .if1 .left)
 
 enum-known-why : tie.Need-enum-known-why
 enum-known-why c = search needs
@@ -28,13 +29,15 @@ same-length : tie.Need-same-length
 same-length c = search needs
 
 returns-2 : tie.Need-returns-2
-returns-2 c = at-log (c .before .before .before .before .before .before .before .before .before .before .before .before .args .table .now) (λ (g : ℕ). append g (c .before .before .before .before .before .before .before .before .before .before .before .before .args .value .now)) (changeReply (c .before .before .append-open .result)) (c .before .before .append-open .last .0) (opened (c .before .before .before .before .before .before .before .before .before .before .before .before .args .table .now) (c .before .before .before .before .before .before .before .before .before .before .before .before .args .log) (c .before .before .before .before .before .view .given .0 .0) (sym (c .before .before .before .before .before .view .given .1) ∙ c .before .before .before .before .before .before .before .«open» .ensures) .1) (c .before .before .append-open .ensures)
+returns-2 c = let p12 = c .before .before .before .before .before .before .before .before .before .before .before .before in
+    at-log (p12 .args .table .now) (λ (g : ℕ). append g (p12 .args .value .now)) (changeReply (c .before .before .append-open .result)) (c .before .before .append-open .last .0) (opened (p12 .args .table .now) (p12 .args .log) (c .before .before .before .before .before .view .given .0 .0) (sym (c .before .before .before .before .before .view .given .1) ∙ c .before .before .before .before .before .before .before .«open» .ensures) .1) (c .before .before .append-open .ensures)
 
 same-length-2 : tie.Need-same-length-2
 same-length-2 c = search needs
 
 returns-3 : tie.Need-returns-3
-returns-3 c = unopened (c .before .before .before .before .before .before .before .before .args .table .now) (c .before .before .before .before .before .before .before .before .args .log) (c .before .why .given .0 .0) (append (c .before .before .before .before .before .before .before .before .args .log) (c .before .before .before .before .before .before .before .before .args .value .now)) (sym (c .before .why .given .1) ∙ c .before .before .before .«open» .ensures) refl (append-sized (c .before .before .before .before .before .before .before .before .args .table .now) (c .before .before .before .before .before .before .before .before .args .value .now) (c .before .before .before .before .before .before .before .before .args .log) (c .before .before .before .before .before .if1 .left))
+returns-3 c = let p8 = c .before .before .before .before .before .before .before .before in
+    unopened (p8 .args .table .now) (p8 .args .log) (c .before .why .given .0 .0) (append (p8 .args .log) (p8 .args .value .now)) (sym (c .before .why .given .1) ∙ c .before .before .before .«open» .ensures) refl (append-sized (p8 .args .table .now) (p8 .args .value .now) (p8 .args .log) (c .before .before .before .before .before .if1 .left))
 
 pub append-spec : {M : Type 1} → statement M
 append-spec =

@@ -21,19 +21,22 @@ append-requires : tie.Need-append-requires
 append-requires c κs = search needs
 
 digest-after-requires : tie.Need-digest-after-requires
-digest-after-requires c κs = let a = c .before .before .before .before .before .before .before .before .before .args in (opened-counted (a .table .now) (a .view) (c .before .before .before .before .before .before .before .before .before .pre .0), (last-most (a .table .now) (a .view) (c .before .before .before .before .before .before .before .before .before .pre .0), c .before .before .before .before .before .before .before .before .before .pre .1))
+digest-after-requires c κs = let p9 = c .before .before .before .before .before .before .before .before .before in
+    let a = p9 .args in (opened-counted (a .table .now) (a .view) (p9 .pre .0), (last-most (a .table .now) (a .view) (p9 .pre .0), p9 .pre .1))
 
 slice-aggregate-enter : tie.Need-slice-aggregate-enter
 slice-aggregate-enter c = search needs
 
 enter-requires : tie.Need-enter-requires
-enter-requires c κs = let a = c .before .before .before .before .before .before .before .before .before .before .before .before .args in let f : a .view .free ≢ 0 = c .before .before .before .before .before .if2 .left in (c .before .before .before .before .before .before .before .before .before .before .before .before .pre .0, (omega arith, (append-high (a .view .row) (c .before .before .before .before .append .result) (a .view .free) (c .before .before .before .before .append .ensures), (append-fits (a .view .row) (c .before .before .before .before .append .result) (a .view .free) (c .before .before .before .before .append .ensures) (omega (arith, c .before .before .before .before .before .before .before .before .struct-known .given)) (c .before .before .before .before .before .before .before .if1 .left), (c .before .before .before .before .before .before .before .before .before .before .before .before .pre .1, ap length (c .before .before .digest-after .ensures) ∙ length-entryDigest _ _ _)))))
+enter-requires c κs = let p12 = c .before .before .before .before .before .before .before .before .before .before .before .before in
+    let a = p12 .args in let f : a .view .free ≢ 0 = c .before .before .before .before .before .if2 .left in (p12 .pre .0, (omega arith, (append-high (a .view .row) (c .before .before .before .before .append .result) (a .view .free) (c .before .before .before .before .append .ensures), (append-fits (a .view .row) (c .before .before .before .before .append .result) (a .view .free) (c .before .before .before .before .append .ensures) (omega (arith, c .before .before .before .before .before .before .before .before .struct-known .given)) (c .before .before .before .before .before .before .before .if1 .left), (p12 .pre .1, ap length (c .before .before .digest-after .ensures) ∙ length-entryDigest _ _ _)))))
 
 same-length : tie.Need-same-length
 same-length c = search needs
 
 returns-3 : tie.Need-returns-3
-returns-3 c = let a = c .before .before .before .before .before .before .before .before .before .before .before .before .before .before .before .args in append-done (a .table .now) (a .value .now) (a .view) (c .before .before .before .before .before .before .before .before .before .before .before .before .before .before .before .pre .0) (c .before .before .before .before .before .before .before .before .before .before .before .before .before .before .before .pre .1) (c .before .before .before .before .before .before .before .before .before .before .if1 .left) (c .before .before .before .before .before .before .before .before .if2 .left) (c .before .before .before .before .before .before .before .append .result) (c .before .before .before .before .before .digest-after .result) (c .before .before .before .before .before .before .before .append .ensures) (c .before .before .before .before .before .digest-after .ensures) (changeReply (c .before .before .enter .result)) (c .before .before .enter .last .0) (c .before .before .enter .ensures .0) (c .before .before .enter .ensures .1)
+returns-3 c = let p15 = c .before .before .before .before .before .before .before .before .before .before .before .before .before .before .before in
+    let a = p15 .args in append-done (a .table .now) (a .value .now) (a .view) (p15 .pre .0) (p15 .pre .1) (c .before .before .before .before .before .before .before .before .before .before .if1 .left) (c .before .before .before .before .before .before .before .before .if2 .left) (c .before .before .before .before .before .before .before .append .result) (c .before .before .before .before .before .digest-after .result) (c .before .before .before .before .before .before .before .append .ensures) (c .before .before .before .before .before .digest-after .ensures) (changeReply (c .before .before .enter .result)) (c .before .before .enter .last .0) (c .before .before .enter .ensures .0) (c .before .before .enter .ensures .1)
 
 pub append-open-spec : {M : Type 1} → statement M
 append-open-spec =

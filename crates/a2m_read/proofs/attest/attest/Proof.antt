@@ -18,7 +18,8 @@ slice-aggregate-put-receipt-2 : tie.Need-slice-aggregate-put-receipt-2
 slice-aggregate-put-receipt-2 c = search needs
 
 put-receipt-requires : tie.Need-put-receipt-requires
-put-receipt-requires c κs = let a = c .before .before .before .before .before .before .before .before .args in let p = c .before .before .before .before .before .before .before .before .pre in ((p .1 .1 .1, key-size (a .table .now) (a .logs) (a .slots) _ (p .0) (c .before .before .before .before .key-of .ensures)), (p .1 .1 .0, (refl, refl)))
+put-receipt-requires c κs = let p8 = c .before .before .before .before .before .before .before .before in
+    let a = p8 .args in let p = p8 .pre in ((p .1 .1 .1, key-size (a .table .now) (a .logs) (a .slots) _ (p .0) (c .before .before .before .before .key-of .ensures)), (p .1 .1 .0, (refl, refl)))
 
 same-length : tie.Need-same-length
 same-length c = search needs
@@ -34,7 +35,8 @@ digest-at-requires : tie.Need-digest-at-requires
 digest-at-requires c κs = search needs
 
 put-receipt-requires-2 : tie.Need-put-receipt-requires-2
-put-receipt-requires-2 c κs = let a = c .before .before .before .before .before .before .before .before .args in let p = c .before .before .before .before .before .before .before .before .pre in ((p .1 .1 .1, key-size (a .table .now) (a .logs) (a .slots) _ (p .0) (c .before .before .before .before .key-of .ensures)), (p .1 .1 .0, (ap length (c .before .before .value-at .ensures) ∙ value-size (a .table .now) (a .logs) (a .slots) (a .s) (p .0) (c .before .before .before .if1 .left) (p .1 .0), ap length (c .before .digest-at .ensures) ∙ digest-size (a .table .now) (a .logs) (a .slots) (a .s) (p .0) (c .before .before .before .if1 .left) (p .1 .0))))
+put-receipt-requires-2 c κs = let p8 = c .before .before .before .before .before .before .before .before in
+    let a = p8 .args in let p = p8 .pre in ((p .1 .1 .1, key-size (a .table .now) (a .logs) (a .slots) _ (p .0) (c .before .before .before .before .key-of .ensures)), (p .1 .1 .0, (ap length (c .before .before .value-at .ensures) ∙ value-size (a .table .now) (a .logs) (a .slots) (a .s) (p .0) (c .before .before .before .if1 .left) (p .1 .0), ap length (c .before .digest-at .ensures) ∙ digest-size (a .table .now) (a .logs) (a .slots) (a .s) (p .0) (c .before .before .before .if1 .left) (p .1 .0))))
 
 same-length-2 : tie.Need-same-length-2
 same-length-2 c = search needs

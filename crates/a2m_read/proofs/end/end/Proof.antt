@@ -23,7 +23,8 @@ enum-known-view : tie.Need-enum-known-view
 enum-known-view c = search needs
 
 end-open-requires : tie.Need-end-open-requires
-end-open-requires c κs = (opened (c .before .before .before .before .before .before .before .before .before .before .args .table .now) (c .before .before .before .before .before .before .before .before .before .before .args .log) (c .before .before .view .given .0 .0) (sym (c .before .before .view .given .1) ∙ c .before .before .before .before .«open» .ensures) .0, (c .before .before .before .before .before .before .if1 .left, c .before .before .before .before .before .if2 .left))
+end-open-requires c κs = let p10 = c .before .before .before .before .before .before .before .before .before .before in
+    (opened (p10 .args .table .now) (p10 .args .log) (c .before .before .view .given .0 .0) (sym (c .before .before .view .given .1) ∙ c .before .before .before .before .«open» .ensures) .0, (c .before .before .before .before .before .before .if1 .left, c .before .before .before .before .before .if2 .left))
 
 enum-known-why : tie.Need-enum-known-why
 enum-known-why c = search needs

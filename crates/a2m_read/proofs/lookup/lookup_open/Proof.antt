@@ -19,13 +19,15 @@ cast-t12 : tie.Need-cast-t12
 cast-t12 c = let a = c .before .before .before .before .before .before .before .args in let l = opened-log (a .table .now) (a .view) (c .before .before .before .before .before .before .before .pre .0) in let k = opened-counted (a .table .now) (a .view) (c .before .before .before .before .before .before .before .pre .0) .logs-most in omega arith
 
 attest-requires : tie.Need-attest-requires
-attest-requires c κs = let a = c .before .before .before .before .before .before .before .before .args in let p = c .before .before .before .before .before .before .before .before .pre in (opened-counted (a .table .now) (a .view) (p .0), (c .before .before .before .find .ensures .0, (p .1 .0, p .1 .1)))
+attest-requires c κs = let p8 = c .before .before .before .before .before .before .before .before in
+    let a = p8 .args in let p = p8 .pre in (opened-counted (a .table .now) (a .view) (p .0), (c .before .before .before .find .ensures .0, (p .1 .0, p .1 .1)))
 
 same-length : tie.Need-same-length
 same-length c = search needs
 
 returns-2 : tie.Need-returns-2
-returns-2 c = let a = c .before .before .before .before .before .before .before .before .before .before .before .args in let p = c .before .before .before .before .before .before .before .before .before .before .before .pre in lookup-done (a .table .now) (a .nonce .now) (a .receipt .now) (a .position) (a .view) (p .0) (p .1 .0) (p .1 .1) (c .before .before .before .before .before .before .before .if1 .left) (c .before .before .before .before .before .before .find .result) (c .before .before .before .before .before .keeper-of .result) (c .before .before .attest .last .1 .1 .1 .1 .1 .1 .0) (c .before .before .before .before .before .before .find .ensures .1) (c .before .before .before .before .before .keeper-of .ensures) (c .before .before .attest .ensures)
+returns-2 c = let p11 = c .before .before .before .before .before .before .before .before .before .before .before in
+    let a = p11 .args in let p = p11 .pre in lookup-done (a .table .now) (a .nonce .now) (a .receipt .now) (a .position) (a .view) (p .0) (p .1 .0) (p .1 .1) (c .before .before .before .before .before .before .before .if1 .left) (c .before .before .before .before .before .before .find .result) (c .before .before .before .before .before .keeper-of .result) (c .before .before .attest .last .1 .1 .1 .1 .1 .1 .0) (c .before .before .before .before .before .before .find .ensures .1) (c .before .before .before .before .before .keeper-of .ensures) (c .before .before .attest .ensures)
 
 pub lookup-open-spec : {M : Type 1} → statement M
 lookup-open-spec =

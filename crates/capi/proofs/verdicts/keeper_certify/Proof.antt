@@ -21,13 +21,13 @@ number-requires c κs = search needs
 
 returns : tie.Need-returns
 returns c = let a = c .before .before .before .before .before .before .before .args in
-    let e = ap stationAnswer (sym (c .before .p .given .1)) ∙ c .before .before .before .certify .ensures in
+    let e = ap stationAnswer (sym (c .before .p .given .1)) ∙ c .before .before .before .certify .ensures .0 in
     subst (Certifies _ _ _ (a .place .now) (a .mask .now)) e (certified _ _ (a .place .now) (a .mask .now))
 
 returns-2 : tie.Need-returns-2
 returns-2 c = let a = c .before .before .before .before .before .before .before .before .args in
     let w = c .before .before .why .given in
-    let e = ap stationAnswer (sym (w .1)) ∙ c .before .before .before .before .certify .ensures in
+    let e = ap stationAnswer (sym (w .1)) ∙ c .before .before .before .before .certify .ensures .0 in
     let r = subst (Certifies (numberOf (w .0 .0)) (a .place .now) (a .mask .now) (a .place .now) (a .mask .now)) e (not-certified (w .0 .0) (a .place .now) (a .mask .now)) in
     (c .number .ensures ∙ r .0, r .1)
 

@@ -57,13 +57,13 @@ enum-told-2 c = search needs
 returns-2 : tie.Need-returns-2
 returns-2 c =
     let n : c .before .before .before .before .before .i .given .0 .0 * 40 + 8 + 32 - (c .before .before .before .before .before .i .given .0 .0 * 40 + 8) ≡ 32 = omega arith in
-    ap (noted (c .before .before .before .before .before .before .before .before .before .before .before .before .args .tally .codes) (c .before .before .before .before .before .before .before .before .before .before .before .before .args .p)) (passed-over (c .before .before .before .before .before .before .before .before .before .before .before .before .args .roster .now) (c .before .before .before .before .before .before .before .before .before .before .before .before .args .nonce .now) (c .before .before .before .before .before .before .before .before .before .before .before .before .args .log) (c .before .before .before .before .before .before .before .before .before .before .before .before .args .position) (c .before .before .before .before .before .before .before .before .before .before .before .before .args .r .now) (c .before .before .before .before .before .before .before .before .keeper-of .result) (c .before .before .before .before .before .i .given .0 .0) (c .before .before .before .before .before .i .given .0 .0 * 40 + 8 + 32 - (c .before .before .before .before .before .i .given .0 .0 * 40 + 8)) (c .before .before .before .before .before .before .before .before .keeper-of .ensures) (sym (c .before .before .before .before .before .before .before .find .ensures) ∙ c .before .before .before .before .before .i .given .1) n (c .enum-told2 .given .0 .0) (ap verdictAnswer (sym (c .enum-told2 .given .1)) ∙ c .before .before .verify .ensures))
+    ap (noted (c .before .before .before .before .before .before .before .before .before .before .before .before .args .tally .codes) (c .before .before .before .before .before .before .before .before .before .before .before .before .args .p)) (passed-over (c .before .before .before .before .before .before .before .before .before .before .before .before .args .roster .now) (c .before .before .before .before .before .before .before .before .before .before .before .before .args .nonce .now) (c .before .before .before .before .before .before .before .before .before .before .before .before .args .log) (c .before .before .before .before .before .before .before .before .before .before .before .before .args .position) (c .before .before .before .before .before .before .before .before .before .before .before .before .args .r .now) (c .before .before .before .before .before .before .before .before .keeper-of .result) (c .before .before .before .before .before .i .given .0 .0) (c .before .before .before .before .before .i .given .0 .0 * 40 + 8 + 32 - (c .before .before .before .before .before .i .given .0 .0 * 40 + 8)) (c .before .before .before .before .before .before .before .before .keeper-of .ensures) (sym (c .before .before .before .before .before .before .before .find .ensures) ∙ c .before .before .before .before .before .i .given .1) n (c .enum-told2 .given .0 .0) (ap verdictAnswer (sym (c .enum-told2 .given .1)) ∙ c .before .before .verify .ensures .0))
 
 returns-3 : tie.Need-returns-3
 returns-3 c =
     let n : c .before .before .before .before .before .before .before .i .given .0 .0 * 40 + 8 + 32 - (c .before .before .before .before .before .before .before .i .given .0 .0 * 40 + 8) ≡ 32 = omega arith in
     let g = c .before .before .kind .given in
-    ap (noted (c .before .before .before .before .before .before .before .before .before .before .before .before .before .before .args .tally .codes) (c .before .before .before .before .before .before .before .before .before .before .before .before .before .before .args .p)) (other-kind (c .before .before .before .before .before .before .before .before .before .before .before .before .before .before .args .roster .now) (c .before .before .before .before .before .before .before .before .before .before .before .before .before .before .args .nonce .now) (c .before .before .before .before .before .before .before .before .before .before .before .before .before .before .args .log) (c .before .before .before .before .before .before .before .before .before .before .before .before .before .before .args .position) (c .before .before .before .before .before .before .before .before .before .before .before .before .before .before .args .r .now) (c .before .before .before .before .before .before .before .before .before .before .keeper-of .result) (c .before .before .before .before .before .before .before .i .given .0 .0) (c .before .before .before .before .before .before .before .i .given .0 .0 * 40 + 8 + 32 - (c .before .before .before .before .before .before .before .i .given .0 .0 * 40 + 8)) (c .before .before .before .before .before .before .before .before .before .before .keeper-of .ensures) (sym (c .before .before .before .before .before .before .before .before .before .find .ensures) ∙ c .before .before .before .before .before .before .before .i .given .1) n (g .0 .0) (g .0 .1 .0) (g .0 .1 .1 .0) (g .0 .1 .1 .1 .0) (g .0 .1 .1 .1 .1 .0) (ap verdictAnswer (sym (g .1)) ∙ c .before .before .before .before .verify .ensures) (c .if1 .taken))
+    ap (noted (c .before .before .before .before .before .before .before .before .before .before .before .before .before .before .args .tally .codes) (c .before .before .before .before .before .before .before .before .before .before .before .before .before .before .args .p)) (other-kind (c .before .before .before .before .before .before .before .before .before .before .before .before .before .before .args .roster .now) (c .before .before .before .before .before .before .before .before .before .before .before .before .before .before .args .nonce .now) (c .before .before .before .before .before .before .before .before .before .before .before .before .before .before .args .log) (c .before .before .before .before .before .before .before .before .before .before .before .before .before .before .args .position) (c .before .before .before .before .before .before .before .before .before .before .before .before .before .before .args .r .now) (c .before .before .before .before .before .before .before .before .before .before .keeper-of .result) (c .before .before .before .before .before .before .before .i .given .0 .0) (c .before .before .before .before .before .before .before .i .given .0 .0 * 40 + 8 + 32 - (c .before .before .before .before .before .before .before .i .given .0 .0 * 40 + 8)) (c .before .before .before .before .before .before .before .before .before .before .keeper-of .ensures) (sym (c .before .before .before .before .before .before .before .before .before .find .ensures) ∙ c .before .before .before .before .before .before .before .i .given .1) n (g .0 .0) (g .0 .1 .0) (g .0 .1 .1 .0) (g .0 .1 .1 .1 .0) (g .0 .1 .1 .1 .1 .0) (ap verdictAnswer (sym (g .1)) ∙ c .before .before .before .before .verify .ensures .0) (c .if1 .taken))
 
 add-codes : tie.Need-add-codes
 add-codes c = let h = member-below (c .before .before .before .before .before .before .before .before .before .before .before .before .before .before .before .args .roster .now) (c .before .before .before .before .before .before .before .before .before .before .before .keeper-of .result) (length (c .before .before .before .before .before .before .before .before .before .before .before .before .before .before .before .args .roster .now) / 40) (c .before .before .before .before .before .before .before .before .i .given .0 .0) (sym (c .before .before .before .before .before .before .before .before .before .before .find .ensures) ∙ c .before .before .before .before .before .before .before .before .i .given .1) in omega arith
@@ -79,7 +79,7 @@ returns-4 : tie.Need-returns-4
 returns-4 c =
     let n : c .before .before .before .before .before .before .before .before .i .given .0 .0 * 40 + 8 + 32 - (c .before .before .before .before .before .before .before .before .i .given .0 .0 * 40 + 8) ≡ 32 = omega arith in
     let g = c .before .before .before .kind .given in
-    ap (noted (c .before .before .before .before .before .before .before .before .before .before .before .before .before .before .before .args .tally .codes) (c .before .before .before .before .before .before .before .before .before .before .before .before .before .before .before .args .p)) (counted (c .before .before .before .before .before .before .before .before .before .before .before .before .before .before .before .args .roster .now) (c .before .before .before .before .before .before .before .before .before .before .before .before .before .before .before .args .nonce .now) (c .before .before .before .before .before .before .before .before .before .before .before .before .before .before .before .args .log) (c .before .before .before .before .before .before .before .before .before .before .before .before .before .before .before .args .position) (c .before .before .before .before .before .before .before .before .before .before .before .before .before .before .before .args .r .now) (c .before .before .before .before .before .before .before .before .before .before .before .keeper-of .result) (c .before .before .before .before .before .before .before .before .i .given .0 .0) (c .before .before .before .before .before .before .before .before .i .given .0 .0 * 40 + 8 + 32 - (c .before .before .before .before .before .before .before .before .i .given .0 .0 * 40 + 8)) (c .before .before .before .before .before .before .before .before .before .before .before .keeper-of .ensures) (sym (c .before .before .before .before .before .before .before .before .before .before .find .ensures) ∙ c .before .before .before .before .before .before .before .before .i .given .1) n (g .0 .0) (g .0 .1 .0) (g .0 .1 .1 .0) (g .0 .1 .1 .1 .0) (g .0 .1 .1 .1 .1 .0) (ap verdictAnswer (sym (g .1)) ∙ c .before .before .before .before .before .verify .ensures) (c .before .if1 .left))
+    ap (noted (c .before .before .before .before .before .before .before .before .before .before .before .before .before .before .before .args .tally .codes) (c .before .before .before .before .before .before .before .before .before .before .before .before .before .before .before .args .p)) (counted (c .before .before .before .before .before .before .before .before .before .before .before .before .before .before .before .args .roster .now) (c .before .before .before .before .before .before .before .before .before .before .before .before .before .before .before .args .nonce .now) (c .before .before .before .before .before .before .before .before .before .before .before .before .before .before .before .args .log) (c .before .before .before .before .before .before .before .before .before .before .before .before .before .before .before .args .position) (c .before .before .before .before .before .before .before .before .before .before .before .before .before .before .before .args .r .now) (c .before .before .before .before .before .before .before .before .before .before .before .keeper-of .result) (c .before .before .before .before .before .before .before .before .i .given .0 .0) (c .before .before .before .before .before .before .before .before .i .given .0 .0 * 40 + 8 + 32 - (c .before .before .before .before .before .before .before .before .i .given .0 .0 * 40 + 8)) (c .before .before .before .before .before .before .before .before .before .before .before .keeper-of .ensures) (sym (c .before .before .before .before .before .before .before .before .before .before .find .ensures) ∙ c .before .before .before .before .before .before .before .before .i .given .1) n (g .0 .0) (g .0 .1 .0) (g .0 .1 .1 .0) (g .0 .1 .1 .1 .0) (g .0 .1 .1 .1 .1 .0) (ap verdictAnswer (sym (g .1)) ∙ c .before .before .before .before .before .verify .ensures .0) (c .before .if1 .left))
 
 pub count-receipt-spec : {M : Type 1} → statement M
 count-receipt-spec =

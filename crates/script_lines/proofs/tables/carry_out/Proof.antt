@@ -3,9 +3,10 @@ use Rattle.a2m.proofs.Unchanged.{read-unchanged}
 use lib.ListN.{take}
 use Rattle.script.specs.Script.{commandAnswer, commandTable, Turns}
 use Rattle.line.specs.declared.Command.{Command}
+use Rattle.script.specs.declared.Answer.the-variants.{Plain}
 use Rattle.script.proofs.TurnLaws.{call-turns, keeps-table, bytes-first}
 use native.Mathlib.Omega.{arith}
-use mathlib.Core.Path.{refl, sym, subst}
+use mathlib.Core.Path.{refl, sym, ap, subst, _∙_}
 use borrow.Author.Needs.{needs}
 use Rattle.script_lines.proofs.tables.carry_out.Statement.{statement}
 use Rattle.script_lines.proofs.tables.carry_out.Tie as tie
@@ -100,6 +101,12 @@ end-requires c κs = search needs
 enum-told : tie.Need-enum-told
 enum-told c = search needs
 
+number-requires : tie.Need-number-requires
+number-requires c κs = search needs
+
+wide-requires : tie.Need-wide-requires
+wide-requires c κs = search needs
+
 same-length-2 : tie.Need-same-length-2
 same-length-2 c = search needs
 
@@ -147,7 +154,8 @@ returns-6 c = let a = c .before .before .before .before .before .before .before 
 
 returns-7 : tie.Need-returns-7
 unfolding commandAnswer commandTable
-returns-7 c = keeps-table (c .before .before .before .args .buffer .now) (c .before .before .before .args .size) _ _ (c .enum-told .given .1) (omega arith) (omega arith) refl refl
+returns-7 c = let a = c .before .before .before .before .before .args in
+    keeps-table (a .buffer .now) (a .size) _ (Plain (c .wide .result)) (c .before .before .enum-told .given .1) (omega arith) (omega arith) (ap Plain (c .wide .ensures .0 ∙ c .before .number .ensures)) refl
 
 pub carry-out-spec : {M : Type 1} → statement M
 carry-out-spec =
@@ -183,6 +191,8 @@ carry-out-spec =
     part-end-end
     end-requires
     enum-told
+    number-requires
+    wide-requires
     same-length-2
     returns-2
     same-length-3

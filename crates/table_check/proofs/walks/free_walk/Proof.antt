@@ -40,13 +40,15 @@ link-at-requires : tie.Need-link-at-requires Inv-loop μ-loop
 link-at-requires c κs = search needs
 
 returns-3 : tie.Need-returns-3 Inv-loop μ-loop
-returns-3 c = let a = c .before .before .before .before .before .before .before .before .before .args in let l = c .before .before .before .before .before .before .loop in free-owner (readTable (a .table .now) .slots) (a .slots) (len (a .table .now) (a .logs) (a .slots) (c .before .before .before .before .before .before .before .before .before .pre)) _ (l .n) (l .last) (l .s) (l .inv .1) (c .before .before .before .before .before .loop-test .taken) (c .before .before .link-at .result) (c .before .before .link-at .ensures) (c .before .before .before .if2 .left) (c .if3 .taken)
+returns-3 c = let p9 = c .before .before .before .before .before .before .before .before .before in
+    let a = p9 .args in let l = c .before .before .before .before .before .before .loop in free-owner (readTable (a .table .now) .slots) (a .slots) (len (a .table .now) (a .logs) (a .slots) (p9 .pre)) _ (l .n) (l .last) (l .s) (l .inv .1) (c .before .before .before .before .before .loop-test .taken) (c .before .before .link-at .result) (c .before .before .link-at .ensures) (c .before .before .before .if2 .left) (c .if3 .taken)
 
 is-blank-requires : tie.Need-is-blank-requires Inv-loop μ-loop
 is-blank-requires c κs = search needs
 
 returns-4 : tie.Need-returns-4 Inv-loop μ-loop
-returns-4 c = let a = c .before .before .before .before .before .before .before .before .before .before .before .args in let l = c .before .before .before .before .before .before .before .before .loop in free-dirty (readTable (a .table .now) .slots) (a .slots) (len (a .table .now) (a .logs) (a .slots) (c .before .before .before .before .before .before .before .before .before .before .before .pre)) _ (l .n) (l .last) (l .s) (l .inv .1) (c .before .before .before .before .before .before .before .loop-test .taken) (c .before .before .before .before .link-at .result) (c .before .before .before .before .link-at .ensures) (c .before .before .before .before .before .if2 .left) (c .before .before .if3 .left) (l .inv .0) (c .before .before .before .before .before .before .if1 .left) (c .before .is-blank .result) (c .before .is-blank .ensures) (c .if4 .taken)
+returns-4 c = let p11 = c .before .before .before .before .before .before .before .before .before .before .before in
+    let a = p11 .args in let l = c .before .before .before .before .before .before .before .before .loop in free-dirty (readTable (a .table .now) .slots) (a .slots) (len (a .table .now) (a .logs) (a .slots) (p11 .pre)) _ (l .n) (l .last) (l .s) (l .inv .1) (c .before .before .before .before .before .before .before .loop-test .taken) (c .before .before .before .before .link-at .result) (c .before .before .before .before .link-at .ensures) (c .before .before .before .before .before .if2 .left) (c .before .before .if3 .left) (l .inv .0) (c .before .before .before .before .before .before .if1 .left) (c .before .is-blank .result) (c .before .is-blank .ensures) (c .if4 .taken)
 
 add-n : tie.Need-add-n Inv-loop μ-loop
 add-n c = omega arith
@@ -55,7 +57,8 @@ loop-less : tie.Need-loop-less Inv-loop μ-loop
 loop-less c = omega arith
 
 loop-again : tie.Need-loop-again Inv-loop μ-loop
-loop-again c = let a = c .before .before .before .before .before .before .before .before .before .before .before .args in let l = c .before .before .before .before .before .before .before .before .loop in (omega arith, free-on (readTable (a .table .now) .slots) (a .slots) (len (a .table .now) (a .logs) (a .slots) (c .before .before .before .before .before .before .before .before .before .before .before .pre)) _ (l .n) (l .last) (l .s) (l .inv .1) (c .before .before .before .before .before .before .before .loop-test .taken) (c .before .before .before .before .link-at .result) (c .before .before .before .before .link-at .ensures) (c .before .before .before .before .before .if2 .left) (c .before .before .if3 .left) (l .inv .0) (c .before .before .before .before .before .before .if1 .left) (c .before .is-blank .result) (c .before .is-blank .ensures) (c .if4 .left))
+loop-again c = let p11 = c .before .before .before .before .before .before .before .before .before .before .before in
+    let a = p11 .args in let l = c .before .before .before .before .before .before .before .before .loop in (omega arith, free-on (readTable (a .table .now) .slots) (a .slots) (len (a .table .now) (a .logs) (a .slots) (p11 .pre)) _ (l .n) (l .last) (l .s) (l .inv .1) (c .before .before .before .before .before .before .before .loop-test .taken) (c .before .before .before .before .link-at .result) (c .before .before .before .before .link-at .ensures) (c .before .before .before .before .before .if2 .left) (c .before .before .if3 .left) (l .inv .0) (c .before .before .before .before .before .before .if1 .left) (c .before .is-blank .result) (c .before .is-blank .ensures) (c .if4 .left))
 
 returns-5 : tie.Need-returns-5 Inv-loop μ-loop
 returns-5 c = let a = c .before .before .before .before .args in let l = c .before .loop in free-end (readTable (a .table .now) .slots) (a .slots) (len (a .table .now) (a .logs) (a .slots) (c .before .before .before .before .pre)) _ (l .n) (l .last) (l .s) (l .inv .1) (c .loop-test .left)

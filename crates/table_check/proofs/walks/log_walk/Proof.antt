@@ -40,10 +40,12 @@ add-if3 : tie.Need-add-if3 Inv-loop μ-loop
 add-if3 c = search needs
 
 returns-3 : tie.Need-returns-3 Inv-loop μ-loop
-returns-3 c = let a = c .before .before .before .before .before .before .before .before .before .args in let l = c .before .before .before .before .before .before .loop in log-owner (readTable (a .table .now) .slots) (a .row) (a .g) (a .slots) (len (a .table .now) (a .logs) (a .slots) (c .before .before .before .before .before .before .before .before .before .pre .0)) _ (l .n) (l .floor) (l .last) (l .s) (l .inv .1) (c .before .before .before .before .before .loop-test .taken) (c .before .before .link-at .result) (c .before .before .link-at .ensures) (c .before .before .before .if2 .left) (c .if3 .taken)
+returns-3 c = let p9 = c .before .before .before .before .before .before .before .before .before in
+    let a = p9 .args in let l = c .before .before .before .before .before .before .loop in log-owner (readTable (a .table .now) .slots) (a .row) (a .g) (a .slots) (len (a .table .now) (a .logs) (a .slots) (p9 .pre .0)) _ (l .n) (l .floor) (l .last) (l .s) (l .inv .1) (c .before .before .before .before .before .loop-test .taken) (c .before .before .link-at .result) (c .before .before .link-at .ensures) (c .before .before .before .if2 .left) (c .if3 .taken)
 
 returns-4 : tie.Need-returns-4 Inv-loop μ-loop
-returns-4 c = let a = c .before .before .before .before .before .before .before .before .before .before .before .args in let l = c .before .before .before .before .before .before .before .before .loop in log-low (readTable (a .table .now) .slots) (a .row) (a .g) (a .slots) (len (a .table .now) (a .logs) (a .slots) (c .before .before .before .before .before .before .before .before .before .before .before .pre .0)) _ (l .n) (l .floor) (l .last) (l .s) (l .inv .1) (c .before .before .before .before .before .before .before .loop-test .taken) (c .before .before .before .before .link-at .result) (c .before .before .before .before .link-at .ensures) (c .before .before .before .before .before .if2 .left) (c .before .before .if3 .left) (l .inv .0) (c .before .before .before .before .before .before .if1 .left) (c .if4 .taken)
+returns-4 c = let p11 = c .before .before .before .before .before .before .before .before .before .before .before in
+    let a = p11 .args in let l = c .before .before .before .before .before .before .before .before .loop in log-low (readTable (a .table .now) .slots) (a .row) (a .g) (a .slots) (len (a .table .now) (a .logs) (a .slots) (p11 .pre .0)) _ (l .n) (l .floor) (l .last) (l .s) (l .inv .1) (c .before .before .before .before .before .before .before .loop-test .taken) (c .before .before .before .before .link-at .result) (c .before .before .before .before .link-at .ensures) (c .before .before .before .before .before .if2 .left) (c .before .before .if3 .left) (l .inv .0) (c .before .before .before .before .before .before .if1 .left) (c .if4 .taken)
 
 add-n : tie.Need-add-n Inv-loop μ-loop
 add-n c = omega arith
@@ -52,16 +54,19 @@ loop-less : tie.Need-loop-less Inv-loop μ-loop
 loop-less c = omega arith
 
 loop-again : tie.Need-loop-again Inv-loop μ-loop
-loop-again c = let a = c .before .before .before .before .before .before .before .before .before .before .before .args in let l = c .before .before .before .before .before .before .before .before .loop in (omega arith, log-on (readTable (a .table .now) .slots) (a .row) (a .g) (a .slots) (len (a .table .now) (a .logs) (a .slots) (c .before .before .before .before .before .before .before .before .before .before .before .pre .0)) _ (l .n) (l .floor) (l .last) (l .s) (l .inv .1) (c .before .before .before .before .before .before .before .loop-test .taken) (c .before .before .before .before .link-at .result) (c .before .before .before .before .link-at .ensures) (c .before .before .before .before .before .if2 .left) (c .before .before .if3 .left) (l .inv .0) (c .before .before .before .before .before .before .if1 .left) (c .if4 .left))
+loop-again c = let p11 = c .before .before .before .before .before .before .before .before .before .before .before in
+    let a = p11 .args in let l = c .before .before .before .before .before .before .before .before .loop in (omega arith, log-on (readTable (a .table .now) .slots) (a .row) (a .g) (a .slots) (len (a .table .now) (a .logs) (a .slots) (p11 .pre .0)) _ (l .n) (l .floor) (l .last) (l .s) (l .inv .1) (c .before .before .before .before .before .before .before .loop-test .taken) (c .before .before .before .before .link-at .result) (c .before .before .before .before .link-at .ensures) (c .before .before .before .before .before .if2 .left) (c .before .before .if3 .left) (l .inv .0) (c .before .before .before .before .before .before .if1 .left) (c .if4 .left))
 
 returns-5 : tie.Need-returns-5 Inv-loop μ-loop
 returns-5 c = let a = c .before .before .before .before .before .before .args in let l = c .before .before .before .loop in log-other-high (readTable (a .table .now) .slots) (a .row) (a .g) (a .slots) (len (a .table .now) (a .logs) (a .slots) (c .before .before .before .before .before .before .pre .0)) _ (l .n) (l .floor) (l .last) (l .s) (l .inv .1) (c .before .before .loop-test .left) (c .if5 .taken)
 
 returns-6 : tie.Need-returns-6 Inv-loop μ-loop
-returns-6 c = let a = c .before .before .before .before .before .before .before .before .args in let l = c .before .before .before .before .before .loop in log-other-last (readTable (a .table .now) .slots) (a .row) (a .g) (a .slots) (len (a .table .now) (a .logs) (a .slots) (c .before .before .before .before .before .before .before .before .pre .0)) _ (l .n) (l .floor) (l .last) (l .s) (l .inv .1) (c .before .before .before .before .loop-test .left) (c .before .before .if5 .left) (c .if6 .taken)
+returns-6 c = let p8 = c .before .before .before .before .before .before .before .before in
+    let a = p8 .args in let l = c .before .before .before .before .before .loop in log-other-last (readTable (a .table .now) .slots) (a .row) (a .g) (a .slots) (len (a .table .now) (a .logs) (a .slots) (p8 .pre .0)) _ (l .n) (l .floor) (l .last) (l .s) (l .inv .1) (c .before .before .before .before .loop-test .left) (c .before .before .if5 .left) (c .if6 .taken)
 
 returns-7 : tie.Need-returns-7 Inv-loop μ-loop
-returns-7 c = let a = c .before .before .before .before .before .before .before .before .args in let l = c .before .before .before .before .before .loop in log-done (readTable (a .table .now) .slots) (a .row) (a .g) (a .slots) (len (a .table .now) (a .logs) (a .slots) (c .before .before .before .before .before .before .before .before .pre .0)) _ (l .n) (l .floor) (l .last) (l .s) (l .inv .1) (c .before .before .before .before .loop-test .left) (c .before .before .if5 .left) (c .if6 .left)
+returns-7 c = let p8 = c .before .before .before .before .before .before .before .before in
+    let a = p8 .args in let l = c .before .before .before .before .before .loop in log-done (readTable (a .table .now) .slots) (a .row) (a .g) (a .slots) (len (a .table .now) (a .logs) (a .slots) (p8 .pre .0)) _ (l .n) (l .floor) (l .last) (l .s) (l .inv .1) (c .before .before .before .before .loop-test .left) (c .before .before .if5 .left) (c .if6 .left)
 
 pub log-walk-spec : {M : Type 1} → statement M
 log-walk-spec =

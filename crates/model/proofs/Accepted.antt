@@ -1,0 +1,192 @@
+-- What the model writes, the verifier accepts: under its key, for the question that the call was, with the values that the model says. A lemma for each
+-- kind of receipt, then a call, then a list of calls.
+use Prim.Native.Nat.{ℕ, _^_, _≤_, _<_}
+use mathlib.Core.Path.{_≡_, refl, sym, ap, ap₂, subst, _∙_}
+use mathlib.Core.Logic.{_≢_, inl, inr}
+use mathlib.Core.List.{List, [], _∷_}
+use mathlib.Core.Bool.{false, cond}
+use mathlib.Core.Option.{none, some, Option·none-ne-some, Option·some-injective}
+use native.Mathlib.Omega.{arith}
+use lib.ListN.{length, getD, take, getElem?}
+use Rattle.octets.specs.Octets.{zeros}
+use Rattle.octets.proofs.Zeros.{length-zeros}
+use Rattle.receipt.specs.Answer.{answer}
+use Rattle.receipt.specs.Attestation.{Attestation, LOOKUP, END}
+use Rattle.receipt.specs.Verdict.{carried, verdict}
+use Rattle.receipt.specs.declared.Ask.the-variants.{Lookup, End}
+use Rattle.receipt.specs.declared.Question.{Question}
+use Rattle.receipt.proofs.Verifier.{complete}
+use Rattle.layout.specs.Image.{Entry, blankEntry}
+use Rattle.a2m.specs.Call.{Call, append, advance, truncate, lookup, end, Wide, AllWide, replies, after, receiptIn}
+use Rattle.a2m.proofs.Lists.{In}
+use Rattle.model.specs.Log.{Log, lastEntry, Standing, unassigned, forgotten, assigned, skipped, standing, kindOf, referenceOf}
+use Rattle.model.specs.Model.{rules01, Model, logAt, isNil, modelReceipt, shownFor, modelLookup, modelEnd, modelDone, modelAccept, modelStep}
+use Rattle.model.specs.Claim.{replyAt}
+use Rattle.model.specs.Question.{questionOf, nonceOf, valuesOf}
+use Rattle.model.proofs.Represents.{LogOk}
+use Rattle.model.proofs.Positions.{ok-low}
+use Rattle.model.proofs.Passed.{Passed, peel, Stepped, turned, taken, stepped}
+use Rattle.model.proofs.Entries.{last-in, in-bounds}
+use Rattle.model.proofs.Shown.{length-LOOKUP, length-END}
+use Rattle.model.proofs.Along.{Keeps, after-fixed, at-keeps, at-wide, at-reply}
+use Rattle.model.proofs.Standings.{Means, standing-means}
+
+-- ---- a receipt of the model
+
+abbrev attested : Model → List ℕ → ℕ → ℕ → ℕ → ℕ → List ℕ → Entry → Attestation
+attested b name kind g n reference nonce e = record { name = name; kind = kind; log = g; keeper = b .keeper; position = n; reference = reference; nonce = nonce; value = e .value; digest = e .digest }
+
+-- accepted for the question q, with the values that it shows
+abbrev Accepted : Model → List ℕ → ℕ → ℕ → ℕ → ℕ → List ℕ → Entry → Question → Type 0
+Accepted b name kind g n reference nonce e q = verdict (b .key) (modelReceipt b name kind g n reference nonce e) nonce q ≡ answer 0 (b .keeper ∷ g ∷ n ∷ kind ∷ reference ∷ [])
+
+not-end : LOOKUP ≢ END
+unfolding LOOKUP END
+not-end h = let z : _≡_ {A = ℕ} 76 69 = ap (λ (l : List ℕ). getD l 0 0) h in omega arith
+
+module _ (b : Model) (keeps : Keeps b) (key : length (b .key) ≡ 32) (g : ℕ) (log : g ≤ 15) (c : List ℕ) (nonce : length c ≡ 32) where
+  abbrev L : Log
+  L = logAt (b .logs) g
+
+  -- a LOOKUP of a possible kind, whose numbers fit
+  lookup-accepted : (n : ℕ) → 1 ≤ n → n < 2 ^ 64 → (kind reference : ℕ) (e : Entry) → reference < 2 ^ 64 → length (e .value) ≡ 32 → length (e .digest) ≡ 32
+      → kind ≤ 3 → (kind ≡ 1 → reference ≡ n) → (kind ≡ 0 → reference < n) → (2 ≤ kind → n < reference) → ((kind ≡ 1 → ⊥) → (e .value ≡ zeros 32) × (e .digest ≡ zeros 32))
+      → Accepted b LOOKUP kind g n reference c e (record { keeper = b .keeper; log = g; ask = Lookup n })
+  unfolding modelReceipt carried
+  lookup-accepted n n1 n64 kind reference e r64 lv ld k3 at below above blank =
+      complete (b .key) _ c _ (attested b LOOKUP kind g n reference c e) (record {
+        key = key;
+        sized = record { name = length-LOOKUP; keeper = keeps .keeper; position = n64; reference = r64; nonce = nonce; value = lv; digest = ld };
+        possible = record { named = inl refl; kind = k3; log = log; position = n1; assigned = at; unassigned = below; passed = above; blank = blank; end = λ (z : LOOKUP ≡ END). absurd (not-end z) };
+        bytes = refl;
+        keeper = refl;
+        log = refl;
+        nonce = refl;
+        ask = (refl, refl);
+      })
+
+  module _ (n : ℕ) (n1 : 1 ≤ n) (n64 : n < 2 ^ 64) where
+    abbrev Looked : ℕ → ℕ → Entry → Type 0
+    Looked kind reference e = Accepted b LOOKUP kind g n reference c e (record { keeper = b .keeper; log = g; ask = Lookup n })
+
+    unassigned-accepted : L .high < n → Looked 0 (L .high) blankEntry
+    unassigned-accepted h =
+        lookup-accepted n n1 n64 0 (L .high) blankEntry (keeps .fits g .high) (length-zeros 32) (length-zeros 32) (omega arith)
+        (λ (z : 0 ≡ 1). absurd (omega arith)) (λ (z : 0 ≡ 0). h) (λ (z : 2 ≤ 0). absurd (omega arith)) (λ (z : 0 ≡ 1 → ⊥). (refl, refl))
+
+    forgotten-accepted : n < L .low → Looked 3 (L .low) blankEntry
+    forgotten-accepted h =
+        let started : L .high ≢ 0 = λ (z : L .high ≡ 0). let f = keeps .sound g .fresh z in omega arith in
+        let le = ok-low L (keeps .sound g) started in
+        let u = keeps .fits g .high in
+        lookup-accepted n n1 n64 3 (L .low) blankEntry (omega arith) (length-zeros 32) (length-zeros 32) (omega arith)
+        (λ (z : 3 ≡ 1). absurd (omega arith)) (λ (z : 3 ≡ 0). absurd (omega arith)) (λ (z : 2 ≤ 3). h) (λ (z : 3 ≡ 1 → ⊥). (refl, refl))
+
+    assigned-accepted : (e : Entry) → In e (L .entries) → e .position ≡ n → Looked 1 (e .position) e
+    assigned-accepted e m h =
+        let z = keeps .fits g .sized e m in
+        lookup-accepted n n1 n64 1 (e .position) e (omega arith) (z .0) (z .1) (omega arith)
+        (λ (q : 1 ≡ 1). h) (λ (q : 1 ≡ 0). absurd (omega arith)) (λ (q : 2 ≤ 1). absurd (omega arith)) (λ (q : 1 ≡ 1 → ⊥). absurd (q refl))
+
+    skipped-accepted : (e : Entry) → In e (L .entries) → n < e .position → Looked 2 (e .position) (rules01 .gap e)
+    unfolding rules01
+    skipped-accepted e m h =
+        let top = in-bounds L (keeps .sound g) e m .1 in
+        let u = keeps .fits g .high in
+        lookup-accepted n n1 n64 2 (e .position) blankEntry (omega arith) (length-zeros 32) (length-zeros 32) (omega arith)
+        (λ (z : 2 ≡ 1). absurd (omega arith)) (λ (z : 2 ≡ 0). absurd (omega arith)) (λ (z : 2 ≤ 2). h) (λ (z : 2 ≡ 1 → ⊥). (refl, refl))
+
+    -- whatever the position's standing
+    standing-accepted : (s : Standing) → Means L n s → Looked (kindOf s) (referenceOf L s) (shownFor rules01 s)
+    unfolding kindOf referenceOf shownFor
+    standing-accepted unassigned h = unassigned-accepted h
+    standing-accepted forgotten h = forgotten-accepted h
+    standing-accepted (assigned e) h = assigned-accepted e (h .0) (h .1)
+    standing-accepted (skipped e) h = skipped-accepted e (h .0) (h .1)
+
+  -- an END shows the entry at H
+  end-accepted : isNil (L .entries) ≡ false → Accepted b END 1 g (L .high) (L .high) c (lastEntry (L .entries)) (record { keeper = b .keeper; log = g; ask = End })
+  unfolding modelReceipt carried
+  end-accepted held =
+      let e = lastEntry (L .entries) in
+      let m = last-in (L .entries) held in
+      let z = keeps .fits g .sized e m in
+      let low = keeps .sound g .low1 in
+      let top = keeps .sound g .top in
+      let from = in-bounds L (keeps .sound g) e m .0 in
+      complete (b .key) _ c _ (attested b END 1 g (L .high) (L .high) c e) (record {
+        key = key;
+        sized = record { name = length-END; keeper = keeps .keeper; position = keeps .fits g .high; reference = keeps .fits g .high; nonce = nonce; value = z .0; digest = z .1 };
+        possible = record {
+          named = inr refl;
+          kind = omega arith;
+          log = log;
+          position = omega arith;
+          assigned = λ (q : 1 ≡ 1). refl;
+          unassigned = λ (q : 1 ≡ 0). absurd (omega arith);
+          passed = λ (q : 2 ≤ 1). absurd (omega arith);
+          blank = λ (q : 1 ≡ 1 → ⊥). absurd (q refl);
+          end = λ (q : END ≡ END). refl;
+        };
+        bytes = refl;
+        keeper = refl;
+        log = refl;
+        nonce = refl;
+        ask = refl;
+      })
+
+-- ---- a call of the model
+
+-- the verifier's verdict on what a call wrote
+abbrev pub Verifies : List ℕ → ℕ → Call → List ℕ → List ℕ → Type 0
+Verifies key keeper call r values = verdict key r (nonceOf call) (questionOf keeper call) ≡ answer 0 values
+
+-- 6 turned an end of an empty list away
+end-held : (b : Model) (g : ℕ) → cond (isNil (logAt (b .logs) g .entries)) (rules01 .emptyEnd) none ≡ none → isNil (logAt (b .logs) g .entries) ≡ false
+unfolding rules01
+end-held b g h = peel (isNil (logAt (b .logs) g .entries)) 6 none h .0
+
+end-shows : (b : Model) (g : ℕ) (c : List ℕ) → isNil (logAt (b .logs) g .entries) ≡ false → LogOk (logAt (b .logs) g)
+    → modelReceipt b END (cond (isNil (logAt (b .logs) g .entries)) 0 1) g (lastEntry (logAt (b .logs) g .entries) .position) (lastEntry (logAt (b .logs) g .entries) .position) c (lastEntry (logAt (b .logs) g .entries))
+    ≡ modelReceipt b END 1 g (logAt (b .logs) g .high) (logAt (b .logs) g .high) c (lastEntry (logAt (b .logs) g .entries))
+end-shows b g c held ok =
+    let e = lastEntry (logAt (b .logs) g .entries) in
+    rw held (ap (λ (n : ℕ). modelReceipt b END 1 g n n c e) (ok .top))
+
+module _ (b : Model) (keeps : Keeps b) (key : length (b .key) ≡ 32) (few : length (b .logs) ≤ 16) where
+  accept-verified : (call : Call) → Wide call → Passed rules01 b call → (r : List ℕ) → receiptIn (modelAccept rules01 b call .reply) ≡ some r → Verifies (b .key) (b .keeper) call r (valuesOf b call)
+  unfolding modelAccept modelDone modelLookup modelEnd nonceOf questionOf valuesOf
+  accept-verified (append g x) w a r q = absurd (Option·none-ne-some r q)
+  accept-verified (advance g n d x) w a r q = absurd (Option·none-ne-some r q)
+  accept-verified (truncate g n) w a r q = absurd (Option·none-ne-some r q)
+  accept-verified (lookup g n c k) w a r q =
+      let l = logAt (b .logs) g in
+      let gG = a .log in
+      let n0 = a .position in
+      let n1 : 1 ≤ n = omega arith in
+      ap (λ (x : List ℕ). verdict (b .key) x c (record { keeper = b .keeper; log = g; ask = Lookup n })) (sym (Option·some-injective _ _ q))
+      ∙ standing-accepted b keeps key g (omega arith) c (a .nonce) n n1 w (standing l n) (standing-means l (keeps .sound g) n n1)
+  accept-verified (end g c k) w a r q =
+      let l = logAt (b .logs) g in
+      let gG = a .log in
+      let held = end-held b g (a .held) in
+      ap (λ (x : List ℕ). verdict (b .key) x c (record { keeper = b .keeper; log = g; ask = End })) (sym (Option·some-injective _ _ q) ∙ end-shows b g c held (keeps .sound g))
+      ∙ end-accepted b keeps key g (omega arith) c (a .nonce) held
+
+  pub step-verified : (call : Call) → Wide call → (r : List ℕ) → receiptIn (modelStep rules01 b call .reply) ≡ some r → Verifies (b .key) (b .keeper) call r (valuesOf b call)
+  step-verified call w r q = go (stepped rules01 b call)
+    where
+      go : Stepped rules01 b call → Verifies (b .key) (b .keeper) call r (valuesOf b call)
+      go (turned k e) = absurd (Option·none-ne-some r (rw e at q))
+      go (taken a e) = accept-verified call w a r (rw e at q)
+
+-- ---- a list of calls
+
+pub model-verified : (b : Model) → Keeps b → length (b .key) ≡ 32 → length (b .logs) ≤ 16 → (cs : List Call) → AllWide cs → (i : ℕ) (c : Call) (r : List ℕ) → getElem? cs i ≡ some c
+    → receiptIn (replyAt (replies (modelStep rules01) b cs) i) ≡ some r → Verifies (b .key) (b .keeper) c r (valuesOf (after (modelStep rules01) b (take i cs)) c)
+model-verified b keeps key few cs w i c r at q =
+    let m = after (modelStep rules01) b (take i cs) in
+    let f = after-fixed rules01 b (take i cs) in
+    let there : receiptIn (modelStep rules01 m c .reply) ≡ some r = ap receiptIn (sym (at-reply rules01 b cs i c at)) ∙ q in
+    let v : Verifies (m .key) (m .keeper) c r (valuesOf m c) = step-verified m (at-keeps rules01 b keeps cs w i) (ap length (f .key) ∙ key) (subst (λ (n : ℕ). n ≤ 16) (sym (f .count)) few) c (at-wide rules01 cs w i c at) r there in
+    ap₂ (λ (k : List ℕ) (n : ℕ). verdict k r (nonceOf c) (questionOf n c)) (sym (f .key)) (sym (f .keeper)) ∙ v

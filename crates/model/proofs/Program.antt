@@ -1,0 +1,87 @@
+-- Demand 3 of the list that the program makes: append, advance and truncate leave what `tableStep` says, and lookup and end, which are lent the table to
+-- read it, leave it as it was. The answers, and the bytes after the list, are those through `tableStep`.
+use Prim.Native.Nat.{ℕ, _^_, _<_}
+use mathlib.Core.Path.{_≡_, refl, sym, ap, _∙_}
+use mathlib.Core.List.{List, [], _∷_}
+use mathlib.Core.Bool.{true}
+use mathlib.Core.Option.{Option, none, some}
+use lib.ListN.{length}
+use Rattle.layout.specs.Image.{Image}
+use Rattle.layout.specs.Layout.{readTable, writeTable}
+use Rattle.table.specs.Format.{formatted, formatRefusal, formatBytes}
+use Rattle.table.specs.Whole.{whole}
+use Rattle.a2m.specs.Call.{Call, append, advance, truncate, lookup, end, AllWide, Reply, Effect, replies, after}
+use Rattle.a2m.specs.ImageCalls.{imageRefusal, imageAccept, imageStep}
+use Rattle.a2m.specs.TableCalls.{tableStep}
+use Rattle.a2m.proofs.Unchanged.{Reads}
+use Rattle.a2m.proofs.Written.{step-written}
+use Rattle.model.specs.Model.{rules01, Model, newModel, modelStep}
+use Rattle.model.specs.Claim.{ListClaim}
+use Rattle.model.specs.Program.{passedOn, programStep}
+use Rattle.model.proofs.TableClaim.{Stands, in-range, step-stands}
+use Rattle.model.proofs.Demand3.{stands, bytes-are, listClaim, staysWhole}
+
+-- ---- one call
+
+accept-same : (m : Image) (call : Call) → Reads call → imageAccept m call .state ≡ m
+unfolding imageAccept
+accept-same m (lookup g n c k) h = refl
+accept-same m (end g c k) h = refl
+
+read-same : (m : Image) (call : Call) → Reads call → imageStep m call .state ≡ m
+unfolding imageStep
+read-same m call h = go (imageRefusal m call) refl
+  where
+    go : (r : Option ℕ) → imageRefusal m call ≡ r → imageStep m call .state ≡ m
+    go none e = rw (imageStep, e) (accept-same m call h)
+    go (some k) e = rw (imageStep, e)
+
+module _ (m : Image) (b : Model) (s : Stands m b) where
+  after-call : (call : Call) → tableStep (writeTable m) call .state ≡ writeTable (imageStep m call .state)
+  after-call call = ap (λ (o : Effect (List ℕ)). o .state) (step-written m (s .fits) (in-range m b s) call)
+
+  after-read : (call : Call) → Reads call → tableStep (writeTable m) call .state ≡ writeTable m
+  after-read call h = after-call call ∙ ap writeTable (read-same m call h)
+
+  passed : (call : Call) → passedOn (writeTable m) call ≡ tableStep (writeTable m) call .state
+  unfolding passedOn
+  passed (append g x) = refl
+  passed (advance g n d x) = refl
+  passed (truncate g n) = refl
+  passed (lookup g n c k) = sym (after-read (lookup g n c k) tt)
+  passed (end g c k) = sym (after-read (end g c k) tt)
+
+-- ---- the list
+
+record SameList (m : Image) (cs : List Call) : Type 0 where
+  answers : replies programStep (writeTable m) cs ≡ replies tableStep (writeTable m) cs
+  bytes : after programStep (writeTable m) cs ≡ after tableStep (writeTable m) cs
+
+same-list : (m : Image) (b : Model) → Stands m b → (cs : List Call) → AllWide cs → SameList m cs
+unfolding replies after programStep
+same-list m b s [] w = record { answers = refl; bytes = refl }
+same-list m b s (c ∷ cs) w =
+    let ih = same-list (imageStep m c .state) (modelStep rules01 b c .state) (step-stands m b s c (w .0, tt)) cs (w .1) in
+    let t = after-call m b s c in
+    let p : passedOn (writeTable m) c ≡ writeTable (imageStep m c .state) = passed m b s c ∙ t in
+    let rs : replies programStep (passedOn (writeTable m) c) cs ≡ replies tableStep (tableStep (writeTable m) c .state) cs =
+    ap (λ (x : List ℕ). replies programStep x cs) p ∙ ih .answers ∙ sym (ap (λ (x : List ℕ). replies tableStep x cs) t) in
+    let bs : after programStep (passedOn (writeTable m) c) cs ≡ after tableStep (tableStep (writeTable m) c .state) cs =
+    ap (λ (x : List ℕ). after programStep x cs) p ∙ ih .bytes ∙ sym (ap (λ (x : List ℕ). after tableStep x cs) t) in
+    record { answers = ap {B = List Reply} (λ (l : List Reply). tableStep (writeTable m) c .reply ∷ l) rs; bytes = bs }
+
+module _ (lent : List ℕ) (G S keeper : ℕ) (key : List ℕ) (k64 : keeper < 2 ^ 64) (accepted : formatRefusal (length lent) G S (length key) ≡ none) where
+  same : (cs : List Call) → AllWide cs → SameList (formatted G S keeper key) cs
+  same cs w = same-list (formatted G S keeper key) (newModel G S keeper key) (stands lent G S keeper key k64 accepted) cs w
+
+  pub programClaim : (cs : List Call) → AllWide cs → ListClaim G S keeper key cs (replies programStep (formatBytes lent G S keeper key) cs) (readTable (after programStep (formatBytes lent G S keeper key) cs))
+  programClaim cs w =
+      let h = bytes-are lent G S keeper key k64 accepted in
+      let c : ListClaim G S keeper key cs (replies tableStep (writeTable (formatted G S keeper key)) cs) (readTable (after tableStep (writeTable (formatted G S keeper key)) cs)) = rw h at (listClaim lent G S keeper key k64 accepted cs w) in
+      rw (h, same cs w .answers, same cs w .bytes) c
+
+  -- the table is whole before and after each call
+  pub programWhole : (cs : List Call) → AllWide cs → whole (after programStep (formatBytes lent G S keeper key) cs) ≡ true
+  programWhole cs w =
+      let h = bytes-are lent G S keeper key k64 accepted in
+      ap (λ (x : List ℕ). whole (after programStep x cs)) h ∙ ap whole (same cs w .bytes) ∙ ap (λ (x : List ℕ). whole (after tableStep x cs)) (sym h) ∙ staysWhole lent G S keeper key k64 accepted cs w

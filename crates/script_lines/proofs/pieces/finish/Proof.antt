@@ -1,0 +1,39 @@
+-- `script_lines::pieces::finish` meets its contract.
+use mathlib.Core.Path.{sym}
+use native.Mathlib.Omega.{arith}
+use Rattle.script.proofs.Reading.{finishes-none, finishes-line}
+use lib.Seq.{length-take-le}
+use borrow.Author.Needs.{needs}
+use Rattle.script_lines.proofs.pieces.finish.Statement.{statement}
+use Rattle.script_lines.proofs.pieces.finish.Tie as tie
+
+returns : tie.Need-returns
+returns c = let a = c .before .before .before .before .args in finishes-none (a .buffer .now) (a .held .now) (a .out .now) (a .p) (c .if1 .taken) (omega arith)
+
+slice-aggregate-answer-line : tie.Need-slice-aggregate-answer-line
+slice-aggregate-answer-line c = sym (length-take-le (c .before .before .before .before .before .before .before .args .p .kept) (c .before .before .before .before .before .before .before .args .held .now) (omega arith))
+
+answer-line-requires : tie.Need-answer-line-requires
+answer-line-requires c κs = search needs
+
+same-length : tie.Need-same-length
+same-length c = search needs
+
+same-length-2 : tie.Need-same-length-2
+same-length-2 c = search needs
+
+returns-2 : tie.Need-returns-2
+returns-2 c = let a = c .before .before .before .before .before .before .before .before .before .before .before .before .args in
+    let n = c .before .before .before .before .answer-line in
+    finishes-line (a .buffer .now) (a .held .now) (a .out .now) (a .p) (omega arith) (omega arith) (n .last .0) (n .last .1 .1 .0) (n .result .to) (n .ensures .1 .0) (n .ensures .1 .1 .1) (n .ensures .1 .1 .0)
+
+pub finish-spec : {M : Type 1} → statement M
+finish-spec =
+    tie.close
+    (tie.spec
+    returns
+    slice-aggregate-answer-line
+    answer-line-requires
+    same-length
+    same-length-2
+    returns-2)

@@ -1,0 +1,91 @@
+-- `script_run::read_all` meets its contract.
+use mathlib.Core.List.{[], _++_, List}
+use mathlib.Core.Path.{subst, _∙_, _≡_}
+use Rattle.script_run.specs.Steps.{Stepped}
+use Rattle.script_run.specs.declared.Step.{Step}
+use native.Mathlib.Omega.{arith}
+use Rattle.script_run.proofs.StepLaws.{ready, counted}
+use Rattle.script.specs.Stream.{After}
+use lib.ListN.{length}
+use Prim.Native.Nat.{ℕ, _+_, _*_, _≤_}
+use borrow.Author.Needs.{needs}
+use Rattle.script_run.proofs.read_all.Statement.{statement}
+use Rattle.script_run.proofs.read_all.Tie as tie
+
+abbrev Inv-loop : tie.InvT-loop
+Inv-loop buffer₀ held₀ out₀ s₀ turns₀ buffer held out s turns = (length out ≡ 1376256) × ((read : List ℕ) × After read buffer held s × (length read + turns * 8192 ≤ 1125899906842624 * 8192))
+
+abbrev μ-loop : tie.MeasureT-loop
+μ-loop buffer₀ held₀ out₀ s₀ turns₀ buffer held out s turns = turns
+
+loop-holds : tie.Need-loop-holds Inv-loop μ-loop
+loop-holds c = (c .before .before .before .pre .1, ([], c .before .before .before .pre .0, omega arith))
+
+turn-requires : tie.Need-turn-requires Inv-loop μ-loop
+turn-requires c κs = ready (c .before .before .before .before .loop .turns) (omega arith) (c .before .before .before .before .loop .inv .1 .1) (c .before .before .before .before .loop .inv .1 .2) (c .before .before .before .before .loop .inv .0)
+
+enum-known-next : tie.Need-enum-known-next Inv-loop μ-loop
+enum-known-next c = search needs
+
+enum-known-ending : tie.Need-enum-known-ending Inv-loop μ-loop
+enum-known-ending c = search needs
+
+same-length : tie.Need-same-length Inv-loop μ-loop
+same-length c = search needs
+
+same-length-2 : tie.Need-same-length-2 Inv-loop μ-loop
+same-length-2 c = search needs
+
+same-length-3 : tie.Need-same-length-3 Inv-loop μ-loop
+same-length-3 c = search needs
+
+returns : tie.Need-returns Inv-loop μ-loop
+returns c = let i = c .before .before .before .before .before .before .before .before .before .before .before .before .before .before .loop .inv .1 in
+    let t = c .before .before .before .before .before .before .before .before .before .turn in
+    (i .0, subst (λ (x : Step). Stepped x (i .0) (t .last .0) (t .last .1 .0) (t .last .1 .1 .0)) (c .before .ending .given .1) (t .ensures (i .0) (i .1)))
+
+sub-turns : tie.Need-sub-turns Inv-loop μ-loop
+sub-turns c = search needs
+
+loop-less : tie.Need-loop-less Inv-loop μ-loop
+loop-less c = search needs
+
+loop-again : tie.Need-loop-again Inv-loop μ-loop
+loop-again c = let i = c .before .before .before .before .before .before .before .before .before .before .before .before .before .before .loop .inv .1 in
+    let t = c .before .before .before .before .before .before .before .before .before .turn in
+    let s = subst (λ (x : Step). Stepped x (i .0) (t .last .0) (t .last .1 .0) (t .last .1 .1 .0)) (c .before .next .given .1) (t .ensures (i .0) (i .1)) in
+    (t .kept .1 .1 .0 ∙ c .before .before .before .before .before .before .before .before .before .before .before .before .before .before .loop .inv .0, (i .0 ++ s .0, s .2, counted (i .0) (s .0) (c .before .before .before .before .before .before .before .before .before .before .before .before .before .before .loop .turns) (omega arith) (s .1) (i .2)))
+
+same-length-4 : tie.Need-same-length-4 Inv-loop μ-loop
+same-length-4 c = search needs
+
+same-length-5 : tie.Need-same-length-5 Inv-loop μ-loop
+same-length-5 c = search needs
+
+same-length-6 : tie.Need-same-length-6 Inv-loop μ-loop
+same-length-6 c = search needs
+
+returns-2 : tie.Need-returns-2 Inv-loop μ-loop
+returns-2 c = ([], tt)
+
+pub read-all-spec : {M : Type 1} → statement M
+read-all-spec =
+    tie.close
+    (tie.spec
+    Inv-loop
+    μ-loop
+    loop-holds
+    turn-requires
+    enum-known-next
+    enum-known-ending
+    same-length
+    same-length-2
+    same-length-3
+    returns
+    sub-turns
+    loop-less
+    loop-again
+    same-length-4
+    same-length-5
+    same-length-6
+    returns-2)

@@ -1,0 +1,24 @@
+-- `table_check::is_whole` meets its contract.
+use Rattle.table.proofs.CheckLaws.{checkNumber, check-number}
+use mathlib.Core.Path.{sym, ap, _∙_}
+use borrow.Author.Needs.{needs}
+use Rattle.table_check.proofs.is_whole.Statement.{statement}
+use Rattle.table_check.proofs.is_whole.Tie as tie
+
+check-requires : tie.Need-check-requires
+check-requires c κs = search needs
+
+enum-told : tie.Need-enum-told
+enum-told c = search needs
+
+enum-told-2 : tie.Need-enum-told-2
+enum-told-2 c = search needs
+
+returns : tie.Need-returns
+returns c = ap checkNumber (sym (c .enum-told .given .1) ∙ c .before .before .check .ensures) ∙ check-number (c .before .before .before .before .args .table .now)
+
+returns-2 : tie.Need-returns-2
+returns-2 c = ap checkNumber (sym (c .enum-told2 .given .1) ∙ c .before .before .check .ensures) ∙ check-number (c .before .before .before .before .args .table .now)
+
+pub is-whole-spec : {M : Type 1} → statement M
+is-whole-spec = tie.close (tie.spec check-requires enum-told enum-told-2 returns returns-2)
