@@ -71,7 +71,7 @@ enum { KEEPER_MAX_LOGS = 16, KEEPER_MAX_SLOTS = 800, KEEPER_MAX_MEMBERS = 31, KE
 #define KEEPER_TABLE_BYTES(logs, slots) ((size_t)52 + (size_t)20 * (logs) + (size_t)76 * (slots))
 #define KEEPER_MAX_TABLE_BYTES KEEPER_TABLE_BYTES(KEEPER_MAX_LOGS, KEEPER_MAX_SLOTS)
 
-/* The stack that a call takes at most, its return address included. */
+/* The stack that a call takes at most, its return address included; memcpy is not called where it is deepest. */
 #define KEEPER_STACK_BYTES 2560
 
 /* Where the fields of a receipt stand, with their bytes. What they say is worth something once the receipt is verified. */
@@ -157,17 +157,24 @@ uint8_t keeper_verify_end(const uint8_t *key, size_t key_bytes, const uint8_t *r
                           const uint8_t *nonce, size_t nonce_bytes, uint64_t keeper, uint64_t log,
                           keeper_verdict *verdict);
 
-/* Whether a certificate, 0 to 32 receipts on end, certifies a value and digest at a position of a log for a roster: 1 to 31
- * members, an odd number, each KEEPER_MEMBER_BYTES. place becomes the place, from 0, of the first good receipt that shows
- * the certified pair, and mask the members whose good receipts show it, the lowest bit for the roster's first. The certified
- * value stands at certificate + place * KEEPER_RECEIPT_BYTES + KEEPER_AT_VALUE, the digest at KEEPER_AT_DIGEST of the same
- * receipt. Refused, in this order: 7 the nonce's length; 12; 9; 13. */
+/* Whether a certificate, 0 to 32 receipts on end, certifies a value and digest at a position of a log, for a roster: 1 to 31
+ * members of KEEPER_MEMBER_BYTES, an odd number N of them with different keeper numbers. A receipt is good if it answers the
+ * lookup of a member, as keeper_verify_lookup finds under that member's key, and is assigned; others are passed over. A value
+ * and digest are certified when good receipts of (N + 1) / 2 different members show both.
+ *
+ * place becomes the place, from 0, of the first good receipt that shows the certified pair, and mask the members whose good
+ * receipts show it, the lowest bit for the roster's first. The certified value stands at
+ * certificate + place * KEEPER_RECEIPT_BYTES + KEEPER_AT_VALUE, the digest at KEEPER_AT_DIGEST of the same receipt.
+ * Refused, in this order: 7 the nonce's length; 12; 9; 13. */
 uint8_t keeper_certify(const uint8_t *roster, size_t roster_bytes, const uint8_t *nonce, size_t nonce_bytes, uint64_t log,
                        uint64_t position, const uint8_t *certificate, size_t certificate_bytes, uint64_t *place,
                        uint32_t *mask);
 
-/* Compares two runs, each a start digest, a first position and values of 32 bytes; verdict becomes what it finds. Only a
- * collision writes the buffer of 144 bytes: the first run's block of the unequal pair nearest the ends, then the second's.
+/* Compares two runs, each a start digest, a first position and values of 32 bytes at consecutive positions. A value's block
+ * is its position, the value and the digest before it, 72 bytes, and its digest SHA-256 of the block, as an append makes it.
+ * verdict becomes KEEPER_DIFFER where the last digests differ; KEEPER_AGREE where all blocks are equal, from the ends back to
+ * the shorter run's first; else KEEPER_COLLISION: then the unequal pair of blocks nearest the ends, which have one SHA-256,
+ * fills the buffer of 144 bytes, the first run's before the second's. The other verdicts leave the buffer as it was.
  * Refused, in this order: 7 for another length of a start digest or the buffer; 14. */
 uint8_t keeper_compare(const uint8_t *start1, size_t start1_bytes, uint64_t first1, const uint8_t *values1,
                        size_t values1_bytes, const uint8_t *start2, size_t start2_bytes, uint64_t first2,
