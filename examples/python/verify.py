@@ -9,7 +9,7 @@ A line of FILE is one of these, keys and other bytes in hexadecimal; a line that
     lookup,KEEPER,LOG,POSITION,NONCE,RECEIPT    a question for a position, and the receipt that came for it
     end,KEEPER,LOG,NONCE,RECEIPT                a question for a log's end, and the receipt that came for it
 
-Exit status: 0 every receipt was accepted, 1 one was not, 2 the file is not as above.
+Exit status: 0 every receipt was accepted, 1 one was not, 2 the file or the command is not as above.
 """
 import ctypes
 import sys
@@ -52,11 +52,12 @@ def number(text):
 
 def answer(library, keys, fields):
     """What is found on a question, in words, and whether its receipt is accepted."""
-    *numbers, nonce, receipt = fields[1:]
-    if len(numbers) != {"lookup": 3, "end": 2}[fields[0]]:
-        raise ValueError("too few or too many fields")
-    numbers = [number(n) for n in numbers]
-    nonce, receipt = bytes.fromhex(nonce), bytes.fromhex(receipt)
+    if len(fields) != {"lookup": 6, "end": 5}.get(fields[0]):
+        raise ValueError("none of key, lookup and end with its fields")
+    numbers = [number(n) for n in fields[1:-2]]
+    nonce, receipt = [bytes.fromhex(f) for f in fields[-2:]]
+    if numbers[0] not in keys:
+        raise ValueError(f"no key of keeper {numbers[0]} stands before it")
     refused, verdict = verify(library, keys[numbers[0]], receipt, nonce, *numbers)
     asked = ",".join(fields[:-2])
     if refused:
@@ -69,22 +70,23 @@ def answer(library, keys, fields):
 
 def main():
     if len(sys.argv) != 3:
-        sys.exit(__doc__)
+        print(__doc__.strip(), file=sys.stderr)
+        return 2
     library, keys, accepted = load(sys.argv[1]), {}, True
-    with open(sys.argv[2], encoding="ascii") as lines:
+    with open(sys.argv[2], encoding="ascii", errors="replace") as lines:
         for place, line in enumerate(lines, 1):
             fields = line.rstrip("\n").split(",")
             if line.startswith("#"):
                 continue
             try:
-                if fields[0] == "key":
+                if fields[0] == "key" and len(fields) == 3:
                     keys[number(fields[1])] = bytes.fromhex(fields[2])
                 else:
                     found, good = answer(library, keys, fields)
                     print(f"line {place}: {found}")
                     accepted = accepted and good
-            except (ValueError, KeyError, IndexError) as fault:
-                print(f"{sys.argv[2]}, line {place} is not as it should be: {fault!r}", file=sys.stderr)
+            except ValueError as fault:
+                print(f"{sys.argv[2]}, line {place}: {fault}", file=sys.stderr)
                 return 2
     return 0 if accepted else 1
 
