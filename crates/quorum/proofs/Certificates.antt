@@ -13,17 +13,19 @@ use lib.Count.{ones}
 use lib.Dec.{eqb}
 use lib.ListN.{length}
 use borrow.Author.Tests.{eqb-true, leb-true, le-leb, not-false}
-use Rattle.octets.specs.Octets.{same}
+use Rattle.octets.specs.Octets.{Bytes, same}
 use Rattle.octets.proofs.Tests.{and-left, and-right, and-both, or-left, or-right, or-cases, equal-or-not}
+use Rattle.octets.proofs.Parts.{bytes-part}
 use Rattle.octets.proofs.Same.{same-eq, eq-same, same-not}
 use Rattle.receipt.specs.Answer.{Answer, answer}
+use Rattle.receipt.specs.Attestation.{receiptSize}
 use Rattle.receipt.proofs.AnswerLaws.{no-fault}
 use Rattle.quorum.specs.Bits.{countBelow, maskBelow}
 use Rattle.quorum.specs.Roster.{size, isRoster, IsRoster, distinct, majority}
-use Rattle.quorum.specs.Certificate.{receiptCount, isCertificate, receiptAt, pairAt, isNone, goodBy, showsIn, shows, certified, goodAt, firstOf, firstPlace, named, certificateRefusal, certificate, Admitted, GoodBy, GoodAt, Shows, Members, Certified, Named, NamesExactly, Consistent}
+use Rattle.quorum.specs.Certificate.{receiptCount, isCertificate, receiptAt, pairAt, isNone, goodBy, showsIn, shows, certified, goodAt, firstOf, firstPlace, named, certificateRefusal, certificate, Admitted, GoodBy, GenuineBy, GoodAt, Shows, Members, Certified, Named, NamesExactly, Consistent}
 use Rattle.quorum.proofs.RosterLaws.{roster-exactly, majority-most, majority-some}
 use Rattle.quorum.proofs.Masks.{mask-lt, mask-bit, mask-by-bits, ones-mask, count-eq, any-at, any-some}
-use Rattle.quorum.proofs.Good.{good-by, good-once}
+use Rattle.quorum.proofs.Good.{good-by, good-exactly, good-once}
 use Rattle.quorum.proofs.Tallies.{placed, by-first, receipts-exactly}
 
 -- a set that is counted has a member
@@ -71,7 +73,10 @@ module _ (roster nonce : List ℕ) (log position : ℕ) (cert : List ℕ) where
   abbrev showing : List ℕ → ℕ → Bool
   showing v i = shows roster nonce log position cert v i
 
-  good-is : (q i : ℕ) → good q i ≡ true ↔ GoodBy roster nonce log position (receiptAt cert q) i
+  abbrev Good : List ℕ → ℕ → Type 0
+  Good r i = GoodBy roster nonce log position r i
+
+  good-is : (q i : ℕ) → good q i ≡ true ↔ Good (receiptAt cert q) i
   good-is q i = good-by roster nonce log position (receiptAt cert q) i
 
   -- places up to k
@@ -92,7 +97,7 @@ module _ (roster nonce : List ℕ) (log position : ℕ) (cert : List ℕ) where
       (λ z. or-left (shown k v i) _ (in-shown k v i q (omega arith) g e)) (equal-or-not q k)
 
   -- a member is counted exactly when it has a good receipt that shows the pair
-  pub shows-exactly : (v : List ℕ) (i : ℕ) → showing v i ≡ true ↔ ((q : ℕ) × Shows roster nonce log position cert v i q)
+  pub shows-exactly : (v : List ℕ) (i : ℕ) → showing v i ≡ true ↔ ((q : ℕ) × Shows roster cert Good v i q)
   unfolding shows
   shows-exactly v i = (
     λ h. let r = shown-in (receiptCount cert) v i h in (r .0, record { place = r .1; good = good-is (r .0) i .0 (r .2); pair = r .3 }),
@@ -100,7 +105,7 @@ module _ (roster nonce : List ℕ) (log position : ℕ) (cert : List ℕ) where
   )
 
   -- a place is good exactly when a member has a good receipt there
-  pub good-at : (p : ℕ) → goodAt roster nonce log position cert p ≡ true ↔ GoodAt roster nonce log position cert p
+  pub good-at : (p : ℕ) → goodAt roster nonce log position cert p ≡ true ↔ GoodAt roster cert Good p
   unfolding goodAt
   good-at p = (
     λ h. let r = any-some (size roster) (good p) h in (r .0, r .1, good-is p (r .0) .0 (r .2)),
@@ -111,14 +116,14 @@ module _ (roster nonce : List ℕ) (log position : ℕ) (cert : List ℕ) where
   abbrev mask-of : List ℕ → ℕ
   mask-of v = maskBelow (size roster) (showing v)
 
-  members-in : (v : List ℕ) → Members roster nonce log position cert v (mask-of v)
+  members-in : (v : List ℕ) → Members roster cert Good v (mask-of v)
   members-in v = record {
     bits = λ i l. let t = bit-true (showing v i) (mask-of v / 2 ^ i % 2) (mask-bit (size roster) (showing v) i l) in
         (λ x. shows-exactly v i .0 (t .0 x), λ s. t .1 (shows-exactly v i .1 s));
     none-else = mask-lt (size roster) (showing v);
   }
 
-  members-only : (v : List ℕ) (mask : ℕ) → Members roster nonce log position cert v mask → mask ≡ mask-of v
+  members-only : (v : List ℕ) (mask : ℕ) → Members roster cert Good v mask → mask ≡ mask-of v
   members-only v mask m =
       mask-by-bits (size roster) (showing v) mask (m .none-else)
       (λ i l. of-bit (showing v i) (mask / 2 ^ i % 2) (omega arith) (λ x. shows-exactly v i .1 (m .bits i l .0 x), λ s. m .bits i l .1 (shows-exactly v i .0 s)))
@@ -207,20 +212,20 @@ module _ (roster nonce : List ℕ) (log position : ℕ) (cert : List ℕ) where
     counted v = ones-mask (size roster) (showing v)
 
     -- a pair is certified exactly when k members show it
-    pub certified-exactly : (v : List ℕ) → certified roster nonce log position cert k v ≡ true ↔ Certified roster nonce log position cert k v
+    pub certified-exactly : (v : List ℕ) → certified roster nonce log position cert k v ≡ true ↔ Certified roster cert Good k v
     certified-exactly v = (
       λ h. (mask-of v, members-in v, subst (λ (n : ℕ). k ≤ n) (sym (counted v)) (enough-of v h)),
       λ c. of-enough v (subst (λ (n : ℕ). k ≤ n) (ap ones (members-only v (c .0) (c .1)) ∙ counted v) (c .2)),
     )
 
     -- a place passes exactly when it is good and its pair certified
-    test-exactly : (p : ℕ) → test p ≡ true ↔ (GoodAt roster nonce log position cert p × Certified roster nonce log position cert k (pairAt cert p))
+    test-exactly : (p : ℕ) → test p ≡ true ↔ (GoodAt roster cert Good p × Certified roster cert Good k (pairAt cert p))
     test-exactly p = (
       λ h. (good-at p .0 (and-left (goodAt roster nonce log position cert p) _ h), certified-exactly (pairAt cert p) .0 (and-right (goodAt roster nonce log position cert p) _ h)),
       λ g. and-both (goodAt roster nonce log position cert p) _ (good-at p .1 (g .0)) (certified-exactly (pairAt cert p) .1 (g .1)),
     )
 
-    not-passing : (p : ℕ) → (GoodAt roster nonce log position cert p → Certified roster nonce log position cert k (pairAt cert p) → ⊥) → test p ≡ false
+    not-passing : (p : ℕ) → (GoodAt roster cert Good p → Certified roster cert Good k (pairAt cert p) → ⊥) → test p ≡ false
     not-passing p h = by (test p) refl
       where
         by : (b : Bool) → test p ≡ b → test p ≡ false
@@ -228,17 +233,17 @@ module _ (roster nonce : List ℕ) (log position : ℕ) (cert : List ℕ) where
         by false e = e
 
     -- where k members show a pair, a place passes
-    passing : 1 ≤ k → (v : List ℕ) → Certified roster nonce log position cert k v → (q : ℕ) × (q < receiptCount cert) × (test q ≡ true)
+    passing : 1 ≤ k → (v : List ℕ) → Certified roster cert Good k v → (q : ℕ) × (q < receiptCount cert) × (test q ≡ true)
     passing o v c =
         let h = enough-of v (certified-exactly v .1 c) in
         let m = some-member (size roster) (showing v) (omega arith) in
         let s = shows-exactly v (m .0) .0 (m .2) in
         let q = s .0 in
-        (q, s .1 .place, test-exactly q .1 ((m .0, m .1, s .1 .good), subst (Certified roster nonce log position cert k) (sym (s .1 .pair)) c))
+        (q, s .1 .place, test-exactly q .1 ((m .0, m .1, s .1 .good), subst (Certified roster cert Good k) (sym (s .1 .pair)) c))
 
     -- "at most one pair can be certified", with k members needed of fewer than 2k
-    pub at-most-one : size roster < 2 * k → Consistent roster nonce log position cert
-        → (v w : List ℕ) → Certified roster nonce log position cert k v → Certified roster nonce log position cert k w → v ≡ w
+    pub at-most-one : size roster < 2 * k → Consistent roster cert Good
+        → (v w : List ℕ) → Certified roster cert Good k v → Certified roster cert Good k w → v ≡ w
     at-most-one n c v w hv hw = by (same v w) refl
       where
         apart : (v ≡ w → ⊥) → (i : ℕ) → i < size roster → showing v i ≡ true → showing w i ≡ true → ⊥
@@ -256,8 +261,8 @@ module _ (roster nonce : List ℕ) (log position : ℕ) (cert : List ℕ) where
             absurd (omega arith)
 
   -- "If no member has good receipts with different pairs, at most one pair can be certified."
-  pub at-most-one-pair : IsRoster roster → Consistent roster nonce log position cert
-      → (v w : List ℕ) → Certified roster nonce log position cert (majority (size roster)) v → Certified roster nonce log position cert (majority (size roster)) w → v ≡ w
+  pub at-most-one-pair : IsRoster roster → Consistent roster cert Good
+      → (v w : List ℕ) → Certified roster cert Good (majority (size roster)) v → Certified roster cert Good (majority (size roster)) w → v ≡ w
   at-most-one-pair r = at-most-one (majority (size roster)) (majority-most (size roster) (r .odd))
 
   -- the verdict where the receipts are looked at
@@ -282,7 +287,7 @@ module _ (roster nonce : List ℕ) (log position : ℕ) (cert : List ℕ) where
       )
 
   named-from : (place mask : ℕ) (o : Option ℕ) → firstPlace roster nonce log position cert ≡ o → placed roster nonce log position cert [] o ≡ answer 0 (place ∷ mask ∷ [])
-      → Named roster nonce log position cert place mask
+      → Named roster cert Good place mask
   unfolding firstPlace named
   named-from place mask none e h = absurd (let z : _≡_ {A = ℕ} 13 0 = ap (λ (a : Answer). a .number) h in omega arith)
   named-from place mask (some p) e h =
@@ -297,12 +302,12 @@ module _ (roster nonce : List ℕ) (log position : ℕ) (cert : List ℕ) where
       record {
         within = omega (arith, f .high);
         good = g .0;
-        members = subst (Members roster nonce log position cert (pairAt cert place)) n (members-in (pairAt cert place));
+        members = subst (Members roster cert Good (pairAt cert place)) n (members-in (pairAt cert place));
         enough = subst (λ (x : ℕ). k ≤ x) (sym (counted k (pairAt cert place)) ∙ ap ones n) c;
         first = λ q l a b. clash (test k q) (test-exactly k q .1 (a, b)) (f .first q (omega arith) l);
       }
 
-  first-from : (place mask : ℕ) → Named roster nonce log position cert place mask → firstPlace roster nonce log position cert ≡ some place
+  first-from : (place mask : ℕ) → Named roster cert Good place mask → firstPlace roster nonce log position cert ≡ some place
   unfolding firstPlace
   first-from place mask n =
       let k = majority (size roster) in
@@ -315,13 +320,13 @@ module _ (roster nonce : List ℕ) (log position : ℕ) (cert : List ℕ) where
         first = λ q a b. not-passing k q (n .first q b);
       })
 
-  placed-as : (place mask : ℕ) → Named roster nonce log position cert place mask → placed roster nonce log position cert [] (some place) ≡ answer 0 (place ∷ mask ∷ [])
+  placed-as : (place mask : ℕ) → Named roster cert Good place mask → placed roster nonce log position cert [] (some place) ≡ answer 0 (place ∷ mask ∷ [])
   unfolding named
   placed-as place mask n = ap (λ (m : ℕ). answer 0 (place ∷ m ∷ [])) (sym (members-only (pairAt cert place) mask (n .members)))
 
   -- the verdict's theorem: "The verdict names the first good receipt in order whose pair is certified, and the members whose
   -- good receipts show that pair", where nonce, roster and receipts are as they must be, and names nothing else
-  pub named-exactly : NamesExactly roster nonce log position cert (certificate roster nonce log position cert)
+  pub named-exactly : (place mask : ℕ) → certificate roster nonce log position cert ≡ answer 0 (place ∷ mask ∷ []) ↔ ((Admitted roster nonce cert) × (Named roster cert Good place mask))
   named-exactly place mask = (
     λ h. let a = admitted (ap (λ (x : Answer). x .number) h) .0 in
         (a, named-from place mask (firstPlace roster nonce log position cert) refl (sym (is-first a) ∙ h)),
@@ -345,7 +350,7 @@ module _ (roster nonce : List ℕ) (log position : ℕ) (cert : List ℕ) where
   -- a certificate stands exactly when nonce, roster and receipts are as they must be and (N + 1)/2 distinct members have good
   -- receipts showing one pair
   pub stands-exactly : certificate roster nonce log position cert .number ≡ 0
-      ↔ ((Admitted roster nonce cert) × ((v : List ℕ) × (Certified roster nonce log position cert (majority (size roster)) v)))
+      ↔ ((Admitted roster nonce cert) × ((v : List ℕ) × (Certified roster cert Good (majority (size roster)) v)))
   unfolding firstPlace
   stands-exactly = (
     λ h. let s = stands-names h in
@@ -357,8 +362,50 @@ module _ (roster nonce : List ℕ) (log position : ℕ) (cert : List ℕ) where
         ap (λ (x : Answer). x .number) (is-first a) ∙ number-of (firstPlace roster nonce log position cert) (finds k (receiptCount cert) 0 (q .0) (omega arith) (omega (arith, q .1)) (q .2)),
   )
 
--- an answer that is the certificate's verdict names exactly
-pub certificate-exactly : {roster nonce : List ℕ} {log position : ℕ} {cert : List ℕ} {given : Answer} → given ≡ certificate roster nonce log position cert
+-- what is named is so whichever way the good receipts are told
+module _ (roster cert : List ℕ) where
+  abbrev Alike : (List ℕ → ℕ → Type 0) → (List ℕ → ℕ → Type 0) → Type 0
+  Alike G H = (q i : ℕ) → G (receiptAt cert q) i ↔ H (receiptAt cert q) i
+
+  back : (G H : List ℕ → ℕ → Type 0) → Alike G H → Alike H G
+  back G H a q i = (a q i .1, a q i .0)
+
+  shows-as : (G H : List ℕ → ℕ → Type 0) → Alike G H → (v : List ℕ) (i : ℕ) → (q : ℕ) × Shows roster cert G v i q → (q : ℕ) × Shows roster cert H v i q
+  shows-as G H a v i s = (s .0, record { place = s .1 .place; good = a (s .0) i .0 (s .1 .good); pair = s .1 .pair })
+
+  members-as : (G H : List ℕ → ℕ → Type 0) → Alike G H → (v : List ℕ) (mask : ℕ) → Members roster cert G v mask → Members roster cert H v mask
+  members-as G H a v mask m = record {
+    bits = λ i l. (λ x. shows-as G H a v i (m .bits i l .0 x), λ s. m .bits i l .1 (shows-as H G (back G H a) v i s));
+    none-else = m .none-else;
+  }
+
+  good-as : (G H : List ℕ → ℕ → Type 0) → Alike G H → (p : ℕ) → GoodAt roster cert G p → GoodAt roster cert H p
+  good-as G H a p g = (g .0, g .1, a p (g .0) .0 (g .2))
+
+  named-as : (G H : List ℕ → ℕ → Type 0) → Alike G H → (place mask : ℕ) → Named roster cert G place mask → Named roster cert H place mask
+  named-as G H a place mask n = record {
+    within = n .within;
+    good = good-as G H a place (n .good);
+    members = members-as G H a (pairAt cert place) mask (n .members);
+    enough = n .enough;
+    first = λ q l g c. n .first q l (good-as H G (back G H a) q g) (c .0, members-as H G (back G H a) (pairAt cert q) (c .0) (c .1), c .2);
+  }
+
+module _ (roster nonce : List ℕ) (log position : ℕ) (cert : List ℕ) where
+  -- the verdict's theorem in terms of the receipts' bytes
+  pub named-genuine : Bytes cert → NamesExactly roster nonce log position cert (certificate roster nonce log position cert)
+  unfolding receiptAt
+  named-genuine b place mask =
+      let G : List ℕ → ℕ → Type 0 = GoodBy roster nonce log position in
+      let H : List ℕ → ℕ → Type 0 = GenuineBy roster nonce log position in
+      let a : Alike roster cert G H = λ q i. good-exactly roster nonce log position (receiptAt cert q) (bytes-part cert (q * receiptSize) receiptSize b) i in
+      let t = named-exactly roster nonce log position cert place mask in (
+        λ h. (t .0 h .0, named-as roster cert G H a place mask (t .0 h .1)),
+        λ u. t .1 (u .0, named-as roster cert H G (back roster cert G H a) place mask (u .1)),
+      )
+
+-- an answer that is the verdict on a list of bytes names exactly
+pub certificate-exactly : {roster nonce : List ℕ} {log position : ℕ} {cert : List ℕ} {given : Answer} → Bytes cert → given ≡ certificate roster nonce log position cert
     → (given ≡ certificate roster nonce log position cert) × NamesExactly roster nonce log position cert given
-certificate-exactly {roster} {nonce} {log} {position} {cert} {given} e =
-    (e, subst (NamesExactly roster nonce log position cert) (sym e) (named-exactly roster nonce log position cert))
+certificate-exactly {roster} {nonce} {log} {position} {cert} {given} b e =
+    (e, subst (NamesExactly roster nonce log position cert) (sym e) (named-genuine roster nonce log position cert b))

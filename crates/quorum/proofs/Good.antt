@@ -16,11 +16,11 @@ use Rattle.refusal.specs.declared.Outcome.the-variants.{Done, Refused as Turned
 use Rattle.refusal.proofs.NumberLaws.{outcomeNumber-injective}
 use Rattle.receipt.specs.Answer.{Answer, answer}
 use Rattle.receipt.specs.Attestation.{Attestation, readAttestation}
-use Rattle.receipt.specs.Verdict.{verdict, carried, answers, Genuine}
+use Rattle.receipt.specs.Verdict.{verdict, carried, answers}
 use Rattle.receipt.specs.declared.Question.{Question}
 use Rattle.receipt.proofs.Verifier.{says, complete, sound, passes, carries}
 use Rattle.quorum.specs.Roster.{size, keeperAt, keyAt, distinct}
-use Rattle.quorum.specs.Certificate.{askedOf, goodBy, GoodBy}
+use Rattle.quorum.specs.Certificate.{askedOf, goodBy, GoodBy, GenuineBy}
 use Rattle.quorum.specs.Tally.{member, ifGood, goodMember, codeOf}
 use Rattle.quorum.specs.declared.Found.{Found}
 use Rattle.quorum.specs.declared.Found.the-variants.{At, Nothing}
@@ -88,17 +88,15 @@ module _ (roster nonce : List ℕ) (log position : ℕ) (r : List ℕ) where
       → goodBy roster nonce log position r i ≡ true → goodBy roster nonce log position r j ≡ true → i ≡ j
   good-once d i j h k g e = distinct-sound roster (size roster) i j d h k (sym (good-keeper i g) ∙ good-keeper j e)
 
-  -- "the verifier accepts it for a LOOKUP by a roster member and its kind is assigned": the bytes are those of an assigned
-  -- entry under member i's key that answers the question
-  pub good-exactly : Bytes r → (i : ℕ)
-      → GoodBy roster nonce log position r i ↔ ((a : Attestation) × (Genuine (keyAt roster i) r nonce (askedOf roster nonce log position i) a) × (a .kind ≡ 1))
+  -- of bytes: they are those of an assigned entry under member i's key that answers the question
+  pub good-exactly : Bytes r → (i : ℕ) → GoodBy roster nonce log position r i ↔ GenuineBy roster nonce log position r i
   good-exactly b i =
       let key = keyAt roster i in
       let q = askedOf roster nonce log position i in (
-        λ g. (readAttestation r, sound key r nonce q b (g .accepted), g .assigned),
+        λ g. record { entry = readAttestation r; genuine = sound key r nonce q b (g .accepted); assigned = g .assigned },
         λ g. record {
-          accepted = ap (λ (x : Answer). x .number) (complete key r nonce q (g .0) (g .1));
-          assigned = ap (λ (a : Attestation). a .kind) (says key r nonce q (g .0) (g .1)) ∙ g .2;
+          accepted = ap (λ (x : Answer). x .number) (complete key r nonce q (g .entry) (g .genuine));
+          assigned = ap (λ (a : Attestation). a .kind) (says key r nonce q (g .entry) (g .genuine)) ∙ g .assigned;
         },
       )
 

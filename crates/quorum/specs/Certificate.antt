@@ -1,5 +1,5 @@
 -- Document 01, "Certificates": good receipts, the members whose good receipts show a pair, and the verdict.
-use Prim.Native.Nat.{ℕ, zero, suc, _+_, _*_, _/_, _%_, _^_, _≤_, _<_}
+use Prim.Native.Nat.{ℕ, zero, suc, _*_, _/_, _%_, _^_, _≤_, _<_}
 use mathlib.Core.Path.{_≡_}
 use mathlib.Core.Logic.{_↔_}
 use mathlib.Core.Bool.{Bool, true, false, not, _&&_, _||_, cond}
@@ -12,8 +12,8 @@ use Rattle.octets.specs.Octets.{part, same}
 use Rattle.refusal.specs.Number.{numberOf}
 use Rattle.refusal.specs.Order.{fault, firstFault}
 use Rattle.receipt.specs.Answer.{Answer, answer, answerWith}
-use Rattle.receipt.specs.Attestation.{receiptSize, readAttestation, pairIn}
-use Rattle.receipt.specs.Verdict.{verdict}
+use Rattle.receipt.specs.Attestation.{receiptSize, Attestation, readAttestation, pairIn}
+use Rattle.receipt.specs.Verdict.{verdict, Genuine}
 use Rattle.receipt.specs.declared.Ask.the-variants.{Lookup}
 use Rattle.receipt.specs.declared.Question.{Question}
 use Rattle.quorum.specs.Bits.{countBelow, anyBelow, maskBelow}
@@ -120,41 +120,50 @@ module _ (roster nonce : List ℕ) (log position : ℕ) where
     pub accepted : verdict (keyAt roster i) r nonce (askedOf roster nonce log position i) .number ≡ 0
     pub assigned : readAttestation r .kind ≡ 1
 
-  module _ (cert : List ℕ) where
-    -- a member has a good receipt at place p
-    abbrev pub GoodAt : ℕ → Type 0
-    GoodAt p = (i : ℕ) × (i < size roster) × GoodBy (receiptAt cert p) i
+  -- the same of bytes: they are those of an assigned entry under member i's key that answers the question
+  pub record GenuineBy (r : List ℕ) (i : ℕ) : Type 0 where
+    pub entry : Attestation
+    pub genuine : Genuine (keyAt roster i) r nonce (askedOf roster nonce log position i) entry
+    pub assigned : entry .kind ≡ 1
 
-    -- member i has a good receipt that shows the pair v: at place q
-    pub record Shows (v : List ℕ) (i q : ℕ) : Type 0 where
-      pub place : q < receiptCount cert
-      pub good : GoodBy (receiptAt cert q) i
-      pub pair : pairAt cert q ≡ v
+-- `Good r i` says that the receipt r is good by member i
+module _ (roster cert : List ℕ) (Good : List ℕ → ℕ → Type 0) where
+  -- a member has a good receipt at place p
+  abbrev pub GoodAt : ℕ → Type 0
+  GoodAt p = (i : ℕ) × (i < size roster) × Good (receiptAt cert p) i
 
-    -- the mask holds "the members whose good receipts show that pair": bit i for roster item i, and no bit beyond the roster
-    pub record Members (v : List ℕ) (mask : ℕ) : Type 0 where
-      pub bits : (i : ℕ) → i < size roster → mask / 2 ^ i % 2 ≡ 1 ↔ ((q : ℕ) × Shows v i q)
-      pub none-else : mask < 2 ^ size roster
+  -- member i has a good receipt that shows the pair v: at place q
+  pub record Shows (v : List ℕ) (i q : ℕ) : Type 0 where
+    pub place : q < receiptCount cert
+    pub good : Good (receiptAt cert q) i
+    pub pair : pairAt cert q ≡ v
 
-    -- "A value and digest are certified when (N + 1)/2 distinct members have good receipts showing both": k members are needed
-    abbrev pub Certified : ℕ → List ℕ → Type 0
-    Certified k v = (mask : ℕ) × (Members v mask) × (k ≤ ones mask)
+  -- the mask holds "the members whose good receipts show that pair": bit i for roster item i, and no bit beyond the roster
+  pub record Members (v : List ℕ) (mask : ℕ) : Type 0 where
+    pub bits : (i : ℕ) → i < size roster → mask / 2 ^ i % 2 ≡ 1 ↔ ((q : ℕ) × Shows v i q)
+    pub none-else : mask < 2 ^ size roster
 
-    -- "The verdict names the first good receipt in order whose pair is certified, and the members whose good receipts show that
-    -- pair"
-    pub record Named (place mask : ℕ) : Type 0 where
-      pub within : place < receiptCount cert
-      pub good : GoodAt place
-      pub members : Members (pairAt cert place) mask
-      pub enough : majority (size roster) ≤ ones mask
-      pub first : (q : ℕ) → q < place → GoodAt q → Certified (majority (size roster)) (pairAt cert q) → ⊥
+  -- "A value and digest are certified when (N + 1)/2 distinct members have good receipts showing both": k members are needed
+  abbrev pub Certified : ℕ → List ℕ → Type 0
+  Certified k v = (mask : ℕ) × (Members v mask) × (k ≤ ones mask)
 
-    -- the answer is 0 with a place and a mask exactly when they are the named ones
-    abbrev pub NamesExactly : Answer → Type 0
-    NamesExactly given = (place mask : ℕ) → given ≡ answer 0 (place ∷ mask ∷ []) ↔ ((Admitted roster nonce cert) × (Named place mask))
+  -- "The verdict names the first good receipt in order whose pair is certified, and the members whose good receipts show that
+  -- pair"
+  pub record Named (place mask : ℕ) : Type 0 where
+    pub within : place < receiptCount cert
+    pub good : GoodAt place
+    pub members : Members (pairAt cert place) mask
+    pub enough : majority (size roster) ≤ ones mask
+    pub first : (q : ℕ) → q < place → GoodAt q → Certified (majority (size roster)) (pairAt cert q) → ⊥
 
-    -- "no member has good receipts with different pairs"
-    abbrev pub Consistent : Type 0
-    Consistent =
-        (i q r : ℕ) → i < size roster → q < receiptCount cert → r < receiptCount cert
-        → GoodBy (receiptAt cert q) i → GoodBy (receiptAt cert r) i → pairAt cert q ≡ pairAt cert r
+  -- "no member has good receipts with different pairs"
+  abbrev pub Consistent : Type 0
+  Consistent =
+      (i q r : ℕ) → i < size roster → q < receiptCount cert → r < receiptCount cert
+      → Good (receiptAt cert q) i → Good (receiptAt cert r) i → pairAt cert q ≡ pairAt cert r
+
+-- the answer is 0 with a place and a mask exactly when nonce, roster and receipts are as they must be, and those are named
+abbrev pub NamesExactly : List ℕ → List ℕ → ℕ → ℕ → List ℕ → Answer → Type 0
+NamesExactly roster nonce log position cert given =
+    (place mask : ℕ) → given ≡ answer 0 (place ∷ mask ∷ [])
+    ↔ ((Admitted roster nonce cert) × (Named roster cert (GenuineBy roster nonce log position) place mask))

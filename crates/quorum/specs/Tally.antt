@@ -1,4 +1,4 @@
--- The tally as the program keeps it: a byte for each place, 0 for a receipt that is not good, else its member's number + 1.
+-- The program's own: the tally that it keeps, a byte for each place, 0 for a receipt that is not good, else its member's number + 1.
 use Prim.Native.Nat.{ℕ, zero, suc, _+_, _-_, _^_, _≤_, _<_}
 use mathlib.Core.Path.{_≡_}
 use mathlib.Core.Bool.{Bool, false, _&&_, _||_, cond}

@@ -1,6 +1,5 @@
 -- The verifier accepts exactly the bytes of a possible entry under the key that answers the question.
 use mathlib.Core.Path.{_≡_, refl, sym, ap, ap₂, _∙_, subst}
-use mathlib.Core.Logic.{_↔_}
 use Prim.Native.Nat.{ℕ}
 use native.Mathlib.Omega.{arith}
 use mathlib.Core.Bool.{true, not, _&&_}

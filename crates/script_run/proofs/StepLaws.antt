@@ -56,8 +56,8 @@ stepped (Over (Input q)) piece buffer held out buffer′ held′ out′ p h m re
 stepped (Over Unread) piece buffer held out buffer′ held′ out′ p h m read a = absurd m
 
 -- there is room for another turn
-pub ready : {read buffer held out : List ℕ} {s : Progress} (turns : ℕ) → After read buffer held s → length read + turns * 8192 ≤ 1125899906842624 * 8192 → length out ≡ 1376256 → Ready buffer held out s
-ready {read} turns a h o =
+pub ready : {read buffer held out : List ℕ} {s : Progress} (turns : ℕ) → 0 < turns → After read buffer held s → length read + turns * 8192 ≤ 1125899906842624 * 8192 → length out ≡ 1376256 → Ready buffer held out s
+ready {read} turns z a h o =
     record {
       line = a .line;
       most = a .most;

@@ -10,14 +10,14 @@ use Rattle.script_run.specs.declared.Ending.the-variants.{Input, Unread,
 use Rattle.script_run.specs.declared.Step.{Step}
 use Rattle.script_run.specs.declared.Step.the-variants.{More, Over}
 
--- buffers of their sizes, room for the answers to a piece, and numbers for its lines
+-- buffers of their sizes, room for the answers to a piece, and numbers for more lines
 pub record Ready (buffer held out : List ℕ) (p : Progress) : Type 0 where
   pub line : length held ≡ 201
   pub most : p .kept ≤ 201
   pub whole : length buffer ≡ 61172
   pub sized : p .size ≤ 61172
   pub room : length out ≡ 1376256
-  pub numbers : p .number + 1376256 < 2 ^ 64
+  pub numbers : p .number ≤ 2 ^ 63
 
 -- of these answers, from line `first` on, some bytes were written, and not all: line n is the first that was not wholly written
 abbrev pub Missing : List ℕ → ℕ → ℕ → Type 0

@@ -102,7 +102,7 @@ fn read_all(buffer: &mut [u8], held: &mut [u8], out: &mut [u8], p: Progress) -> 
     let mut turns: u64 = 1125899906842624;
     while 0 < turns {
         match turn(buffer, held, out, s) {
-            Step::More(q) => s = q,
+            Step::More(next) => s = next,
             Step::Over(ending) => return ending,
         }
         turns -= 1;

@@ -1,4 +1,4 @@
--- `printing::hex` meets its contract.
+-- `printing::hex` is safe.
 use lib.ListN.{length}
 use Prim.Native.Nat.{_≤_, _-_}
 use borrow.Author.Needs.{needs}

@@ -18,7 +18,7 @@ use Rattle.quorum.proofs.certify.Tie as tie
 returns : tie.Need-returns
 returns c =
     let a = c .before .before .before .before .args in
-    certificate-exactly
+    certificate-exactly (λ i. omega (arith, c .before .shared-slice-known3 .given i))
     (other-nonce (a .roster .now) (a .nonce .now) (a .log) (a .position) (a .cert .now) (c .if1 .taken))
 
 is-roster-requires : tie.Need-is-roster-requires
@@ -27,19 +27,19 @@ is-roster-requires c κs = search needs
 returns-2 : tie.Need-returns-2
 returns-2 c =
     let a = c .before .before .before .before .before .before .args in
-    certificate-exactly
+    certificate-exactly (λ i. omega (arith, c .before .before .before .shared-slice-known3 .given i))
     (no-roster (a .roster .now) (a .nonce .now) (a .log) (a .position) (a .cert .now) (c .before .before .if1 .left) (sym (c .before .is-roster .ensures) ∙ not-true _ (c .if2 .taken)))
 
 returns-3 : tie.Need-returns-3
 returns-3 c =
     let a = c .before .before .before .before .before .before .before .args in
-    certificate-exactly
+    certificate-exactly (λ i. omega (arith, c .before .before .before .before .shared-slice-known3 .given i))
     (not-whole (a .roster .now) (a .nonce .now) (a .log) (a .position) (a .cert .now) (c .before .before .before .if1 .left) (sym (c .before .before .is-roster .ensures) ∙ not-false _ (c .before .if2 .left)) (c .if3 .taken))
 
 returns-4 : tie.Need-returns-4
 returns-4 c =
     let a = c .before .before .before .before .before .before .before .before .args in
-    certificate-exactly
+    certificate-exactly (λ i. omega (arith, c .before .before .before .before .before .shared-slice-known3 .given i))
     (too-many-receipts (a .roster .now) (a .nonce .now) (a .log) (a .position) (a .cert .now) (c .before .before .before .before .if1 .left) (sym (c .before .before .before .is-roster .ensures) ∙ not-false _ (c .before .before .if2 .left)) (c .before .if3 .left) (c .if4 .taken))
 
 majority-requires : tie.Need-majority-requires
@@ -59,7 +59,7 @@ returns-5 : tie.Need-returns-5
 unfolding size receiptCount
 returns-5 c =
     let a = c .before .before .before .before .before .before .before .before .before .before .before .before .before .args in
-    certificate-exactly
+    certificate-exactly (λ i. omega (arith, c .before .before .before .before .before .before .before .before .before .before .shared-slice-known3 .given i))
     (c .first-place .ensures ∙ ap (λ (k : ℕ). firstIn (c .before .before .before .tally-of .result .codes) (a .cert .now) k (length (a .cert .now) / receiptSize) (length (a .cert .now) / receiptSize) 0) (c .before .before .before .before .majority .ensures) ∙ by-codes (a .roster .now) (a .nonce .now) (a .log) (a .position) (a .cert .now) (c .before .before .before .before .before .before .before .before .before .if1 .left) (sym (c .before .before .before .before .before .before .before .before .is-roster .ensures) ∙ not-false _ (c .before .before .before .before .before .before .before .if2 .left)) (c .before .before .before .tally-of .result .codes) (is-certificate (a .cert .now) (c .before .before .before .before .before .before .if3 .left) (c .before .before .before .before .before .if4 .left)) (c .before .before .before .tally-of .ensures .1))
 
 pub certify-spec : {M : Type 1} → statement M

@@ -22,10 +22,10 @@ loop-holds : tie.Need-loop-holds Inv-loop μ-loop
 loop-holds c = (c .before .before .before .pre .1, ([], c .before .before .before .pre .0, omega arith))
 
 turn-requires : tie.Need-turn-requires Inv-loop μ-loop
-turn-requires c κs = ready (c .before .before .before .before .loop .turns) (c .before .before .before .before .loop .inv .1 .1) (c .before .before .before .before .loop .inv .1 .2) (c .before .before .before .before .loop .inv .0)
+turn-requires c κs = ready (c .before .before .before .before .loop .turns) (omega arith) (c .before .before .before .before .loop .inv .1 .1) (c .before .before .before .before .loop .inv .1 .2) (c .before .before .before .before .loop .inv .0)
 
-enum-known-q : tie.Need-enum-known-q Inv-loop μ-loop
-enum-known-q c = search needs
+enum-known-next : tie.Need-enum-known-next Inv-loop μ-loop
+enum-known-next c = search needs
 
 enum-known-ending : tie.Need-enum-known-ending Inv-loop μ-loop
 enum-known-ending c = search needs
@@ -53,7 +53,7 @@ loop-less c = search needs
 loop-again : tie.Need-loop-again Inv-loop μ-loop
 loop-again c = let i = c .before .before .before .before .before .before .before .before .before .before .before .before .before .before .loop .inv .1 in
     let t = c .before .before .before .before .before .before .before .before .before .turn in
-    let s = subst (λ (x : Step). Stepped x (i .0) (t .last .0) (t .last .1 .0) (t .last .1 .1 .0)) (c .before .q .given .1) (t .ensures (i .0) (i .1)) in
+    let s = subst (λ (x : Step). Stepped x (i .0) (t .last .0) (t .last .1 .0) (t .last .1 .1 .0)) (c .before .next .given .1) (t .ensures (i .0) (i .1)) in
     (t .kept .1 .1 .0 ∙ c .before .before .before .before .before .before .before .before .before .before .before .before .before .before .loop .inv .0, (i .0 ++ s .0, s .2, counted (i .0) (s .0) (c .before .before .before .before .before .before .before .before .before .before .before .before .before .before .loop .turns) (omega arith) (s .1) (i .2)))
 
 same-length-4 : tie.Need-same-length-4 Inv-loop μ-loop
@@ -76,7 +76,7 @@ read-all-spec =
     μ-loop
     loop-holds
     turn-requires
-    enum-known-q
+    enum-known-next
     enum-known-ending
     same-length
     same-length-2
