@@ -53,7 +53,7 @@ pub record Attests (ru : Rules) : Type 0 where
 
 pub attests01 : Attests rules01
 unfolding rules01
-attests01 = record { gap = λ (e : Entry). (refl, refl); end = λ (z : some 6 ≡ none). Option·some-ne-none 6 z }
+attests01 = record { gap = λ (e : Entry). (refl, refl); end = Option·some-ne-none 6 }
 
 pub attests : Attests rules
 unfolding rules

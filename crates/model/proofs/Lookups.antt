@@ -13,7 +13,7 @@ use Rattle.layout.specs.declared.Row.{Row}
 use Rattle.layout.specs.Image.{Entry}
 use Rattle.a2m.specs.Search.{Found, search, lookedUp}
 use Rattle.model.specs.Log.{Log, lastEntry, keepFrom, keepBelow, Standing, unassigned, forgotten, assigned, skipped, standingAmong, standing, kindOf, referenceOf, examinedFor}
-use Rattle.model.specs.Model.{rules, shownFor}
+use Rattle.model.specs.Model.{rules01, rules, shownFor}
 use Rattle.model.proofs.Represents.{LogOk, Rising}
 
 -- what the model says of a standing, with so many entries examined

@@ -8,7 +8,7 @@ use Rattle.refusal.specs.Order.{firstFault}
 use Rattle.layout.specs.Image.{Image}
 use Rattle.a2m.specs.Call.{Call, append, advance, truncate, lookup, end}
 use Rattle.a2m.specs.ImageCalls.{wrongLength, misplaced, spent, nothingHeld, full, faults, imageRefusal}
-use Rattle.model.specs.Model.{Model, rules, modelRefusal}
+use Rattle.model.specs.Model.{Model, rules01, rules, modelRefusal}
 use Rattle.model.proofs.Represents.{Rep, Sound}
 use Rattle.model.proofs.Reading.{empty-is, full-is}
 use Rattle.model.proofs.WholeOf.{whole-of}

@@ -17,7 +17,7 @@ use Rattle.a2m.specs.NewEntry.{newEntry}
 use Rattle.a2m.specs.Search.{lookedUp}
 use Rattle.a2m.specs.ImageCalls.{rowIn, entriesIn, put, previousIn, lookupAttested, endAttested, imageDone, imageAccept, imageStep}
 use Rattle.model.specs.Log.{Log, freshLog, lastEntry, entered, standing, examinedFor}
-use Rattle.model.specs.Model.{rules, Model, logAt, total, withLog, isNil, modelRefusal, modelReceipt, modelLookup, modelEnd, modelDone, modelAccept, modelStep}
+use Rattle.model.specs.Model.{rules01, rules, Model, logAt, total, withLog, isNil, modelRefusal, modelReceipt, modelLookup, modelEnd, modelDone, modelAccept, modelStep}
 use Rattle.model.proofs.Represents.{Rep, Sound}
 use Rattle.model.proofs.Reading.{entries-are, full-is, last-is}
 use Rattle.model.proofs.Put.{put-keeps}
