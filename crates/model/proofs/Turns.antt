@@ -4,9 +4,9 @@ use mathlib.Core.Path.{_≡_, refl, ap, subst}
 use mathlib.Core.List.{List, [], _∷_, _++_}
 use mathlib.Core.Option.{some, Option·none-ne-some, Option·some-injective}
 use lib.ListN.{getElem?}
-use Rattle.a2m.specs.Call.{Call, Wide, AllWide, Reply, replies, after}
+use Rattle.a2m.specs.Call.{Call, Wide, Reply, replies, after}
 use Rattle.model.specs.Model.{Rules, Model, modelStep}
-use Rattle.model.specs.Claim.{Turn, under, by, modelTurn}
+use Rattle.model.specs.Claim.{Turn, by, modelTurn}
 
 pub replies-by : (ru : Rules) (b : Model) (cs : List Call) → replies modelTurn b (by ru cs) ≡ replies (modelStep ru) b cs
 unfolding replies

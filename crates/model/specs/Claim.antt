@@ -3,7 +3,7 @@ use Prim.Native.Nat.{ℕ, suc, _<_, _≤_}
 use mathlib.Core.Path.{_≡_}
 use mathlib.Core.Logic.{_≢_}
 use mathlib.Core.List.{List, [], _∷_, map}
-use mathlib.Core.Option.{Option, none, some, Option·map}
+use mathlib.Core.Option.{Option, some, Option·map}
 use mathlib.Core.Bool.{cond}
 use lib.ListN.{length, getD, take, getElem?}
 use lib.Dec.{eqb}
@@ -12,7 +12,7 @@ use Rattle.receipt.specs.Attestation.{readAttestation}
 use Rattle.receipt.specs.Verdict.{verdict}
 use Rattle.layout.specs.Image.{Image}
 use Rattle.table.specs.WholeImage.{meets}
-use Rattle.a2m.specs.Call.{Call, append, advance, truncate, lookup, end, Reply, refused, done, found, ended, Effect, replies, after, receiptIn}
+use Rattle.a2m.specs.Call.{Call, append, advance, truncate, lookup, end, Reply, refused, done, Effect, replies, after, receiptIn}
 use Rattle.a2m.specs.ImageCalls.{rowIn, entriesIn}
 use Rattle.model.specs.Log.{Log}
 use Rattle.model.specs.Model.{Rules, Model, logAt, modelStep}
