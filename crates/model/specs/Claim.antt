@@ -126,7 +126,8 @@ pub record ListClaim (b : Model) (ts : List Turn) (rs : List Reply) (m : Image) 
   pub remembered : (i j g p n : ℕ) (v d : List ℕ) → j < i → ForgetsAt ts rs j g n → p < n → ShowsAt rs i g p v d → ⊥
   -- "Position 0 is never assigned."
   pub positive : (i g n : ℕ) (v d : List ℕ) → ShowsAt rs i g n v d → 1 ≤ n
-  -- what a lookup or an end wrote, by whichever rules, the verifier accepts under the book's key, for the question that the call was, with what the book says then
+  -- what a lookup or an end wrote, by whichever rules, the verifier accepts under the book's key, for the question that the call was, with what the book
+  -- says then
   pub verified : (i : ℕ) (c : Call) (r : List ℕ) → callAt ts i ≡ some c → receiptIn (replyAt rs i) ≡ some r
       → verdict (b .key) r (nonceOf c) (questionOf (b .keeper) c) ≡ answer 0 (valuesOf (after modelTurn b (take i ts)) c)
   -- "after the list every slot is free or held by one log, exactly once": "all these chains together meet every slot from 1 to S exactly once"
