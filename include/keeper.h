@@ -1,17 +1,25 @@
-/* The keeper: an attested append-only memory. `rt staticlib capi` writes the archive to link with, target/staticlib/libcapi.a
- * (README.md, "From C").
+/* The keeper: an attested append-only memory, for C and C++ on x86-64 (the System V calling convention, SSE2).
+ *
+ * `rt staticlib capi` writes the archive to link with, target/staticlib/libcapi.a (README.md, "From C"). Of the C library it
+ * needs memcpy, and nothing else. include/check compares this file with the exported functions.
  *
  * What every function keeps:
- * - It returns a number of document 01: 0 done, or one of the KEEPER_ refusals below. Where several fit, the order given at
- *   the function decides.
+ * - It returns a number: 0 done, or one of the KEEPER_ refusals below, which docs/SCRIPT.md, "Numbers returned", tells in
+ *   full. Where several fit, the order given at the function decides.
  * - A refusal changes nothing: no byte of a lent buffer and no result. Results are written when 0 is returned, and only then.
- * - It keeps no pointer, allocates nothing and has no state of its own: all that goes from call to call is the table.
+ * - It keeps no pointer, allocates nothing and has no state of its own: all that goes from call to call is the table. So
+ *   threads may call at the same time, as long as none writes a buffer that another one lends: lookups of one table may run
+ *   side by side, an append stands alone.
+ * - It takes at most KEEPER_STACK_BYTES of stack, and does not call itself (docs/PERFORMANCE.md, "Code and stack").
  *
  * What every function asks:
- * - A pointer is not null, also where the length beside it is 0; the bytes from it on, as many as the length says, can be
- *   read, and written unless they are const; the length is below 2^63.
+ * - A pointer is not null, also where the length beside it is 0 (any address will do then). The bytes from it on, as many as
+ *   the length says, can be read, and written unless they are const; the length is below 2^63. A result is aligned as its
+ *   type.
  * - Buffers and results that are written overlap nothing else that is lent to the same call, and nobody else touches them
  *   meanwhile.
+ *
+ * Numbers in a table, a receipt or a roster are big-endian.
  */
 #ifndef KEEPER_H
 #define KEEPER_H
@@ -22,6 +30,9 @@
 #ifdef __cplusplus
 extern "C" {
 #endif
+
+/* One more with each change of a prototype, a constant, a rule, or the bytes of a table or receipt. */
+#define KEEPER_VERSION 1
 
 /* Numbers returned. */
 enum {
@@ -53,8 +64,30 @@ enum {
     KEEPER_MEMBER_BYTES = 40 /* an item of a roster: keeper number, big-endian, and key */
 };
 
-/* The bytes of a table of so many logs (1 to 16) and slots (1 to 800). */
+/* The most of each. */
+enum { KEEPER_MAX_LOGS = 16, KEEPER_MAX_SLOTS = 800, KEEPER_MAX_MEMBERS = 31, KEEPER_MAX_RECEIPTS = 32 };
+
+/* The bytes of a table of so many logs (1 to 16) and slots (1 to 800), and of the largest one: 61,172. */
 #define KEEPER_TABLE_BYTES(logs, slots) ((size_t)52 + (size_t)20 * (logs) + (size_t)76 * (slots))
+#define KEEPER_MAX_TABLE_BYTES KEEPER_TABLE_BYTES(KEEPER_MAX_LOGS, KEEPER_MAX_SLOTS)
+
+/* The stack that a call takes at most, its return address included; memcpy is not called where it is deepest. */
+#define KEEPER_STACK_BYTES 2560
+
+/* Where the fields of a receipt stand, with their bytes. What they say is worth something once the receipt is verified. */
+enum {
+    KEEPER_AT_NAME = 0,       /*  6: "LOOKUP", or "END" and three zero bytes */
+    KEEPER_AT_KIND = 6,       /*  1: a receipt's kind, below */
+    KEEPER_AT_LOG = 7,        /*  1 */
+    KEEPER_AT_KEEPER = 8,     /*  8: the keeper's number */
+    KEEPER_AT_POSITION = 16,  /*  8: the position asked for, or that of the log's end */
+    KEEPER_AT_REFERENCE = 24, /*  8: unassigned: the highest position; assigned: the position itself; skipped: that of the
+                                     next entry; forgotten: the lowest position */
+    KEEPER_AT_NONCE = 32,     /* 32: the asker's own fresh bytes */
+    KEEPER_AT_VALUE = 64,     /* 32: zero unless assigned */
+    KEEPER_AT_DIGEST = 96,    /* 32: zero unless assigned */
+    KEEPER_AT_TAG = 128       /* 32: HMAC-SHA-256 of the bytes before it, under the keeper's key */
+};
 
 /* A receipt's kind. */
 enum { KEEPER_UNASSIGNED = 0, KEEPER_ASSIGNED = 1, KEEPER_SKIPPED = 2, KEEPER_FORGOTTEN = 3 };
@@ -62,7 +95,7 @@ enum { KEEPER_UNASSIGNED = 0, KEEPER_ASSIGNED = 1, KEEPER_SKIPPED = 2, KEEPER_FO
 /* What a comparison of runs finds. */
 enum { KEEPER_DIFFER = 0, KEEPER_AGREE = 1, KEEPER_COLLISION = 2 };
 
-/* What an accepted receipt says. */
+/* What an accepted receipt says; its value and digest stand in the receipt. 40 bytes, without padding. */
 typedef struct {
     uint64_t keeper;
     uint64_t log;
@@ -124,15 +157,24 @@ uint8_t keeper_verify_end(const uint8_t *key, size_t key_bytes, const uint8_t *r
                           const uint8_t *nonce, size_t nonce_bytes, uint64_t keeper, uint64_t log,
                           keeper_verdict *verdict);
 
-/* Whether a certificate, 0 to 32 receipts on end, certifies a value and digest at a position of a log for a roster. place
- * becomes the place, from 0, of the first good receipt that shows the certified pair, and mask the members whose good
- * receipts show it, the lowest bit for the roster's first. Refused, in this order: 7 the nonce's length; 12; 9; 13. */
+/* Whether a certificate, 0 to 32 receipts on end, certifies a value and digest at a position of a log, for a roster: 1 to 31
+ * members of KEEPER_MEMBER_BYTES, an odd number N of them with different keeper numbers. A receipt is good if it answers the
+ * lookup of a member, as keeper_verify_lookup finds under that member's key, and is assigned; others are passed over. A value
+ * and digest are certified when good receipts of (N + 1) / 2 different members show both.
+ *
+ * place becomes the place, from 0, of the first good receipt that shows the certified pair, and mask the members whose good
+ * receipts show it, the lowest bit for the roster's first. The certified value stands at
+ * certificate + place * KEEPER_RECEIPT_BYTES + KEEPER_AT_VALUE, the digest at KEEPER_AT_DIGEST of the same receipt.
+ * Refused, in this order: 7 the nonce's length; 12; 9; 13. */
 uint8_t keeper_certify(const uint8_t *roster, size_t roster_bytes, const uint8_t *nonce, size_t nonce_bytes, uint64_t log,
                        uint64_t position, const uint8_t *certificate, size_t certificate_bytes, uint64_t *place,
                        uint32_t *mask);
 
-/* Compares two runs, each a start digest, a first position and values of 32 bytes; verdict becomes what it finds. Only a
- * collision writes the buffer of 144 bytes: the first run's block of the unequal pair nearest the ends, then the second's.
+/* Compares two runs, each a start digest, a first position and values of 32 bytes at consecutive positions. A value's block
+ * is its position, the value and the digest before it, 72 bytes, and its digest SHA-256 of the block, as an append makes it.
+ * verdict becomes KEEPER_DIFFER where the last digests differ; KEEPER_AGREE where all blocks are equal, from the ends back to
+ * the shorter run's first; else KEEPER_COLLISION: then the unequal pair of blocks nearest the ends, which have one SHA-256,
+ * fills the buffer of 144 bytes, the first run's before the second's. The other verdicts leave the buffer as it was.
  * Refused, in this order: 7 for another length of a start digest or the buffer; 14. */
 uint8_t keeper_compare(const uint8_t *start1, size_t start1_bytes, uint64_t first1, const uint8_t *values1,
                        size_t values1_bytes, const uint8_t *start2, size_t start2_bytes, uint64_t first2,

@@ -1,13 +1,26 @@
-/* A crest is put, looked up and verified, through include/keeper.h. */
+/* A crest is put, looked up and verified; then what the receipt says is read out of its bytes. */
 #include "keeper.h"
 #include <inttypes.h>
 #include <stdio.h>
+#include <string.h>
+
+_Static_assert(sizeof(keeper_verdict) == 40, "the library writes five numbers of 8 bytes");
+_Static_assert(KEEPER_MAX_TABLE_BYTES == 61172, "the largest table");
+
+static uint64_t number_at(const uint8_t *bytes)
+{
+    uint64_t number = 0;
+    for (int i = 0; i < 8; i++)
+        number = number << 8 | bytes[i];
+    return number;
+}
 
 int main(void)
 {
     static uint8_t table[KEEPER_TABLE_BYTES(2, 6)];
-    const uint8_t key[KEEPER_KEY_BYTES] = {1}, nonce[KEEPER_NONCE_BYTES] = {2}, crest[KEEPER_VALUE_BYTES] = {4, 55};
-    uint8_t receipt[KEEPER_RECEIPT_BYTES];
+    const uint8_t key[KEEPER_KEY_BYTES] = {1}, nonce[KEEPER_NONCE_BYTES] = {2};
+    const uint8_t crest[KEEPER_VALUE_BYTES] = {[30] = 455 / 256, [31] = 455 % 256};
+    uint8_t receipt[KEEPER_RECEIPT_BYTES], tag[KEEPER_DIGEST_BYTES];
     uint64_t low, high, examined;
     keeper_verdict verdict;
 
@@ -19,6 +32,18 @@ int main(void)
     printf("format %d, append %d, lookup %d, verify %d\n", formatted, appended, looked_up, verified);
     if (verified != KEEPER_DONE)
         return 1;
-    printf("position %" PRIu64 ", kind %" PRIu64 " (%d is assigned)\n", verdict.position, verdict.kind, KEEPER_ASSIGNED);
+    printf("verdict: kind %" PRIu64 ", log %" PRIu64 ", keeper %" PRIu64 ", position %" PRIu64 ", reference %" PRIu64 "\n",
+           verdict.kind, verdict.log, verdict.keeper, verdict.position, verdict.reference);
+    printf("receipt: kind %d, log %d, keeper %" PRIu64 ", position %" PRIu64 ", reference %" PRIu64 ", %.6s\n",
+           receipt[KEEPER_AT_KIND], receipt[KEEPER_AT_LOG], number_at(receipt + KEEPER_AT_KEEPER),
+           number_at(receipt + KEEPER_AT_POSITION), number_at(receipt + KEEPER_AT_REFERENCE),
+           (const char *)receipt + KEEPER_AT_NAME);
+    printf("value %" PRIu64 ", digest %016" PRIx64 "..\n", number_at(receipt + KEEPER_AT_VALUE + 24),
+           number_at(receipt + KEEPER_AT_DIGEST));
+
+    /* What the verifier saw to: the nonce is ours, and the tag is that of the bytes before it. */
+    keeper_tag(key, sizeof key, receipt, KEEPER_AT_TAG, tag, sizeof tag);
+    printf("nonce ours: %d, tag right: %d\n", memcmp(receipt + KEEPER_AT_NONCE, nonce, sizeof nonce) == 0,
+           memcmp(receipt + KEEPER_AT_TAG, tag, sizeof tag) == 0);
     return 0;
 }

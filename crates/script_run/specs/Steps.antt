@@ -20,7 +20,8 @@ pub record Ready (buffer held out : List ℕ) (p : Progress) : Type 0 where
   pub room : length out ≡ 1376256
   pub numbers : p .number ≤ 2 ^ 63
 
--- of these answers, from line `first` on, some bytes were written, and not all: line n is the first that was not wholly written
+-- of these answers, from line `first` on, some bytes were written, and not all: line n is the first that was not wholly written, since
+-- each answer ends with its only newline
 abbrev pub Missing : List ℕ → ℕ → ℕ → Type 0
 Missing answers first n = (done : ℕ) × (done < length answers) × (n ≡ first + newlines (take done answers))
 

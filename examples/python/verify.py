@@ -1,0 +1,95 @@
+#!/usr/bin/env python3
+"""Verifies receipts out of a file, through the keeper's C library.
+
+    verify.py LIBRARY FILE    LIBRARY: the shared library, which examples/python/run makes
+
+A line of FILE is one of these, keys and other bytes in hexadecimal; a line that starts with # says nothing:
+
+    key,KEEPER,KEY                              the key of a keeper
+    lookup,KEEPER,LOG,POSITION,NONCE,RECEIPT    a question for a position, and the receipt that came for it
+    end,KEEPER,LOG,NONCE,RECEIPT                a question for a log's end, and the receipt that came for it
+
+Exit status: 0 every receipt was accepted, 1 one was not, 2 the file or the command is not as above.
+"""
+import ctypes
+import sys
+
+# include/keeper.h: the numbers of the verifier, the kinds, and where a receipt has its value
+WORDS = {0: "done", 7: "length", 9: "no receipt", 10: "tag", 11: "other question"}
+KINDS = ["unassigned", "assigned", "skipped", "forgotten"]
+VALUE = slice(64, 96)
+
+
+class Verdict(ctypes.Structure):
+    _fields_ = [(name, ctypes.c_uint64) for name in ("keeper", "log", "position", "kind", "reference")]
+
+
+def load(path):
+    library = ctypes.CDLL(path)
+    buffer, number = [ctypes.c_char_p, ctypes.c_size_t], ctypes.c_uint64
+    result = [ctypes.POINTER(Verdict)]
+    library.keeper_verify_lookup.argtypes = buffer * 3 + [number] * 3 + result
+    library.keeper_verify_end.argtypes = buffer * 3 + [number] * 2 + result
+    for call in (library.keeper_verify_lookup, library.keeper_verify_end):
+        call.restype = ctypes.c_uint8
+    return library
+
+
+def verify(library, key, receipt, nonce, keeper, log, position=None):
+    """The number returned, and the verdict, which is filled where that is 0. Without a position: the log's end."""
+    verdict = Verdict()
+    buffers = key, len(key), receipt, len(receipt), nonce, len(nonce)
+    if position is None:
+        return library.keeper_verify_end(*buffers, keeper, log, verdict), verdict
+    return library.keeper_verify_lookup(*buffers, keeper, log, position, verdict), verdict
+
+
+def number(text):
+    if not (text.isascii() and text.isdigit() and int(text) < 2**64):
+        raise ValueError(f"{text} is no number below 2^64")
+    return int(text)
+
+
+def answer(library, keys, fields):
+    """What is found on a question, in words, and whether its receipt is accepted."""
+    if len(fields) != {"lookup": 6, "end": 5}.get(fields[0]):
+        raise ValueError("none of key, lookup and end with its fields")
+    numbers = [number(n) for n in fields[1:-2]]
+    nonce, receipt = [bytes.fromhex(f) for f in fields[-2:]]
+    if numbers[0] not in keys:
+        raise ValueError(f"no key of keeper {numbers[0]} stands before it")
+    refused, verdict = verify(library, keys[numbers[0]], receipt, nonce, *numbers)
+    asked = ",".join(fields[:-2])
+    if refused:
+        return f"{asked}: refused, {refused} ({WORDS[refused]})", False
+    found = f"{KINDS[verdict.kind]}, position {verdict.position}, reference {verdict.reference}"
+    if KINDS[verdict.kind] == "assigned":
+        found += f", value {int.from_bytes(receipt[VALUE], 'big')}"
+    return f"{asked}: {found}", True
+
+
+def main():
+    if len(sys.argv) != 3:
+        print(__doc__.strip(), file=sys.stderr)
+        return 2
+    library, keys, accepted = load(sys.argv[1]), {}, True
+    with open(sys.argv[2], encoding="ascii", errors="replace") as lines:
+        for place, line in enumerate(lines, 1):
+            fields = line.rstrip("\n").split(",")
+            if line.startswith("#"):
+                continue
+            try:
+                if fields[0] == "key" and len(fields) == 3:
+                    keys[number(fields[1])] = bytes.fromhex(fields[2])
+                else:
+                    found, good = answer(library, keys, fields)
+                    print(f"line {place}: {found}")
+                    accepted = accepted and good
+            except ValueError as fault:
+                print(f"{sys.argv[2]}, line {place}: {fault}", file=sys.stderr)
+                return 2
+    return 0 if accepted else 1
+
+
+if __name__ == "__main__":
+    sys.exit(main())
