@@ -62,13 +62,18 @@ freeOf b = unbe (part b freeOffset 2)
 unfoldable pub keyOf : List ℕ → List ℕ
 keyOf b = part b 20 32
 
--- the rows follow the header
-abbrev pub rowOffset : ℕ → ℕ
-rowOffset g = headerSize + rowSize * g
+-- in a layout the rows follow the header, and the slots follow the rows: slot i + 1 of a table of so many logs
+abbrev pub rowOffsetIn : Plan → ℕ → ℕ
+rowOffsetIn p g = p .header + p .row * g
 
--- the slots follow the rows: slot i + 1 of a table of so many logs
+abbrev pub cellOffsetIn : Plan → ℕ → ℕ → ℕ
+cellOffsetIn p logs i = rowOffsetIn p logs + slotSize * i
+
+abbrev pub rowOffset : ℕ → ℕ
+rowOffset g = rowOffsetIn plan g
+
 abbrev pub cellOffset : ℕ → ℕ → ℕ
-cellOffset logs i = rowOffset logs + slotSize * i
+cellOffset logs i = cellOffsetIn plan logs i
 
 -- slots count from 1
 abbrev pub slotOffset : ℕ → ℕ → ℕ
