@@ -61,11 +61,11 @@ pub record Effect (S : Type 0) : Type 0 where
 abbrev pub effect : {S : Type 0} → Reply → S → Effect S
 effect r s = record { reply = r; state = s }
 
--- the answers to a list of calls, and what stands after it: each call gets what the last one left
-unfoldable pub replies : {S : Type 0} → (S → Call → Effect S) → S → List Call → List Reply
+-- the answers to a list of calls, and what stands after it: each call gets what the last one left. An item of the list is a call, or a call with more
+unfoldable pub replies : {C S : Type 0} → (S → C → Effect S) → S → List C → List Reply
 replies step s [] = []
 replies step s (c ∷ cs) = step s c .reply ∷ replies step (step s c .state) cs
 
-unfoldable pub after : {S : Type 0} → (S → Call → Effect S) → S → List Call → S
+unfoldable pub after : {C S : Type 0} → (S → C → Effect S) → S → List C → S
 after step s [] = s
 after step s (c ∷ cs) = after step (step s c .state) cs

@@ -44,6 +44,7 @@ use case_fields::place;
 use case_fields::slot;
 use case_fields::slot_mut;
 use comparing::compared;
+use layout::places::LARGEST;
 use libc::STDIN_FILENO;
 use line::find;
 use printing::text;
@@ -219,7 +220,7 @@ fn carry_out_all(t: &[u8], table: &mut [u8], pile: &mut [u8]) {
 
 fn main() {
     let mut t = io::large_buffer();
-    let mut table = [0u8; 61172];
+    let mut table = [0u8; LARGEST];
     let mut pile = [0u8; 10240];
     let n = io::read_full(STDIN_FILENO, &mut t);
     if n == t.len() {

@@ -13,7 +13,7 @@ use Rattle.bigendian.proofs.Laws.{length-be, put-byte}
 use Rattle.layout.specs.declared.Row.{Row}
 use Rattle.layout.specs.Image.{Slot, slotAt, rowAt}
 use Rattle.layout.specs.Changes.{slotOf}
-use Rattle.layout.specs.Layout.{mark, headerSize, rowSize, slotSize, rowOffset, slotOffset, readRow, rowBytes, readSlot, slotBytes, readTable, countBytes, headerBytes, putRow, putSlot, putNext}
+use Rattle.layout.specs.Layout.{mark, markNumber, headerSize, rowSize, slotSize, rowOffset, slotOffset, readRow, rowBytes, readSlot, slotBytes, readTable, countBytes, headerBytes, putRow, putSlot, putNext}
 use Rattle.layout.specs.Fits.{SlotFits, Counted}
 use Rattle.layout.proofs.FieldLaws.{length-rowBytes, length-slotBytes}
 use Rattle.octets.proofs.Zeros.{length-zeros}
@@ -70,7 +70,7 @@ pub zero-two : be 2 0 ≡ zeros 2
 unfolding be zeros
 zero-two = refl
 
-pub mark-four : be 4 0x41324D54 ≡ mark
+pub mark-four : be 4 markNumber ≡ mark
 unfolding be
 mark-four = refl
 
@@ -112,7 +112,7 @@ slot-fields o {o₁} {o₂} {o₃} {o₄} {o₅} {o₆} w n p v d f h e₁ e₂ 
     let w₆ : o₆ ≡ splice o 0 (((((x₁ ++ x₂) ++ x₃) ++ x₄) ++ v) ++ d) = splice-then o ((((x₁ ++ x₂) ++ x₃) ++ x₄) ++ v) d 44 w₅ (simp (length-append, l₁, l₂, l₃, l₄, lv)) (omega arith) e₆ in
     w₆ ∙ splice-whole o (((((x₁ ++ x₂) ++ x₃) ++ x₄) ++ v) ++ d) (simp (length-append, l₁, l₂, l₃, l₄, lv, ld) (omega arith)) ∙ simp append-assoc
 
-pub count-fields : (o : List ℕ) {o₁ o₂ o₃ o₄ : List ℕ} (g s : ℕ) → length o ≡ headerSize → o₁ ≡ splice o 0 (be 4 0x41324D54) → o₂ ≡ splice o₁ 4 (be 1 g) → o₃ ≡ splice o₂ 5 (be 1 0) → o₄ ≡ splice o₃ 6 (be 2 s)
+pub count-fields : (o : List ℕ) {o₁ o₂ o₃ o₄ : List ℕ} (g s : ℕ) → length o ≡ headerSize → o₁ ≡ splice o 0 (be 4 markNumber) → o₂ ≡ splice o₁ 4 (be 1 g) → o₃ ≡ splice o₂ 5 (be 1 0) → o₄ ≡ splice o₃ 6 (be 2 s)
     → o₄ ≡ splice o 0 (countBytes g s)
 count-fields o {o₁} {o₂} {o₃} {o₄} g s h e₁ e₂ e₃ e₄ =
     let x₂ : List ℕ = be 1 g in

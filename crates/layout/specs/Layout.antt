@@ -8,21 +8,36 @@ use Rattle.layout.specs.declared.Row.{Row}
 use Rattle.layout.specs.Image.{Slot, Image}
 use Rattle.layout.specs.Lists.{tabulate, flat}
 
--- "Header, 52 bytes"
-abbrev pub headerSize : ℕ
-headerSize = 52
+-- a layout: its mark, and the bytes of its header and of a row
+pub record Plan : Type 0 where
+  pub mark : List ℕ
+  pub header : ℕ
+  pub row : ℕ
 
--- "Then G rows of 20 bytes"
+-- document 01's, never edited: "0–3 ASCII A2MT", "Header, 52 bytes", "Then G rows of 20 bytes"
+abbrev pub plan01 : Plan
+plan01 = record { mark = 65 ∷ 50 ∷ 77 ∷ 84 ∷ []; header = 52; row = 20 }
+
+-- the present one
+abbrev pub plan : Plan
+plan = plan01
+
+abbrev pub headerSize : ℕ
+headerSize = plan .header
+
 abbrev pub rowSize : ℕ
-rowSize = 20
+rowSize = plan .row
 
 -- "Then slots 1 to S of 76 bytes"
 abbrev pub slotSize : ℕ
 slotSize = 76
 
--- "0–3 ASCII A2MT"
 abbrev pub mark : List ℕ
-mark = 65 ∷ 50 ∷ 77 ∷ 84 ∷ []
+mark = plan .mark
+
+-- the number that its bytes make (`CodeLaws: mark-four`)
+abbrev pub markNumber : ℕ
+markNumber = 0x41324D54
 
 -- "4 log count G"
 unfoldable pub logsOf : List ℕ → ℕ
@@ -47,13 +62,18 @@ freeOf b = unbe (part b freeOffset 2)
 unfoldable pub keyOf : List ℕ → List ℕ
 keyOf b = part b 20 32
 
--- the rows follow the header
-abbrev pub rowOffset : ℕ → ℕ
-rowOffset g = headerSize + rowSize * g
+-- in a layout the rows follow the header, and the slots follow the rows: slot i + 1 of a table of so many logs
+abbrev pub rowOffsetIn : Plan → ℕ → ℕ
+rowOffsetIn p g = p .header + p .row * g
 
--- the slots follow the rows: slot i + 1 of a table of so many logs
+abbrev pub cellOffsetIn : Plan → ℕ → ℕ → ℕ
+cellOffsetIn p logs i = rowOffsetIn p logs + slotSize * i
+
+abbrev pub rowOffset : ℕ → ℕ
+rowOffset g = rowOffsetIn plan g
+
 abbrev pub cellOffset : ℕ → ℕ → ℕ
-cellOffset logs i = rowOffset logs + slotSize * i
+cellOffset logs i = cellOffsetIn plan logs i
 
 -- slots count from 1
 abbrev pub slotOffset : ℕ → ℕ → ℕ
@@ -62,6 +82,10 @@ slotOffset logs s = cellOffset logs (s - 1)
 -- "The length is 52 + 20G + 76S exactly"
 abbrev pub tableSize : ℕ → ℕ → ℕ
 tableSize logs slots = cellOffset logs slots
+
+-- "at most 61,172": the table of most logs and slots
+abbrev pub largest : ℕ
+largest = tableSize 16 800
 
 -- "5 zero": the header's first zero byte; "18–19 zero": the other two
 abbrev pub zeroOffset : ℕ

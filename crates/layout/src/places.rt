@@ -6,11 +6,17 @@ ghost use Rattle.octets.specs.Octets.{part, splice};
 ghost use Rattle.bigendian.specs.BigEndian.{be, unbe};
 ghost use Rattle.layout.specs.Layout.{rowOffset, slotOffset, tableSize};
 
+// The mark, "A2MT", as a big-endian number.
+pub const MARK: u32 = 0x4132_4D54;
+
 pub const HEADER: usize = 52;
 
 pub const ROW: usize = 20;
 
 pub const SLOT: usize = 76;
+
+// The length of the largest table: 16 logs, 800 slots.
+pub const LARGEST: usize = HEADER + ROW * 16 + SLOT * 800;
 
 // Where log g's row starts; past the last row, where the slots start.
 pub fn row_offset(g: usize) -> usize

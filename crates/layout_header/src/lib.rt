@@ -4,6 +4,7 @@ use bigendian::get_u64;
 use bigendian::put_u32;
 use bigendian::put_u64;
 use layout::places::HEADER;
+use layout::places::MARK;
 use layout::places::byte_at;
 use layout::places::pair_at;
 use layout::places::put_byte;
@@ -71,7 +72,7 @@ fn write_counts(part: &mut [u8], logs: usize, slots: usize)
     requires { ⌜ (logs < 256) × (slots < 65536) ⌝ }
     ensures { λ _. ⌜ now (part .exit) ≡ splice (now (part .entry)) 0 (countBytes logs slots) ⌝ }
 {
-    put_u32(part, 0, 0x41324D54);
+    put_u32(part, 0, MARK);
     put_byte(part, 4, logs);
     put_byte(part, 5, 0);
     put_pair(part, 6, slots);
@@ -118,7 +119,7 @@ fn constants_fit(table: &[u8]) -> bool
     requires { ⌜ headerSize ≤ length (now table) ⌝ }
     ensures { λ r. ⌜ r ≡ constantsFit (now (table .entry)) ⌝ }
 {
-    if get_u32(table, 0) != 0x41324D54 {
+    if get_u32(table, 0) != MARK {
         return false;
     }
     if byte_at(table, 5) != 0 {

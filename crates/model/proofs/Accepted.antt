@@ -4,10 +4,10 @@ use Prim.Native.Nat.{ℕ, _^_, _≤_, _<_}
 use mathlib.Core.Path.{_≡_, refl, sym, ap, ap₂, subst, _∙_}
 use mathlib.Core.Logic.{_≢_, inl, inr}
 use mathlib.Core.List.{List, [], _∷_}
-use mathlib.Core.Bool.{false, cond}
-use mathlib.Core.Option.{none, some, Option·none-ne-some, Option·some-injective}
+use mathlib.Core.Bool.{Bool, true, false, cond}
+use mathlib.Core.Option.{none, some, Option·none-ne-some, Option·some-ne-none, Option·some-injective}
 use native.Mathlib.Omega.{arith}
-use lib.ListN.{length, getD, take, getElem?}
+use lib.ListN.{length, getD, take}
 use Rattle.octets.specs.Octets.{zeros}
 use Rattle.octets.proofs.Zeros.{length-zeros}
 use Rattle.receipt.specs.Answer.{answer}
@@ -17,18 +17,19 @@ use Rattle.receipt.specs.declared.Ask.the-variants.{Lookup, End}
 use Rattle.receipt.specs.declared.Question.{Question}
 use Rattle.receipt.proofs.Verifier.{complete}
 use Rattle.layout.specs.Image.{Entry, blankEntry}
-use Rattle.a2m.specs.Call.{Call, append, advance, truncate, lookup, end, Wide, AllWide, replies, after, receiptIn}
+use Rattle.a2m.specs.Call.{Call, append, advance, truncate, lookup, end, Wide, replies, after, receiptIn}
 use Rattle.a2m.proofs.Lists.{In}
 use Rattle.model.specs.Log.{Log, lastEntry, Standing, unassigned, forgotten, assigned, skipped, standing, kindOf, referenceOf}
-use Rattle.model.specs.Model.{rules01, Model, logAt, isNil, modelReceipt, shownFor, modelLookup, modelEnd, modelDone, modelAccept, modelStep}
-use Rattle.model.specs.Claim.{replyAt}
+use Rattle.model.specs.Model.{Rules, rules01, rules, Model, logAt, isNil, modelReceipt, shownFor, modelLookup, modelEnd, modelDone, modelAccept, modelStep}
+use Rattle.model.specs.Claim.{Turn, modelTurn, callAt, replyAt}
 use Rattle.model.specs.Question.{questionOf, nonceOf, valuesOf}
 use Rattle.model.proofs.Represents.{LogOk}
 use Rattle.model.proofs.Positions.{ok-low}
-use Rattle.model.proofs.Passed.{Passed, peel, Stepped, turned, taken, stepped}
+use Rattle.model.proofs.Passed.{Passed, Stepped, turned, taken, stepped}
 use Rattle.model.proofs.Entries.{last-in, in-bounds}
 use Rattle.model.proofs.Shown.{length-LOOKUP, length-END}
-use Rattle.model.proofs.Along.{Keeps, after-fixed, at-keeps, at-wide, at-reply}
+use Rattle.model.proofs.Along.{Keeps, after-fixed, at-keeps, at-call}
+use Rattle.model.proofs.Turns.{WideTurn, Each, each-at}
 use Rattle.model.proofs.Standings.{Means, standing-means}
 
 -- ---- a receipt of the model
@@ -43,6 +44,23 @@ Accepted b name kind g n reference nonce e q = verdict (b .key) (modelReceipt b 
 not-end : LOOKUP ≢ END
 unfolding LOOKUP END
 not-end h = let z : _≡_ {A = ℕ} 76 69 = ap (λ (l : List ℕ). getD l 0 0) h in omega arith
+
+-- rules by which the verifier accepts every receipt: a skipped one shows zero bytes, and an end of an empty list has a number. Asked of each call's rules,
+-- so that a list may begin by document 01's: a verifier that is changed with the present rules must go on to accept the receipts given by the old ones
+pub record Attests (ru : Rules) : Type 0 where
+  pub gap : (e : Entry) → (ru .gap e .value ≡ zeros 32) × (ru .gap e .digest ≡ zeros 32)
+  pub end : ru .emptyEnd ≢ none
+
+pub attests01 : Attests rules01
+unfolding rules01
+attests01 = record { gap = λ (e : Entry). (refl, refl); end = Option·some-ne-none 6 }
+
+pub attests : Attests rules
+unfolding rules
+attests = attests01
+
+abbrev pub AttestsTurn : Turn → Type 0
+AttestsTurn t = Attests (t .rules)
 
 module _ (b : Model) (keeps : Keeps b) (key : length (b .key) ≡ 32) (g : ℕ) (log : g ≤ 15) (c : List ℕ) (nonce : length c ≡ 32) where
   abbrev L : Log
@@ -88,21 +106,21 @@ module _ (b : Model) (keeps : Keeps b) (key : length (b .key) ≡ 32) (g : ℕ) 
         lookup-accepted n n1 n64 1 (e .position) e (omega arith) (z .0) (z .1) (omega arith)
         (λ (q : 1 ≡ 1). h) (λ (q : 1 ≡ 0). absurd (omega arith)) (λ (q : 2 ≤ 1). absurd (omega arith)) (λ (q : 1 ≡ 1 → ⊥). absurd (q refl))
 
-    skipped-accepted : (e : Entry) → In e (L .entries) → n < e .position → Looked 2 (e .position) (rules01 .gap e)
-    unfolding rules01
-    skipped-accepted e m h =
+    skipped-accepted : (ru : Rules) → Attests ru → (e : Entry) → In e (L .entries) → n < e .position → Looked 2 (e .position) (ru .gap e)
+    skipped-accepted ru t e m h =
+        let blank = t .gap e in
         let top = in-bounds L (keeps .sound g) e m .1 in
         let u = keeps .fits g .high in
-        lookup-accepted n n1 n64 2 (e .position) blankEntry (omega arith) (length-zeros 32) (length-zeros 32) (omega arith)
-        (λ (z : 2 ≡ 1). absurd (omega arith)) (λ (z : 2 ≡ 0). absurd (omega arith)) (λ (z : 2 ≤ 2). h) (λ (z : 2 ≡ 1 → ⊥). (refl, refl))
+        lookup-accepted n n1 n64 2 (e .position) (ru .gap e) (omega arith) (ap length (blank .0) ∙ length-zeros 32) (ap length (blank .1) ∙ length-zeros 32) (omega arith)
+        (λ (z : 2 ≡ 1). absurd (omega arith)) (λ (z : 2 ≡ 0). absurd (omega arith)) (λ (z : 2 ≤ 2). h) (λ (z : 2 ≡ 1 → ⊥). blank)
 
     -- whatever the position's standing
-    standing-accepted : (s : Standing) → Means L n s → Looked (kindOf s) (referenceOf L s) (shownFor rules01 s)
+    standing-accepted : (ru : Rules) → Attests ru → (s : Standing) → Means L n s → Looked (kindOf s) (referenceOf L s) (shownFor ru s)
     unfolding kindOf referenceOf shownFor
-    standing-accepted unassigned h = unassigned-accepted h
-    standing-accepted forgotten h = forgotten-accepted h
-    standing-accepted (assigned e) h = assigned-accepted e (h .0) (h .1)
-    standing-accepted (skipped e) h = skipped-accepted e (h .0) (h .1)
+    standing-accepted ru t unassigned h = unassigned-accepted h
+    standing-accepted ru t forgotten h = forgotten-accepted h
+    standing-accepted ru t (assigned e) h = assigned-accepted e (h .0) (h .1)
+    standing-accepted ru t (skipped e) h = skipped-accepted ru t e (h .0) (h .1)
 
   -- an END shows the entry at H
   end-accepted : isNil (L .entries) ≡ false → Accepted b END 1 g (L .high) (L .high) c (lastEntry (L .entries)) (record { keeper = b .keeper; log = g; ask = End })
@@ -141,10 +159,10 @@ module _ (b : Model) (keeps : Keeps b) (key : length (b .key) ≡ 32) (g : ℕ) 
 abbrev pub Verifies : List ℕ → ℕ → Call → List ℕ → List ℕ → Type 0
 Verifies key keeper call r values = verdict key r (nonceOf call) (questionOf keeper call) ≡ answer 0 values
 
--- 6 turned an end of an empty list away
-end-held : (b : Model) (g : ℕ) → cond (isNil (logAt (b .logs) g .entries)) (rules01 .emptyEnd) none ≡ none → isNil (logAt (b .logs) g .entries) ≡ false
-unfolding rules01
-end-held b g h = peel (isNil (logAt (b .logs) g .entries)) 6 none h .0
+-- an end of an empty list was turned away
+end-held : (ru : Rules) → Attests ru → (t : Bool) → cond t (ru .emptyEnd) none ≡ none → t ≡ false
+end-held ru a true h = absurd (a .end h)
+end-held ru a false h = refl
 
 end-shows : (b : Model) (g : ℕ) (c : List ℕ) → isNil (logAt (b .logs) g .entries) ≡ false → LogOk (logAt (b .logs) g)
     → modelReceipt b END (cond (isNil (logAt (b .logs) g .entries)) 0 1) g (lastEntry (logAt (b .logs) g .entries) .position) (lastEntry (logAt (b .logs) g .entries) .position) c (lastEntry (logAt (b .logs) g .entries))
@@ -153,8 +171,8 @@ end-shows b g c held ok =
     let e = lastEntry (logAt (b .logs) g .entries) in
     rw held (ap (λ (n : ℕ). modelReceipt b END 1 g n n c e) (ok .top))
 
-module _ (b : Model) (keeps : Keeps b) (key : length (b .key) ≡ 32) (few : length (b .logs) ≤ 16) where
-  accept-verified : (call : Call) → Wide call → Passed rules01 b call → (r : List ℕ) → receiptIn (modelAccept rules01 b call .reply) ≡ some r → Verifies (b .key) (b .keeper) call r (valuesOf b call)
+module _ (b : Model) (keeps : Keeps b) (key : length (b .key) ≡ 32) (few : length (b .logs) ≤ 16) (ru : Rules) (t : Attests ru) where
+  accept-verified : (call : Call) → Wide call → Passed ru b call → (r : List ℕ) → receiptIn (modelAccept ru b call .reply) ≡ some r → Verifies (b .key) (b .keeper) call r (valuesOf b call)
   unfolding modelAccept modelDone modelLookup modelEnd nonceOf questionOf valuesOf
   accept-verified (append g x) w a r q = absurd (Option·none-ne-some r q)
   accept-verified (advance g n d x) w a r q = absurd (Option·none-ne-some r q)
@@ -165,28 +183,30 @@ module _ (b : Model) (keeps : Keeps b) (key : length (b .key) ≡ 32) (few : len
       let n0 = a .position in
       let n1 : 1 ≤ n = omega arith in
       ap (λ (x : List ℕ). verdict (b .key) x c (record { keeper = b .keeper; log = g; ask = Lookup n })) (sym (Option·some-injective _ _ q))
-      ∙ standing-accepted b keeps key g (omega arith) c (a .nonce) n n1 w (standing l n) (standing-means l (keeps .sound g) n n1)
+      ∙ standing-accepted b keeps key g (omega arith) c (a .nonce) n n1 w ru t (standing l n) (standing-means l (keeps .sound g) n n1)
   accept-verified (end g c k) w a r q =
       let l = logAt (b .logs) g in
       let gG = a .log in
-      let held = end-held b g (a .held) in
+      let held = end-held ru t (isNil (l .entries)) (a .held) in
       ap (λ (x : List ℕ). verdict (b .key) x c (record { keeper = b .keeper; log = g; ask = End })) (sym (Option·some-injective _ _ q) ∙ end-shows b g c held (keeps .sound g))
       ∙ end-accepted b keeps key g (omega arith) c (a .nonce) held
 
-  pub step-verified : (call : Call) → Wide call → (r : List ℕ) → receiptIn (modelStep rules01 b call .reply) ≡ some r → Verifies (b .key) (b .keeper) call r (valuesOf b call)
-  step-verified call w r q = go (stepped rules01 b call)
+  pub step-verified : (call : Call) → Wide call → (r : List ℕ) → receiptIn (modelStep ru b call .reply) ≡ some r → Verifies (b .key) (b .keeper) call r (valuesOf b call)
+  step-verified call w r q = go (stepped ru b call)
     where
-      go : Stepped rules01 b call → Verifies (b .key) (b .keeper) call r (valuesOf b call)
+      go : Stepped ru b call → Verifies (b .key) (b .keeper) call r (valuesOf b call)
       go (turned k e) = absurd (Option·none-ne-some r (rw e at q))
       go (taken a e) = accept-verified call w a r (rw e at q)
 
 -- ---- a list of calls
 
-pub model-verified : (b : Model) → Keeps b → length (b .key) ≡ 32 → length (b .logs) ≤ 16 → (cs : List Call) → AllWide cs → (i : ℕ) (c : Call) (r : List ℕ) → getElem? cs i ≡ some c
-    → receiptIn (replyAt (replies (modelStep rules01) b cs) i) ≡ some r → Verifies (b .key) (b .keeper) c r (valuesOf (after (modelStep rules01) b (take i cs)) c)
-model-verified b keeps key few cs w i c r at q =
-    let m = after (modelStep rules01) b (take i cs) in
-    let f = after-fixed rules01 b (take i cs) in
-    let there : receiptIn (modelStep rules01 m c .reply) ≡ some r = ap receiptIn (sym (at-reply rules01 b cs i c at)) ∙ q in
-    let v : Verifies (m .key) (m .keeper) c r (valuesOf m c) = step-verified m (at-keeps rules01 b keeps cs w i) (ap length (f .key) ∙ key) (subst (λ (n : ℕ). n ≤ 16) (sym (f .count)) few) c (at-wide rules01 cs w i c at) r there in
+pub model-verified : (b : Model) → Keeps b → length (b .key) ≡ 32 → length (b .logs) ≤ 16 → (ts : List Turn) → Each WideTurn ts → Each AttestsTurn ts → (i : ℕ) (c : Call) (r : List ℕ)
+    → callAt ts i ≡ some c → receiptIn (replyAt (replies modelTurn b ts) i) ≡ some r → Verifies (b .key) (b .keeper) c r (valuesOf (after modelTurn b (take i ts)) c)
+model-verified b keeps key few ts w a i c r at q =
+    let m = after modelTurn b (take i ts) in
+    let f = after-fixed b (take i ts) in
+    let o = at-call b ts i c at in
+    let there : receiptIn (modelStep (o .rules) m c .reply) ≡ some r = ap receiptIn (sym (o .reply)) ∙ q in
+    let v : Verifies (m .key) (m .keeper) c r (valuesOf m c) =
+    step-verified m (at-keeps b keeps ts w i) (ap length (f .key) ∙ key) (subst (λ (n : ℕ). n ≤ 16) (sym (f .count)) few) (o .rules) (each-at AttestsTurn ts a i _ (o .there)) c (each-at WideTurn ts w i _ (o .there)) r there in
     ap₂ (λ (k : List ℕ) (n : ℕ). verdict k r (nonceOf c) (questionOf n c)) (sym (f .key)) (sym (f .keeper)) ∙ v

@@ -1,16 +1,17 @@
 -- The model along a list of calls: what call i meets and answers.
 use Prim.Native.Nat.{ℕ, zero, suc, _^_, _≤_, _<_}
-use mathlib.Core.Path.{_≡_, refl, ap, subst, _∙_}
+use mathlib.Core.Path.{_≡_, refl, ap, _∙_}
 use mathlib.Core.List.{List, [], _∷_}
 use mathlib.Core.Option.{some, Option·none-ne-some, Option·some-injective}
 use native.Mathlib.Omega.{arith}
 use lib.ListN.{length, take, getElem?, length-set}
 use lib.Seq.{getD-set-same}
 use Rattle.layout.specs.Image.{Entry}
-use Rattle.a2m.specs.Call.{Call, append, advance, truncate, lookup, end, refused, done, Effect, replies, after, AllWide, Wide}
+use Rattle.a2m.specs.Call.{Call, append, advance, truncate, lookup, end, refused, done, Effect, replies, after, Wide}
 use Rattle.model.specs.Log.{freshLog, entered, cutAt}
 use Rattle.model.specs.Model.{Rules, Model, logAt, modelDone, modelAccept, modelStep}
-use Rattle.model.specs.Claim.{replyAt, ShowsAt}
+use Rattle.model.specs.Claim.{Turn, under, modelTurn, callAt, replyAt, ShowsAt}
+use Rattle.model.proofs.Turns.{WideTurn, Each}
 use Rattle.model.proofs.Represents.{Sound}
 use Rattle.model.proofs.Passed.{Stepped, turned, taken, stepped}
 use Rattle.model.proofs.Sound.{step-sound}
@@ -41,12 +42,12 @@ step-fixed ru b c = go (stepped ru b c)
     go (turned k e) = rw e (record { size = refl; keeper = refl; key = refl; count = refl })
     go (taken a e) = rw e (accept-fixed ru b c)
 
-pub after-fixed : (ru : Rules) (b : Model) (cs : List Call) → Fixed b (after (modelStep ru) b cs)
+pub after-fixed : (b : Model) (ts : List Turn) → Fixed b (after modelTurn b ts)
 unfolding after
-after-fixed ru b [] = record { size = refl; keeper = refl; key = refl; count = refl }
-after-fixed ru b (c ∷ cs) =
-    let r = after-fixed ru (modelStep ru b c .state) cs in
-    let s = step-fixed ru b c in
+after-fixed b [] = record { size = refl; keeper = refl; key = refl; count = refl }
+after-fixed b (t ∷ ts) =
+    let r = after-fixed (modelTurn b t .state) ts in
+    let s = step-fixed (t .rules) b (t .call) in
     record { size = r .size ∙ s .size; keeper = r .keeper ∙ s .keeper; key = r .key ∙ s .key; count = r .count ∙ s .count }
 
 -- ---- what every call keeps
@@ -61,46 +62,46 @@ step-keeps ru b k c w = record { sound = step-sound ru b (k .sound) c; keeper = 
 
 -- ---- call i
 
+pub at-keeps : (b : Model) → Keeps b → (ts : List Turn) → Each WideTurn ts → (i : ℕ) → Keeps (after modelTurn b (take i ts))
+unfolding after
+at-keeps b k ts w zero = k
+at-keeps b k [] w (suc i) = k
+at-keeps b k (t ∷ ts) w (suc i) = at-keeps (modelTurn b t .state) (step-keeps (t .rules) b k (t .call) (w .0)) ts (w .1) i
+
+pub keeps-after : (b : Model) → Keeps b → (ts : List Turn) → Each WideTurn ts → Keeps (after modelTurn b ts)
+unfolding after
+keeps-after b k [] w = k
+keeps-after b k (t ∷ ts) w = keeps-after (modelTurn b t .state) (step-keeps (t .rules) b k (t .call) (w .0)) ts (w .1)
+
+-- what call j meets is later than what an earlier call met
+pub at-later : (b : Model) (ts : List Turn) (i j : ℕ) → i ≤ j → (g : ℕ) → Later (logAt (after modelTurn b (take i ts) .logs) g) (logAt (after modelTurn b (take j ts) .logs) g)
+unfolding after
+at-later b ts zero j h g = after-later b (take j ts) g
+at-later b ts (suc i) zero h g = absurd (omega arith)
+at-later b [] (suc i) (suc j) h g = later-refl (logAt (b .logs) g)
+at-later b (t ∷ ts) (suc i) (suc j) h g = at-later (modelTurn b t .state) ts i j (omega arith) g
+
+-- call j goes by its rules: what it leaves and what it answers
+pub record At (b : Model) (ts : List Turn) (j : ℕ) (c : Call) : Type 0 where
+  pub rules : Rules
+  pub there : getElem? ts j ≡ some (under rules c)
+  pub next : after modelTurn b (take (suc j) ts) ≡ modelStep rules (after modelTurn b (take j ts)) c .state
+  pub reply : replyAt (replies modelTurn b ts) j ≡ modelStep rules (after modelTurn b (take j ts)) c .reply
+
+pub at-call : (b : Model) (ts : List Turn) (j : ℕ) (c : Call) → callAt ts j ≡ some c → At b ts j c
+unfolding after replies callAt
+at-call b [] j c h = absurd (Option·none-ne-some c h)
+at-call b (t ∷ ts) zero c h = let e : t .call ≡ c = Option·some-injective (t .call) c h in record { rules = t .rules; there = ap (λ (y : Call). some (under (t .rules) y)) e; next = ap (λ (y : Call). modelStep (t .rules) b y .state) e; reply = ap (λ (y : Call). modelStep (t .rules) b y .reply) e }
+at-call b (t ∷ ts) (suc j) c h = let r = at-call (modelTurn b t .state) ts j c h in record { rules = r .rules; there = r .there; next = r .next; reply = r .reply }
+
+-- what a receipt shows assigned, the model has then
+pub at-shown : (b : Model) → Keeps b → (ts : List Turn) → Each WideTurn ts → (i g n : ℕ) (v d : List ℕ) → ShowsAt (replies modelTurn b ts) i g n v d → EntryAt (logAt (after modelTurn b (take i ts) .logs) g) n v d
+unfolding after replies
+at-shown b k [] w i g n v d s = absurd (Option·none-ne-some (s .receipt) (s .there))
+at-shown b k (t ∷ ts) w zero g n v d s = step-shown (t .rules) b (k .sound) (k .keeper) (k .fits) (t .call) (w .0) (s .receipt) (s .there) g n v d (s .shows)
+at-shown b k (t ∷ ts) w (suc i) g n v d s = at-shown (modelTurn b t .state) (step-keeps (t .rules) b k (t .call) (w .0)) ts (w .1) i g n v d (record { receipt = s .receipt; there = s .there; shows = s .shows })
+
 module _ (ru : Rules) where
-  pub at-keeps : (b : Model) → Keeps b → (cs : List Call) → AllWide cs → (i : ℕ) → Keeps (after (modelStep ru) b (take i cs))
-  unfolding after
-  at-keeps b k cs w zero = k
-  at-keeps b k [] w (suc i) = k
-  at-keeps b k (c ∷ cs) w (suc i) = at-keeps (modelStep ru b c .state) (step-keeps ru b k c (w .0)) cs (w .1) i
-
-  -- what call j meets is later than what an earlier call met
-  pub at-later : (b : Model) (cs : List Call) (i j : ℕ) → i ≤ j → (g : ℕ) → Later (logAt (after (modelStep ru) b (take i cs) .logs) g) (logAt (after (modelStep ru) b (take j cs) .logs) g)
-  unfolding after
-  at-later b cs zero j h g = after-later ru b (take j cs) g
-  at-later b cs (suc i) zero h g = absurd (omega arith)
-  at-later b [] (suc i) (suc j) h g = later-refl (logAt (b .logs) g)
-  at-later b (c ∷ cs) (suc i) (suc j) h g = at-later (modelStep ru b c .state) cs i j (omega arith) g
-
-  -- call i has numbers of its width
-  pub at-wide : (cs : List Call) → AllWide cs → (i : ℕ) (c : Call) → getElem? cs i ≡ some c → Wide c
-  at-wide [] w i c h = absurd (Option·none-ne-some c h)
-  at-wide (x ∷ cs) w zero c h = subst Wide (Option·some-injective x c h) (w .0)
-  at-wide (x ∷ cs) w (suc i) c h = at-wide cs (w .1) i c h
-
-  pub at-next : (b : Model) (cs : List Call) (j : ℕ) (c : Call) → getElem? cs j ≡ some c → after (modelStep ru) b (take (suc j) cs) ≡ modelStep ru (after (modelStep ru) b (take j cs)) c .state
-  unfolding after
-  at-next b [] j c h = absurd (Option·none-ne-some c h)
-  at-next b (x ∷ cs) zero c h = ap (λ (y : Call). modelStep ru b y .state) (Option·some-injective x c h)
-  at-next b (x ∷ cs) (suc j) c h = at-next (modelStep ru b x .state) cs j c h
-
-  pub at-reply : (b : Model) (cs : List Call) (j : ℕ) (c : Call) → getElem? cs j ≡ some c → replyAt (replies (modelStep ru) b cs) j ≡ modelStep ru (after (modelStep ru) b (take j cs)) c .reply
-  unfolding after replies
-  at-reply b [] j c h = absurd (Option·none-ne-some c h)
-  at-reply b (x ∷ cs) zero c h = ap (λ (y : Call). modelStep ru b y .reply) (Option·some-injective x c h)
-  at-reply b (x ∷ cs) (suc j) c h = at-reply (modelStep ru b x .state) cs j c h
-
-  -- what a receipt shows assigned, the model has then
-  pub at-shown : (b : Model) → Keeps b → (cs : List Call) → AllWide cs → (i g n : ℕ) (v d : List ℕ) → ShowsAt (replies (modelStep ru) b cs) i g n v d → EntryAt (logAt (after (modelStep ru) b (take i cs) .logs) g) n v d
-  unfolding after replies
-  at-shown b k [] w i g n v d s = absurd (Option·none-ne-some (s .receipt) (s .there))
-  at-shown b k (c ∷ cs) w zero g n v d s = step-shown ru b (k .sound) (k .keeper) (k .fits) c (w .0) (s .receipt) (s .there) g n v d (s .shows)
-  at-shown b k (c ∷ cs) w (suc i) g n v d s = at-shown (modelStep ru b c .state) (step-keeps ru b k c (w .0)) cs (w .1) i g n v d (record { receipt = s .receipt; there = s .there; shows = s .shows })
-
   -- the log after an accepted advance has one entry more, at n; after an accepted truncate it is cut
   pub advanced : (b : Model) (g n : ℕ) (d x : List ℕ) (lo hi : ℕ) → modelStep ru b (advance g n d x) .reply ≡ done lo hi → (e : Entry) × (e .position ≡ n) × (logAt (modelStep ru b (advance g n d x) .state .logs) g ≡ entered (logAt (b .logs) g) e)
   unfolding modelAccept modelDone

@@ -2,7 +2,7 @@
 -- as the last one left it.
 use Prim.Native.Nat.{ℕ, _^_, _<_}
 use mathlib.Core.Path.{_≡_}
-use mathlib.Core.List.{List}
+use mathlib.Core.List.{List, []}
 use mathlib.Core.Bool.{true, not, _&&_}
 use mathlib.Core.Option.{none}
 use lib.ListN.{length, length-replicate}
@@ -21,8 +21,9 @@ use Rattle.table.proofs.FormattedLaws.{formatted-fits}
 use Rattle.a2m.specs.Call.{Call, AllWide, replies, after}
 use Rattle.a2m.specs.TableCalls.{tableStep}
 use Rattle.model.specs.Log.{freshLog}
-use Rattle.model.specs.Model.{newModel}
-use Rattle.model.specs.Claim.{ListClaim}
+use Rattle.model.specs.Model.{rules, newModel}
+use Rattle.model.specs.Claim.{by, ListClaim}
+use Rattle.model.proofs.ImageClaim.{new-keeps}
 use Rattle.model.proofs.Fresh.{formatted-rep, fresh-sound}
 use Rattle.model.proofs.TableClaim.{Stands, table-claim, table-whole}
 
@@ -51,8 +52,9 @@ module _ (lent : List ℕ) (G S keeper : ℕ) (key : List ℕ) (k64 : keeper < 2
   unfolding formatBytes afterwards
   bytes-are = rw (accepted, formatBytes)
 
-  pub listClaim : (cs : List Call) → AllWide cs → ListClaim G S keeper key cs (replies tableStep (formatBytes lent G S keeper key) cs) (readTable (after tableStep (formatBytes lent G S keeper key) cs))
-  listClaim cs w = rw bytes-are (table-claim G S keeper key k64 (formatted G S keeper key) stands cs w)
+  pub listClaim : (cs : List Call) → AllWide cs → ListClaim (newModel G S keeper key) (by rules cs) (replies tableStep (formatBytes lent G S keeper key) cs) (readTable (after tableStep (formatBytes lent G S keeper key) cs))
+  unfolding after replies
+  listClaim cs w = rw bytes-are (table-claim (newModel G S keeper key) (new-keeps G S keeper key k64) [] tt (formatted G S keeper key) stands cs w)
 
   -- the table is whole before and after each call
   pub staysWhole : (cs : List Call) → AllWide cs → whole (after tableStep (formatBytes lent G S keeper key) cs) ≡ true

@@ -9,10 +9,11 @@ use native.Mathlib.Omega.{arith}
 use lib.Dec.{leb}
 use borrow.Author.Tests.{le-leb}
 use Rattle.layout.specs.Image.{Entry}
-use Rattle.a2m.specs.Call.{Call, after, Wide}
+use Rattle.a2m.specs.Call.{after, Wide}
 use Rattle.a2m.proofs.Lists.{In, in-cases}
 use Rattle.model.specs.Log.{Log, entered, keepFrom, cutAt}
-use Rattle.model.specs.Model.{Rules, Model, logAt, modelStep}
+use Rattle.model.specs.Model.{Model, logAt}
+use Rattle.model.specs.Claim.{Turn, modelTurn}
 use Rattle.model.proofs.Changes.{Change, same, entering, cutting, step-change}
 
 pub record Later (l k : Log) : Type 0 where
@@ -62,7 +63,7 @@ change-later Ok l k (same e) = rw e (later-refl l)
 change-later Ok l k (entering e hi w v d q) = rw q (later-entered l e hi)
 change-later Ok l k (cutting n lo hi q) = rw q (later-cut l n lo)
 
-pub after-later : (ru : Rules) (b : Model) (cs : List Call) (g : ℕ) → Later (logAt (b .logs) g) (logAt (after (modelStep ru) b cs .logs) g)
+pub after-later : (b : Model) (ts : List Turn) (g : ℕ) → Later (logAt (b .logs) g) (logAt (after modelTurn b ts .logs) g)
 unfolding after
-after-later ru b [] g = later-refl (logAt (b .logs) g)
-after-later ru b (c ∷ cs) g = later-trans (logAt (b .logs) g) (logAt (modelStep ru b c .state .logs) g) _ (change-later (Wide c) _ _ (step-change ru b c g)) (after-later ru (modelStep ru b c .state) cs g)
+after-later b [] g = later-refl (logAt (b .logs) g)
+after-later b (t ∷ ts) g = later-trans (logAt (b .logs) g) (logAt (modelTurn b t .state .logs) g) _ (change-later (Wide (t .call)) _ _ (step-change (t .rules) b (t .call) g)) (after-later (modelTurn b t .state) ts g)

@@ -27,6 +27,7 @@ pub mod Standings
 pub mod Step
 pub mod TableClaim
 pub mod Truncate
+pub mod Turns
 pub mod Untorn
 pub mod Verified
 pub mod WholeOf

@@ -13,12 +13,12 @@ use Rattle.layout.specs.declared.Row.{Row}
 use Rattle.layout.specs.Image.{Entry}
 use Rattle.a2m.specs.Search.{Found, search, lookedUp}
 use Rattle.model.specs.Log.{Log, lastEntry, keepFrom, keepBelow, Standing, unassigned, forgotten, assigned, skipped, standingAmong, standing, kindOf, referenceOf, examinedFor}
-use Rattle.model.specs.Model.{rules01, shownFor}
+use Rattle.model.specs.Model.{rules01, rules, shownFor}
 use Rattle.model.proofs.Represents.{LogOk, Rising}
 
 -- what the model says of a standing, with so many entries examined
 unfoldable pub foundAs : Log → Standing → ℕ → Found
-foundAs l s k = record { kind = kindOf s; reference = referenceOf l s; shown = shownFor rules01 s; examined = k }
+foundAs l s k = record { kind = kindOf s; reference = referenceOf l s; shown = shownFor rules s; examined = k }
 
 keepBelow-none : (n w : ℕ) (es : List Entry) → Rising w es → n ≤ w → keepBelow n es ≡ []
 unfolding keepBelow
@@ -41,11 +41,11 @@ module _ (l : Log) (n k : ℕ) (x : Entry) (es : List Entry) where
       (λ i. record { kind = 1; reference = e i; shown = x; examined = c i })
 
   search-above : n < x .position → Rising (suc (x .position)) es → Finds l n k (x ∷ es)
-  unfolding search keepFrom keepBelow standingAmong foundAs kindOf referenceOf shownFor rules01
+  unfolding search keepFrom keepBelow standingAmong foundAs kindOf referenceOf shownFor rules rules01
   search-above h r =
       let c : suc k ≡ k + suc (length (keepBelow n es)) = rw (keepBelow-none n (suc (x .position)) es r (omega arith)) (omega arith) in
       rw (search, keepFrom, keepBelow, ne-eqb n (x .position) (λ (e : n ≡ x .position). omega arith), lt-ltb n (x .position) h, le-leb n (x .position) (omega arith), le-ltb (x .position) n (omega arith), standingAmong, ne-eqb (x .position) n (λ (e : x .position ≡ n). omega arith))
-      (λ i. record { kind = 2; reference = x .position; shown = shownFor rules01 (skipped x); examined = c i })
+      (λ i. record { kind = 2; reference = x .position; shown = shownFor rules (skipped x); examined = c i })
 
   search-below : x .position < n → Finds l n (suc k) es → Finds l n k (x ∷ es)
   unfolding search keepFrom keepBelow
@@ -95,7 +95,7 @@ unfolding lookedUp standing foundAs kindOf referenceOf examinedFor shownFor
 lookup-is l ok r low high n n1 = rw (low, high) (go (ltb (l .high) n) refl (ltb n (l .low)) refl)
   where
     Goal : Bool → Bool → Type 0
-    Goal t u = cond t (record { kind = 0; reference = l .high; shown = shownFor rules01 unassigned; examined = 0 }) (cond u (record { kind = 3; reference = l .low; shown = shownFor rules01 forgotten; examined = 0 }) (search n 0 (l .entries))) ≡ foundAs l (cond t unassigned (cond u forgotten (standingAmong n (keepFrom n (l .entries))))) (examinedFor l n (cond t unassigned (cond u forgotten (standingAmong n (keepFrom n (l .entries))))))
+    Goal t u = cond t (record { kind = 0; reference = l .high; shown = shownFor rules unassigned; examined = 0 }) (cond u (record { kind = 3; reference = l .low; shown = shownFor rules forgotten; examined = 0 }) (search n 0 (l .entries))) ≡ foundAs l (cond t unassigned (cond u forgotten (standingAmong n (keepFrom n (l .entries))))) (examinedFor l n (cond t unassigned (cond u forgotten (standingAmong n (keepFrom n (l .entries))))))
 
     go : (t : Bool) → ltb (l .high) n ≡ t → (u : Bool) → ltb n (l .low) ≡ u → Goal (ltb (l .high) n) (ltb n (l .low))
     go true e u f = rw e refl

@@ -14,7 +14,7 @@ use Rattle.a2m.specs.Call.{Call, AllWide, logOf, Effect, numbered}
 use Rattle.a2m.specs.ImageCalls.{rowIn, imageStep}
 use Rattle.a2m.specs.TableCalls.{tableStep}
 use Rattle.a2m.proofs.Written.{step-written}
-use Rattle.model.specs.Model.{rules01, Model, newModel, modelStep}
+use Rattle.model.specs.Model.{rules, Model, newModel, modelStep}
 use Rattle.model.specs.Marked.{Line, line, columnsOf, marked, lowIn, highIn, answered}
 use Rattle.model.proofs.TableClaim.{Stands, in-range, step-stands}
 use Rattle.model.proofs.MarkedSet.{marked-image}
@@ -40,7 +40,7 @@ lines-written m b s (l ∷ ls) w =
     let low : lowIn (tableStep (writeTable m) (l .call) .state) g ≡ rowIn (o .state) g .low = ap (λ (x : Effect (List ℕ)). lowIn (x .state) g) e ∙ ap (λ (i : Image). rowIn i g .low) back in
     let high : highIn (tableStep (writeTable m) (l .call) .state) g ≡ rowIn (o .state) g .high = ap (λ (x : Effect (List ℕ)). highIn (x .state) g) e ∙ ap (λ (i : Image). rowIn i g .high) back in
     let rest : answered tableStep lowIn highIn (tableStep (writeTable m) (l .call) .state) ls ≡ imageLines (o .state) ls =
-    ap (λ (x : Effect (List ℕ)). answered tableStep lowIn highIn (x .state) ls) e ∙ lines-written (o .state) (modelStep rules01 b (l .call) .state) t ls (w .1) in
+    ap (λ (x : Effect (List ℕ)). answered tableStep lowIn highIn (x .state) ls) e ∙ lines-written (o .state) (modelStep rules b (l .call) .state) t ls (w .1) in
     λ i. line (l .number) (l .call) (numbered (reply i) .number) (columnsOf (reply i)) (low i) (high i) ∷ rest i
 
 wide : AllWide (callsOf marked)

@@ -30,7 +30,7 @@ use Rattle.a2m.proofs.FitsAfter.{step-fits}
 use Rattle.a2m.proofs.WholeChains.{RowChain, log-chain, free-links, free-blank, sum-meets}
 use Rattle.a2m.proofs.Written.{step-written}
 use Rattle.model.specs.Log.{Log, freshLog}
-use Rattle.model.specs.Model.{rules01, Model, logAt, total, modelStep}
+use Rattle.model.specs.Model.{rules, Model, logAt, total, modelStep}
 use Rattle.model.specs.ModelOf.{logIn, modelOf}
 use Rattle.model.proofs.Represents.{Rep, RowRep, LogOk, Sound}
 use Rattle.model.proofs.Reading.{entries-are}
@@ -107,8 +107,8 @@ rep-model m b R =
 
 -- a call answers as the model, leaves a table that says the model after, and that is whole
 pub record Follows (m : Image) (call : Call) (o : Effect Image) : Type 0 where
-  pub reply : o .reply ≡ modelStep rules01 (modelOf m) call .reply
-  pub model : modelOf (o .state) ≡ modelStep rules01 (modelOf m) call .state
+  pub reply : o .reply ≡ modelStep rules (modelOf m) call .reply
+  pub model : modelOf (o .state) ≡ modelStep rules (modelOf m) call .state
   pub whole : wholeImage (o .state) ≡ true
 
 pub whole-step : (m : Image) → wholeImage m ≡ true → (call : Call) → Follows m call (imageStep m call)
@@ -116,8 +116,8 @@ whole-step m w call =
     let a = step-agrees m (modelOf m) (model-says m w) (model-sound m w) call in
     record {
       reply = a .reply;
-      model = rep-model (imageStep m call .state) (modelStep rules01 (modelOf m) call .state) (a .state);
-      whole = whole-of (imageStep m call .state) (modelStep rules01 (modelOf m) call .state) (a .state) (step-sound rules01 (modelOf m) (model-sound m w) call);
+      model = rep-model (imageStep m call .state) (modelStep rules (modelOf m) call .state) (a .state);
+      whole = whole-of (imageStep m call .state) (modelStep rules (modelOf m) call .state) (a .state) (step-sound rules (modelOf m) (model-sound m w) call);
     }
 
 -- the same of bytes

@@ -15,8 +15,8 @@ use Rattle.a2m.specs.ImageCalls.{imageRefusal, imageAccept, imageStep}
 use Rattle.a2m.specs.TableCalls.{tableStep}
 use Rattle.a2m.proofs.Unchanged.{Reads}
 use Rattle.a2m.proofs.Written.{step-written}
-use Rattle.model.specs.Model.{rules01, Model, newModel, modelStep}
-use Rattle.model.specs.Claim.{ListClaim}
+use Rattle.model.specs.Model.{rules, Model, newModel, modelStep}
+use Rattle.model.specs.Claim.{by, ListClaim}
 use Rattle.model.specs.Program.{passedOn, programStep}
 use Rattle.model.proofs.TableClaim.{Stands, in-range, step-stands}
 use Rattle.model.proofs.Demand3.{stands, bytes-are, listClaim, staysWhole}
@@ -61,7 +61,7 @@ same-list : (m : Image) (b : Model) → Stands m b → (cs : List Call) → AllW
 unfolding replies after programStep
 same-list m b s [] w = record { answers = refl; bytes = refl }
 same-list m b s (c ∷ cs) w =
-    let ih = same-list (imageStep m c .state) (modelStep rules01 b c .state) (step-stands m b s c (w .0, tt)) cs (w .1) in
+    let ih = same-list (imageStep m c .state) (modelStep rules b c .state) (step-stands m b s c (w .0, tt)) cs (w .1) in
     let t = after-call m b s c in
     let p : passedOn (writeTable m) c ≡ writeTable (imageStep m c .state) = passed m b s c ∙ t in
     let rs : replies programStep (passedOn (writeTable m) c) cs ≡ replies tableStep (tableStep (writeTable m) c .state) cs =
@@ -74,10 +74,10 @@ module _ (lent : List ℕ) (G S keeper : ℕ) (key : List ℕ) (k64 : keeper < 2
   same : (cs : List Call) → AllWide cs → SameList (formatted G S keeper key) cs
   same cs w = same-list (formatted G S keeper key) (newModel G S keeper key) (stands lent G S keeper key k64 accepted) cs w
 
-  pub programClaim : (cs : List Call) → AllWide cs → ListClaim G S keeper key cs (replies programStep (formatBytes lent G S keeper key) cs) (readTable (after programStep (formatBytes lent G S keeper key) cs))
+  pub programClaim : (cs : List Call) → AllWide cs → ListClaim (newModel G S keeper key) (by rules cs) (replies programStep (formatBytes lent G S keeper key) cs) (readTable (after programStep (formatBytes lent G S keeper key) cs))
   programClaim cs w =
       let h = bytes-are lent G S keeper key k64 accepted in
-      let c : ListClaim G S keeper key cs (replies tableStep (writeTable (formatted G S keeper key)) cs) (readTable (after tableStep (writeTable (formatted G S keeper key)) cs)) = rw h at (listClaim lent G S keeper key k64 accepted cs w) in
+      let c : ListClaim (newModel G S keeper key) (by rules cs) (replies tableStep (writeTable (formatted G S keeper key)) cs) (readTable (after tableStep (writeTable (formatted G S keeper key)) cs)) = rw h at (listClaim lent G S keeper key k64 accepted cs w) in
       rw (h, same cs w .answers, same cs w .bytes) c
 
   -- the table is whole before and after each call

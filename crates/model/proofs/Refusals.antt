@@ -8,7 +8,7 @@ use Rattle.refusal.specs.Order.{firstFault}
 use Rattle.layout.specs.Image.{Image}
 use Rattle.a2m.specs.Call.{Call, append, advance, truncate, lookup, end}
 use Rattle.a2m.specs.ImageCalls.{wrongLength, misplaced, spent, nothingHeld, full, faults, imageRefusal}
-use Rattle.model.specs.Model.{Model, rules01, modelRefusal}
+use Rattle.model.specs.Model.{Model, rules01, rules, modelRefusal}
 use Rattle.model.proofs.Represents.{Rep, Sound}
 use Rattle.model.proofs.Reading.{empty-is, full-is}
 use Rattle.model.proofs.WholeOf.{whole-of}
@@ -22,8 +22,8 @@ outside l n h = go (ltb l n) refl (leb n h) refl
     go true p false q = rw (p, q, lt-leb n l (ltb-true l n p), lt-ltb h n (leb-false n h q))
     go false p b q = rw (p, le-leb n l (ltb-false l n p))
 
-pub refusal-is : (m : Image) (b : Model) → Rep m b → Sound b → (call : Call) → imageRefusal m call ≡ modelRefusal rules01 b call
-unfolding imageRefusal faults firstFault wrongLength misplaced spent nothingHeld full modelRefusal rules01
+pub refusal-is : (m : Image) (b : Model) → Rep m b → Sound b → (call : Call) → imageRefusal m call ≡ modelRefusal rules b call
+unfolding imageRefusal faults firstFault wrongLength misplaced spent nothingHeld full modelRefusal rules rules01
 refusal-is m b R ok (append g x) = rw (whole-of m b R ok, R .count, R .rows g .high, full-is m b R)
 refusal-is m b R ok (advance g n d x) = rw (whole-of m b R ok, R .count, R .rows g .high, full-is m b R)
 refusal-is m b R ok (truncate g n) = rw (whole-of m b R ok, R .count, R .rows g .low, R .rows g .high, outside)

@@ -8,24 +8,25 @@ use mathlib.Core.Bool.{Bool, true, false}
 use mathlib.Core.Option.{Option, none, some, Option·none-ne-some}
 use native.Mathlib.Omega.{arith}
 use native.Mathlib.Decide.{ℕ-discrete}
-use lib.ListN.{length, take, getElem?, set}
+use lib.ListN.{length, take, set}
 use lib.Seq.{getD-set-same, getD-set-other}
 use lib.Dec.{leb}
 use borrow.Author.Tests.{leb-true, leb-false, eq-eqb, ne-eqb, le-leb, lt-leb, le-ltb}
 use Rattle.receipt.specs.Attestation.{Attestation, LOOKUP, receiptBytes, readAttestation}
 use Rattle.receipt.proofs.Fields.{read-receipt}
 use Rattle.layout.specs.Image.{Entry}
-use Rattle.a2m.specs.Call.{Call, append, advance, truncate, lookup, end, refused, done, Effect, Reply, replies, after, AllWide, receiptIn}
+use Rattle.a2m.specs.Call.{Call, append, advance, truncate, lookup, end, refused, done, Effect, Reply, replies, after, receiptIn}
 use Rattle.a2m.proofs.Lists.{In, in-left, in-right}
 use Rattle.model.specs.Log.{Log, freshLog, keepFrom, entered, cutAt, assigned, standingAmong, standing, kindOf, referenceOf}
 use Rattle.model.specs.Model.{Rules, Model, logAt, modelRefusal, modelReceipt, shownFor, modelLookup, modelDone, modelAccept, modelStep}
-use Rattle.model.specs.Claim.{Shows, replyAt, ShowsAt, Stores, Asked}
+use Rattle.model.specs.Claim.{Turn, modelTurn, callAt, Shows, replyAt, ShowsAt, Stores, Asked}
+use Rattle.model.proofs.Turns.{WideTurn, Each}
 use Rattle.model.proofs.Represents.{LogOk, Rising}
 use Rattle.model.proofs.Passed.{Passed, Stepped, turned, taken, stepped}
 use Rattle.model.proofs.Later.{in-kept}
 use Rattle.model.proofs.Entries.{EntryAt, in-bounds, rising-in}
 use Rattle.model.proofs.Shown.{length-LOOKUP}
-use Rattle.model.proofs.Along.{Keeps, after-fixed, at-keeps, at-next, at-reply}
+use Rattle.model.proofs.Along.{Keeps, after-fixed, at-keeps, At, at-call}
 
 -- ---- a log keeps its entries down to its low
 
@@ -151,40 +152,42 @@ module _ (ru : Rules) (b : Model) (keeps : Keeps b) (g n : ℕ) (v d : List ℕ)
 
 -- ---- along the list
 
-take-none : (cs : List Call) (k : ℕ) → getElem? cs k ≡ none → take (suc k) cs ≡ take k cs
+take-none : (ts : List Turn) (k : ℕ) → callAt ts k ≡ none → take (suc k) ts ≡ take k ts
+unfolding callAt
 take-none [] zero h = refl
 take-none [] (suc k) h = refl
-take-none (c ∷ cs) zero h = absurd (Option·none-ne-some c (sym h))
-take-none (c ∷ cs) (suc k) h = ap {B = List Call} (λ (l : List Call). c ∷ l) (take-none cs k h)
+take-none (c ∷ ts) zero h = absurd (Option·none-ne-some (c .call) (sym h))
+take-none (c ∷ ts) (suc k) h = ap {B = List Turn} (λ (l : List Turn). c ∷ l) (take-none ts k h)
 
-module _ (ru : Rules) (b : Model) (keeps : Keeps b) (cs : List Call) (w : AllWide cs) (i j g n : ℕ) (x : List ℕ) (a : Asked cs (replies (modelStep ru) b cs) i j g n x) where
+module _ (b : Model) (keeps : Keeps b) (ts : List Turn) (w : Each WideTurn ts) (i j g n : ℕ) (x : List ℕ) (a : Asked ts (replies modelTurn b ts) i j g n x) where
   met : ℕ → Model
-  met k = after (modelStep ru) b (take k cs)
+  met k = after modelTurn b (take k ts)
 
   put-at : Stored (met i) (met (suc i)) g n x
   unfolding met
-  put-at = rw (at-next ru b cs i (a .put) (a .first)) (stored ru (met i) g n (a .low) x (a .put) (a .stores) (sym (at-reply ru b cs i (a .put) (a .first)) ∙ a .accepted))
+  put-at = let r = at-call b ts i (a .put) (a .first) in rw (r .next) (stored (r .rules) (met i) g n (a .low) x (a .put) (a .stores) (sym (r .reply) ∙ a .accepted))
 
   held-at : (d : List ℕ) → EntryAt (logAt (met (suc i) .logs) g) n x d → (k : ℕ) → i < k → k ≤ j → EntryAt (logAt (met k .logs) g) n x d
   unfolding met
   held-at d h zero lo hi = absurd (omega arith)
-  held-at d h (suc k) lo hi = go (ℕ-discrete k i) (λ (q : i < k). held-at d h k q (omega arith)) (getElem? cs k) refl
+  held-at d h (suc k) lo hi = go (ℕ-discrete k i) (λ (q : i < k). held-at d h k q (omega arith)) (callAt ts k) refl
     where
-      on : i < k → EntryAt (logAt (met k .logs) g) n x d → (c : Call) → getElem? cs k ≡ some c → Next ru (met k) g n x d c → EntryAt (logAt (met (suc k) .logs) g) n x d
-      on q e c f (stays e′) = rw (at-next ru b cs k c f) e′
-      on q e c f (forgets m low high z r past) =
-          let le : m ≤ n = a .kept k m q hi (record { call = f ∙ ap some z; low = low; high = high; accepted = at-reply ru b cs k c f ∙ r }) in
+      on : i < k → EntryAt (logAt (met k .logs) g) n x d → (c : Call) → callAt ts k ≡ some c → (r : At b ts k c) → Next (r .rules) (met k) g n x d c → EntryAt (logAt (met (suc k) .logs) g) n x d
+      on q e c f r (stays e′) = rw (r .next) e′
+      on q e c f r (forgets m low high z y past) =
+          let le : m ≤ n = a .kept k m q hi (record { call = f ∙ ap some z; low = low; high = high; accepted = r .reply ∙ y }) in
           absurd (omega arith)
 
-      go : Dec (k ≡ i) → (i < k → EntryAt (logAt (met k .logs) g) n x d) → (o : Option Call) → getElem? cs k ≡ o → EntryAt (logAt (met (suc k) .logs) g) n x d
+      go : Dec (k ≡ i) → (i < k → EntryAt (logAt (met k .logs) g) n x d) → (o : Option Call) → callAt ts k ≡ o → EntryAt (logAt (met (suc k) .logs) g) n x d
       go (yes e) below o f = rw e h
-      go (no z) below none f = rw (take-none cs k f) (below (omega arith))
-      go (no z) below (some c) f = on (omega arith) (below (omega arith)) c f (next ru (met k) g n x d (below (omega arith)) c)
+      go (no z) below none f = rw (take-none ts k f) (below (omega arith))
+      go (no z) below (some c) f = let r = at-call b ts k c f in on (omega arith) (below (omega arith)) c f r (next (r .rules) (met k) g n x d (below (omega arith)) c)
 
-  pub model-remembers : (d : List ℕ) × ShowsAt (replies (modelStep ru) b cs) j g n x d
+  pub model-remembers : (d : List ℕ) × ShowsAt (replies modelTurn b ts) j g n x d
   unfolding met
   model-remembers =
       let s = put-at in
       let e = held-at (s .digest) (s .entry) j (a .later) (le-refl j) in
-      let gG : g < length (met j .logs) = rw (after-fixed ru b (take j cs) .count) (rw (after-fixed ru b (take i cs) .count) at (s .log)) in
-      (s .digest, shows-at ru (met j) (at-keeps ru b keeps cs w j) g n x (s .digest) e (a .nonce) (a .sized) gG (replies (modelStep ru) b cs) j (at-reply ru b cs j (lookup g n (a .nonce) 160) (a .second)))
+      let r = at-call b ts j (lookup g n (a .nonce) 160) (a .second) in
+      let gG : g < length (met j .logs) = rw (after-fixed b (take j ts) .count) (rw (after-fixed b (take i ts) .count) at (s .log)) in
+      (s .digest, shows-at (r .rules) (met j) (at-keeps b keeps ts w j) g n x (s .digest) e (a .nonce) (a .sized) gG (replies modelTurn b ts) j (r .reply))

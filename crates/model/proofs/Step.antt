@@ -17,7 +17,7 @@ use Rattle.a2m.specs.NewEntry.{newEntry}
 use Rattle.a2m.specs.Search.{lookedUp}
 use Rattle.a2m.specs.ImageCalls.{rowIn, entriesIn, put, previousIn, lookupAttested, endAttested, imageDone, imageAccept, imageStep}
 use Rattle.model.specs.Log.{Log, freshLog, lastEntry, entered, standing, examinedFor}
-use Rattle.model.specs.Model.{rules01, Model, logAt, total, withLog, isNil, modelRefusal, modelReceipt, modelLookup, modelEnd, modelDone, modelAccept, modelStep}
+use Rattle.model.specs.Model.{rules01, rules, Model, logAt, total, withLog, isNil, modelRefusal, modelReceipt, modelLookup, modelEnd, modelDone, modelAccept, modelStep}
 use Rattle.model.proofs.Represents.{Rep, Sound}
 use Rattle.model.proofs.Reading.{entries-are, full-is, last-is}
 use Rattle.model.proofs.Put.{put-keeps}
@@ -39,16 +39,16 @@ done-agree m b g l gG R =
     record { reply = ap₂ (λ (x y : ℕ). done x y) (w .low ∙ ap (λ (k : Log). k .low) at) (w .high ∙ ap (λ (k : Log). k .high) at); state = R }
 
 module _ (m : Image) (b : Model) (R : Rep m b) (ok : Sound b) where
-  free-slot : (g : ℕ) → rules01 .noSlot b g ≡ none → eqb (m .free) 0 ≡ false
-  unfolding rules01
+  free-slot : (g : ℕ) → rules .noSlot b g ≡ none → eqb (m .free) 0 ≡ false
+  unfolding rules rules01
   free-slot g h = full-is m b R ∙ peel (eqb (total (b .logs)) (b .size)) 5 none h .0
 
-  some-held : (g : ℕ) → cond (isNil (logAt (b .logs) g .entries)) (rules01 .emptyEnd) none ≡ none → isNil (logAt (b .logs) g .entries) ≡ false
-  unfolding rules01
+  some-held : (g : ℕ) → cond (isNil (logAt (b .logs) g .entries)) (rules .emptyEnd) none ≡ none → isNil (logAt (b .logs) g .entries) ≡ false
+  unfolding rules rules01
   some-held g h = peel (isNil (logAt (b .logs) g .entries)) 6 none h .0
 
   lookup-agrees : (g n : ℕ) (c : List ℕ) → n ≢ 0
-      → _≡_ {A = Reply} (found (receiptBytes (m .key) (lookupAttested m g n c (lookedUp (rowIn m g) (entriesIn m g) n))) (lookedUp (rowIn m g) (entriesIn m g) n .examined)) (modelLookup rules01 b g n c (logAt (b .logs) g) (standing (logAt (b .logs) g) n))
+      → _≡_ {A = Reply} (found (receiptBytes (m .key) (lookupAttested m g n c (lookedUp (rowIn m g) (entriesIn m g) n))) (lookedUp (rowIn m g) (entriesIn m g) n .examined)) (modelLookup rules b g n c (logAt (b .logs) g) (standing (logAt (b .logs) g) n))
   unfolding lookupAttested modelLookup modelReceipt foundAs
   lookup-agrees g n c n0 =
       let l = logAt (b .logs) g in
@@ -64,7 +64,7 @@ module _ (m : Image) (b : Model) (R : Rep m b) (ok : Sound b) where
       let d : slotAt (m .slots) (rowIn m g .last) .digest ≡ lastEntry (logAt (b .logs) g .entries) .digest = ap (λ (x : Entry). x .digest) e in
       rw (held, R .key, R .keeper, p, v, d)
 
-  accept-agrees : (call : Call) → Passed rules01 b call → Agree (imageAccept m call) (modelAccept rules01 b call)
+  accept-agrees : (call : Call) → Passed rules b call → Agree (imageAccept m call) (modelAccept rules b call)
   unfolding imageAccept modelAccept
   accept-agrees (append g x) a =
       let l = logAt (b .logs) g in
@@ -77,10 +77,10 @@ module _ (m : Image) (b : Model) (R : Rep m b) (ok : Sound b) where
   accept-agrees (lookup g n c k) a = record { reply = lookup-agrees g n c (a .position); state = R }
   accept-agrees (end g c k) a = record { reply = end-agrees g c (some-held g (a .held)); state = R }
 
-  pub step-agrees : (call : Call) → Agree (imageStep m call) (modelStep rules01 b call)
+  pub step-agrees : (call : Call) → Agree (imageStep m call) (modelStep rules b call)
   unfolding imageStep modelStep
-  step-agrees call = go (modelRefusal rules01 b call) refl
+  step-agrees call = go (modelRefusal rules b call) refl
     where
-      go : (r : Option ℕ) → modelRefusal rules01 b call ≡ r → Agree (imageStep m call) (modelStep rules01 b call)
-      go none e = rw (imageStep, modelStep, refusal-is m b R ok call, e) (accept-agrees call (passed rules01 b call e))
+      go : (r : Option ℕ) → modelRefusal rules b call ≡ r → Agree (imageStep m call) (modelStep rules b call)
+      go none e = rw (imageStep, modelStep, refusal-is m b R ok call, e) (accept-agrees call (passed rules b call e))
       go (some k) e = rw (imageStep, modelStep, refusal-is m b R ok call, e) (record { reply = refl; state = R })

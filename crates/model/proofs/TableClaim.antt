@@ -1,9 +1,9 @@
 -- Demand 3 on bytes: along every list of calls the table's bytes are those of the image, so what holds of images holds of them.
-use Prim.Native.Nat.{ℕ, _^_, _<_}
-use mathlib.Core.Path.{_≡_, refl, sym, ap, _∙_}
-use mathlib.Core.List.{List, [], _∷_}
+use Prim.Native.Nat.{ℕ, _≤_}
+use mathlib.Core.Path.{_≡_, refl, sym, ap, subst, _∙_}
+use mathlib.Core.List.{List, [], _∷_, _++_}
 use mathlib.Core.Bool.{true}
-use lib.ListN.{length, length-replicate}
+use lib.ListN.{length}
 use Rattle.layout.specs.Image.{Image}
 use Rattle.layout.specs.Layout.{readTable, writeTable}
 use Rattle.layout.specs.Fits.{Fits}
@@ -16,15 +16,15 @@ use Rattle.a2m.specs.ImageCalls.{imageStep}
 use Rattle.a2m.specs.TableCalls.{tableStep}
 use Rattle.a2m.proofs.FitsAfter.{step-fits}
 use Rattle.a2m.proofs.Written.{step-written}
-use Rattle.model.specs.Log.{freshLog}
-use Rattle.model.specs.Model.{rules01, Model, newModel, modelStep}
-use Rattle.model.specs.Claim.{ListClaim}
+use Rattle.model.specs.Model.{rules, Model, modelStep}
+use Rattle.model.specs.Claim.{Turn, by, modelTurn, ListClaim}
 use Rattle.model.proofs.Represents.{Rep, Sound}
 use Rattle.model.proofs.WholeOf.{whole-of}
 use Rattle.model.proofs.Step.{step-agrees}
 use Rattle.model.proofs.Sound.{step-sound}
-use Rattle.model.proofs.Along.{step-fixed}
-use Rattle.model.proofs.ImageClaim.{image-claim}
+use Rattle.model.proofs.Along.{Keeps, step-fixed, after-fixed}
+use Rattle.model.proofs.Turns.{Each}
+use Rattle.model.proofs.ImageClaim.{Proper, image-claim}
 
 -- bytes of an image that says a sound model, all within their fields
 pub record Stands (m : Image) (b : Model) : Type 0 where
@@ -36,42 +36,45 @@ pub record Stands (m : Image) (b : Model) : Type 0 where
 pub in-range : (m : Image) (b : Model) → Stands m b → Range (length (m .rows)) (length (m .slots))
 in-range m b s = rw (s .says .count, s .says .size) (s .counts)
 
-pub step-stands : (m : Image) (b : Model) → Stands m b → (c : Call) (w : AllWide (c ∷ [])) → Stands (imageStep m c .state) (modelStep rules01 b c .state)
+pub step-stands : (m : Image) (b : Model) → Stands m b → (c : Call) (w : AllWide (c ∷ [])) → Stands (imageStep m c .state) (modelStep rules b c .state)
 step-stands m b s c w = record {
   says = step-agrees m b (s .says) (s .sound) c .state;
-  sound = step-sound rules01 b (s .sound) c;
+  sound = step-sound rules b (s .sound) c;
   fits = step-fits m (s .fits) c (w .0);
-  counts = rw (step-fixed rules01 b c .count, step-fixed rules01 b c .size) (s .counts);
+  counts = rw (step-fixed rules b c .count, step-fixed rules b c .size) (s .counts);
 }
 
 -- the answers to a list, the bytes after it, and that they still stand
 pub record WrittenAll (m : Image) (b : Model) (cs : List Call) : Type 0 where
   pub answers : replies tableStep (writeTable m) cs ≡ replies imageStep m cs
   pub bytes : after tableStep (writeTable m) cs ≡ writeTable (after imageStep m cs)
-  pub stands : Stands (after imageStep m cs) (after (modelStep rules01) b cs)
+  pub stands : Stands (after imageStep m cs) (after (modelStep rules) b cs)
 
 pub list-written : (m : Image) (b : Model) → Stands m b → (cs : List Call) → AllWide cs → WrittenAll m b cs
 unfolding replies after
 list-written m b s [] w = record { answers = refl; bytes = refl; stands = s }
 list-written m b s (c ∷ cs) w =
     let e = step-written m (s .fits) (in-range m b s) c in
-    let ih = list-written (imageStep m c .state) (modelStep rules01 b c .state) (step-stands m b s c (w .0, tt)) cs (w .1) in
+    let ih = list-written (imageStep m c .state) (modelStep rules b c .state) (step-stands m b s c (w .0, tt)) cs (w .1) in
     record {
       answers = rw e (ap {B = List Reply} (λ l. imageStep m c .reply ∷ l) (ih .answers));
       bytes = rw e (ih .bytes);
       stands = ih .stands;
     }
 
--- the claim, from the bytes of any image that says the new model
-pub table-claim : (G S keeper : ℕ) (key : List ℕ) → keeper < 2 ^ 64 → (m : Image) → Stands m (newModel G S keeper key) → (cs : List Call) → AllWide cs
-    → ListClaim G S keeper key cs (replies tableStep (writeTable m) cs) (readTable (after tableStep (writeTable m) cs))
-table-claim G S keeper key k64 m s cs w =
-    let W = list-written m (newModel G S keeper key) s cs w in
-    rw (W .answers, W .bytes, read-write (after imageStep m cs) (W .stands .fits)) (image-claim G S keeper key k64 (rw (sym (s .says .key)) (s .fits .key)) (rw (length-replicate G freshLog) at (s .counts .logs-most)) m (s .says) cs w)
+-- the claim: calls ts by whatever rules, of the model alone, then calls cs on the bytes of an image that says the model after them
+pub table-claim : (b : Model) → Keeps b → (ts : List Turn) → Each Proper ts → (m : Image) → Stands m (after modelTurn b ts) → (cs : List Call) → AllWide cs
+    → ListClaim b (ts ++ by rules cs) (replies modelTurn b ts ++ replies tableStep (writeTable m) cs) (readTable (after tableStep (writeTable m) cs))
+table-claim b keeps ts p m s cs w =
+    let W = list-written m (after modelTurn b ts) s cs w in
+    let f = after-fixed b ts in
+    let key : length (b .key) ≡ 32 = ap length (sym (s .says .key ∙ f .key)) ∙ s .fits .key in
+    let few : length (b .logs) ≤ 16 = subst (λ (n : ℕ). n ≤ 16) (f .count) (s .counts .logs-most) in
+    rw (W .answers, W .bytes, read-write (after imageStep m cs) (W .stands .fits)) (image-claim b keeps key few ts p m (s .says) cs w)
 
 -- and the table is whole all along
 pub table-whole : (m : Image) (b : Model) → Stands m b → (cs : List Call) → AllWide cs → whole (after tableStep (writeTable m) cs) ≡ true
 table-whole m b s cs w =
     let W = list-written m b s cs w in
     let t = W .stands in
-    ap whole (W .bytes) ∙ written-whole (after imageStep m cs) (t .fits) (in-range _ _ t) ∙ whole-of (after imageStep m cs) (after (modelStep rules01) b cs) (t .says) (t .sound)
+    ap whole (W .bytes) ∙ written-whole (after imageStep m cs) (t .fits) (in-range _ _ t) ∙ whole-of (after imageStep m cs) (after (modelStep rules) b cs) (t .says) (t .sound)

@@ -28,14 +28,14 @@ use Rattle.a2m.specs.TableCalls.{tableRefusal, tableStep}
 use Rattle.a2m.proofs.Clear.{clear}
 use Rattle.a2m.proofs.Lists.{In}
 use Rattle.model.specs.Log.{Log, standing, kindOf, referenceOf, examinedFor}
-use Rattle.model.specs.Model.{rules01, modelStep}
+use Rattle.model.specs.Model.{rules, modelStep}
 use Rattle.model.specs.ModelOf.{logIn, modelOf}
 use Rattle.model.specs.Question.{questionOf, nonceOf, valuesIn, valuesOf}
 use Rattle.model.proofs.Represents.{LogOk}
 use Rattle.model.proofs.Lookups.{foundAs, lookup-is}
 use Rattle.model.proofs.Along.{Keeps}
 use Rattle.model.proofs.OfWhole.{log-in, model-sound, table-step}
-use Rattle.model.proofs.Accepted.{step-verified}
+use Rattle.model.proofs.Accepted.{attests, step-verified}
 
 -- ---- the model that a whole table says keeps what the verifier asks
 
@@ -102,7 +102,7 @@ written-accepted b h call wide r q = go (tableRefusal b call) refl
         let f = fits-read b h (whole-formed b w) in
         let n = whole-range b w .logs-most in
         let few : length (modelOf (readTable b) .logs) ≤ 16 = subst (λ (k : ℕ). k ≤ 16) (sym (length-tabulate (length (readTable b .rows)) (logIn (readTable b)) ∙ length-rows b)) n in
-        let there : receiptIn (modelStep rules01 (modelOf (readTable b)) call .reply) ≡ some r = ap receiptIn (sym (table-step b h w call wide .reply)) ∙ q in
-        step-verified (modelOf (readTable b)) (whole-keeps (readTable b) (whole-image b w) f) (f .key) few call wide r there
+        let there : receiptIn (modelStep rules (modelOf (readTable b)) call .reply) ≡ some r = ap receiptIn (sym (table-step b h w call wide .reply)) ∙ q in
+        step-verified (modelOf (readTable b)) (whole-keeps (readTable b) (whole-image b w) f) (f .key) few rules attests call wide r there
         ∙ ap (answer 0) (values-are (readTable b) (whole-image b w) call (c .position))
     go (some k) e = absurd (Option·none-ne-some r (rw (tableStep, e) at q))

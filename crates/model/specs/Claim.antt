@@ -1,9 +1,9 @@
--- Demand 3: what it says of a list of calls on a freshly formatted table.
+-- Demand 3: what it says of a list of calls.
 use Prim.Native.Nat.{ℕ, suc, _<_, _≤_}
 use mathlib.Core.Path.{_≡_}
 use mathlib.Core.Logic.{_≢_}
-use mathlib.Core.List.{List, [], _∷_}
-use mathlib.Core.Option.{Option, none, some}
+use mathlib.Core.List.{List, [], _∷_, map}
+use mathlib.Core.Option.{Option, some, Option·map}
 use mathlib.Core.Bool.{cond}
 use lib.ListN.{length, getD, take, getElem?}
 use lib.Dec.{eqb}
@@ -12,11 +12,31 @@ use Rattle.receipt.specs.Attestation.{readAttestation}
 use Rattle.receipt.specs.Verdict.{verdict}
 use Rattle.layout.specs.Image.{Image}
 use Rattle.table.specs.WholeImage.{meets}
-use Rattle.a2m.specs.Call.{Call, append, advance, truncate, lookup, end, Reply, refused, done, found, ended, replies, after, receiptIn}
+use Rattle.a2m.specs.Call.{Call, append, advance, truncate, lookup, end, Reply, refused, done, Effect, replies, after, receiptIn}
 use Rattle.a2m.specs.ImageCalls.{rowIn, entriesIn}
 use Rattle.model.specs.Log.{Log}
-use Rattle.model.specs.Model.{Rules, rules01, Model, newModel, logAt, modelStep}
+use Rattle.model.specs.Model.{Rules, Model, logAt, modelStep}
 use Rattle.model.specs.Question.{questionOf, nonceOf, valuesOf}
+
+-- ---- lists in which each call goes by its own rules
+
+pub record Turn : Type 0 where
+  pub rules : Rules
+  pub call : Call
+
+abbrev pub under : Rules → Call → Turn
+under ru c = record { rules = ru; call = c }
+
+-- all of them by one set of rules
+abbrev pub by : Rules → List Call → List Turn
+by ru cs = map (under ru) cs
+
+abbrev pub modelTurn : Model → Turn → Effect Model
+modelTurn b t = modelStep (t .rules) b (t .call)
+
+-- call j of the list
+unfoldable pub callAt : List Turn → ℕ → Option Call
+callAt ts j = Option·map (λ (t : Turn). t .call) (getElem? ts j)
 
 -- ---- what a list's answers show
 
@@ -39,20 +59,20 @@ pub record ShowsAt (rs : List Reply) (i g n : ℕ) (v d : List ℕ) : Type 0 whe
 
 -- "A position is skipped when an accepted advance of the list on that log jumps over it": call j is an advance of log g to n that was accepted, and
 -- p lies between H as the calls before it left it and n
-pub record SkipsAt (ru : Rules) (b : Model) (cs : List Call) (rs : List Reply) (j g p : ℕ) : Type 0 where
+pub record SkipsAt (b : Model) (ts : List Turn) (rs : List Reply) (j g p : ℕ) : Type 0 where
   pub n : ℕ
   pub given : List ℕ
   pub value : List ℕ
-  pub call : getElem? cs j ≡ some (advance g n given value)
+  pub call : callAt ts j ≡ some (advance g n given value)
   pub low : ℕ
   pub high : ℕ
   pub accepted : replyAt rs j ≡ done low high
-  pub above : logAt (after (modelStep ru) b (take j cs) .logs) g .high < p
+  pub above : logAt (after modelTurn b (take j ts) .logs) g .high < p
   pub below : p < n
 
 -- "forgotten when it lies below the n of an earlier accepted truncate on that log": call j is a truncate of log g at n that was accepted
-pub record ForgetsAt (cs : List Call) (rs : List Reply) (j g n : ℕ) : Type 0 where
-  pub call : getElem? cs j ≡ some (truncate g n)
+pub record ForgetsAt (ts : List Turn) (rs : List Reply) (j g n : ℕ) : Type 0 where
+  pub call : callAt ts j ≡ some (truncate g n)
   pub low : ℕ
   pub high : ℕ
   pub accepted : replyAt rs j ≡ done low high
@@ -66,17 +86,17 @@ Stores g x (lookup k n c r) = ⊥
 Stores g x (end k c r) = ⊥
 
 -- call i put x at n of log g and was accepted; call j, later, looks n up; no truncate between them that was accepted goes past n
-pub record Asked (cs : List Call) (rs : List Reply) (i j g n : ℕ) (x : List ℕ) : Type 0 where
+pub record Asked (ts : List Turn) (rs : List Reply) (i j g n : ℕ) (x : List ℕ) : Type 0 where
   pub put : Call
   pub stores : Stores g x put
-  pub first : getElem? cs i ≡ some put
+  pub first : callAt ts i ≡ some put
   pub low : ℕ
   pub accepted : replyAt rs i ≡ done low n
   pub nonce : List ℕ
   pub sized : length nonce ≡ 32
-  pub second : getElem? cs j ≡ some (lookup g n nonce 160)
+  pub second : callAt ts j ≡ some (lookup g n nonce 160)
   pub later : i < j
-  pub kept : (k m : ℕ) → i < k → k < j → ForgetsAt cs rs k g m → m ≤ n
+  pub kept : (k m : ℕ) → i < k → k < j → ForgetsAt ts rs k g m → m ≤ n
 
 -- ---- what the table after the list says
 
@@ -93,29 +113,31 @@ pub record RowSays (m : Image) (g : ℕ) (l : Log) : Type 0 where
 
 -- ---- the claim
 
--- of a format's arguments, the calls cs, their answers rs, and the table m after them
-pub record ListClaim (G S keeper : ℕ) (key : List ℕ) (cs : List Call) (rs : List Reply) (m : Image) : Type 0 where
+-- of the model b at first, the calls ts, each by its rules, their answers rs, and the table m after them. For an accepted format b is `newModel` of its
+-- arguments, and every call goes by the present `rules`
+pub record ListClaim (b : Model) (ts : List Turn) (rs : List Reply) (m : Image) : Type 0 where
   -- "every answer is the one that document 01's plain book gives for the calls so far": receipts and examined numbers included
-  pub answers : rs ≡ replies (modelStep rules01) (newModel G S keeper key) cs
+  pub answers : rs ≡ replies modelTurn b ts
   -- "no two receipts from the list show one log and position assigned with different values or digests"
   pub agreeing : (i j g n : ℕ) (v d v′ d′ : List ℕ) → ShowsAt rs i g n v d → ShowsAt rs j g n v′ d′ → (v ≡ v′) × (d ≡ d′)
   -- "none shows as assigned a position that the list skips", be it before or after the receipt
-  pub unskipped : (i j g p : ℕ) (v d : List ℕ) → SkipsAt rules01 (newModel G S keeper key) cs rs j g p → ShowsAt rs i g p v d → ⊥
+  pub unskipped : (i j g p : ℕ) (v d : List ℕ) → SkipsAt b ts rs j g p → ShowsAt rs i g p v d → ⊥
   -- "or one forgotten by then"
-  pub remembered : (i j g p n : ℕ) (v d : List ℕ) → j < i → ForgetsAt cs rs j g n → p < n → ShowsAt rs i g p v d → ⊥
+  pub remembered : (i j g p n : ℕ) (v d : List ℕ) → j < i → ForgetsAt ts rs j g n → p < n → ShowsAt rs i g p v d → ⊥
   -- "Position 0 is never assigned."
   pub positive : (i g n : ℕ) (v d : List ℕ) → ShowsAt rs i g n v d → 1 ≤ n
-  -- what a lookup or an end wrote, the verifier accepts under the format's key, for the question that the call was, with what the book says then
-  pub verified : (i : ℕ) (c : Call) (r : List ℕ) → getElem? cs i ≡ some c → receiptIn (replyAt rs i) ≡ some r
-      → verdict key r (nonceOf c) (questionOf keeper c) ≡ answer 0 (valuesOf (after (modelStep rules01) (newModel G S keeper key) (take i cs)) c)
+  -- what a lookup or an end wrote, by whichever rules, the verifier accepts under the book's key, for the question that the call was, with what the book
+  -- says then
+  pub verified : (i : ℕ) (c : Call) (r : List ℕ) → callAt ts i ≡ some c → receiptIn (replyAt rs i) ≡ some r
+      → verdict (b .key) r (nonceOf c) (questionOf (b .keeper) c) ≡ answer 0 (valuesOf (after modelTurn b (take i ts)) c)
   -- "after the list every slot is free or held by one log, exactly once": "all these chains together meet every slot from 1 to S exactly once"
-  pub slots : (s : ℕ) → 1 ≤ s → s ≤ S → times s (meets m) ≡ 1
+  pub slots : (s : ℕ) → 1 ≤ s → s ≤ b .size → times s (meets m) ≡ 1
   -- "After the list, each row's L and H and the entries along its chain are the book's."
-  pub rows : (g : ℕ) → g < G → RowSays m g (logAt (after (modelStep rules01) (newModel G S keeper key) cs .logs) g)
+  pub rows : (g : ℕ) → g < length (b .logs) → RowSays m g (logAt (after modelTurn b ts .logs) g)
   -- the table has its G rows and S slots
-  pub logs : length (m .rows) ≡ G
-  pub size : length (m .slots) ≡ S
+  pub logs : length (m .rows) ≡ length (b .logs)
+  pub size : length (m .slots) ≡ b .size
   -- "1 never occurs."
   pub untorn : (i : ℕ) → replyAt rs i ≢ refused 1
   -- and what a call put is found again: a later lookup shows it assigned with the value put, unless an accepted truncate went past it
-  pub recalled : (i j g n : ℕ) (x : List ℕ) → Asked cs rs i j g n x → (d : List ℕ) × ShowsAt rs j g n x d
+  pub recalled : (i j g n : ℕ) (x : List ℕ) → Asked ts rs i j g n x → (d : List ℕ) × ShowsAt rs j g n x d

@@ -49,9 +49,14 @@ pub record Rules : Type 0 where
   -- the number that an end of an empty list gets
   pub emptyEnd : Option ℕ
 
--- "Value and digest are the entry's when assigned, otherwise zero bytes"; "6 by an empty list, 5 when all lists together have S entries"
+-- document 01's, which stay: "Value and digest are the entry's when assigned, otherwise zero bytes"; "6 by an empty list, 5 when all lists together have S
+-- entries"
 unfoldable pub rules01 : Rules
 rules01 = record { gap = λ e. blankEntry; noSlot = λ b g. cond (eqb (total (b .logs)) (b .size)) (some 5) none; emptyEnd = some 6 }
+
+-- the present ones, which the calls on images and tables go by
+unfoldable pub rules : Rules
+rules = rules01
 
 -- ---- refusals
 

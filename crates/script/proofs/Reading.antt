@@ -6,6 +6,7 @@ use native.Mathlib.Omega.{arith}
 use native.Mathlib.Nat.{add-zero, zero-add}
 use lib.ListN.{length, take, drop, length-append, length-take}
 use lib.Seq.{take-all, length-take-le}
+use Rattle.layout.specs.Layout.{largest}
 use Rattle.octets.specs.Octets.{splice}
 use Rattle.octets.proofs.Parts.{splice-nil, splice-append, length-splice}
 use Rattle.line.specs.Fields.{upTo}
@@ -20,7 +21,7 @@ abbrev pub state : ℕ → ℕ → ℕ → ℕ → Progress
 state kept number size to = record { kept = kept; number = number; size = size; to = to }
 
 -- nothing is read
-pub feeds-none : (buffer held out : List ℕ) (p : Progress) → length held ≡ 201 → p .kept ≤ 201 → length buffer ≡ 61172 → p .size ≤ 61172 → Feeds [] buffer held out p buffer held out (state (p .kept) (p .number) (p .size) 0)
+pub feeds-none : (buffer held out : List ℕ) (p : Progress) → length held ≡ 201 → p .kept ≤ 201 → length buffer ≡ largest → p .size ≤ largest → Feeds [] buffer held out p buffer held out (state (p .kept) (p .number) (p .size) 0)
 unfolding heldAfter newlines answered tableRead
 feeds-none buffer held out p a b w s =
     record {
@@ -74,7 +75,7 @@ module _ (text buffer held out : List ℕ) (p : Progress) (at : ℕ) (buffer′ 
       })
 
   -- a line is read, and answered
-  pub feeds-line : e < length text → 168 * length text ≤ length out → at ≤ length text → (buffer″ out″ : List ℕ) (s t : ℕ) → t ≡ r .to + length (answerText (take (r .size) buffer′) (r .number) (take k held″)) → out″ ≡ splice out′ (r .to) (answerText (take (r .size) buffer′) (r .number) (take k held″)) → s ≡ length (tableAfter (take (r .size) buffer′) (take k held″)) → s ≤ 61172 → buffer″ ≡ splice buffer′ 0 (tableAfter (take (r .size) buffer′) (take k held″)) → Feeds (take (e + 1) text) buffer held out p buffer″ held″ out″ (state 0 (r .number + 1) s t)
+  pub feeds-line : e < length text → 168 * length text ≤ length out → at ≤ length text → (buffer″ out″ : List ℕ) (s t : ℕ) → t ≡ r .to + length (answerText (take (r .size) buffer′) (r .number) (take k held″)) → out″ ≡ splice out′ (r .to) (answerText (take (r .size) buffer′) (r .number) (take k held″)) → s ≡ length (tableAfter (take (r .size) buffer′) (take k held″)) → s ≤ largest → buffer″ ≡ splice buffer′ 0 (tableAfter (take (r .size) buffer′) (take k held″)) → Feeds (take (e + 1) text) buffer held out p buffer″ held″ out″ (state 0 (r .number + 1) s t)
   feeds-line more free within buffer″ out″ s t to put sized small′ call =
       let H : List ℕ = take (p .kept) held in
       let G : List ℕ = take (r .kept) held′ in
@@ -149,7 +150,7 @@ finishes-line buffer held out p h k buffer′ out′ r to put call =
 -- ---- a script from its first byte on
 
 -- at its start
-pub after-none : (buffer held : List ℕ) (p : Progress) → length held ≡ 201 → p .kept ≡ 0 → length buffer ≡ 61172 → p .size ≡ 0 → p .number ≡ 1 → After [] buffer held p
+pub after-none : (buffer held : List ℕ) (p : Progress) → length held ≡ 201 → p .kept ≡ 0 → length buffer ≡ largest → p .size ≡ 0 → p .number ≡ 1 → After [] buffer held p
 unfolding heldAfter newlines tableRead
 after-none buffer held p a b w s n =
     record {

@@ -15,7 +15,7 @@ use Rattle.octets.specs.Octets.{Bytes, splice, zeros}
 use Rattle.octets.proofs.Parts.{bytes-part}
 use Rattle.octets.proofs.Tests.{and-false}
 use Rattle.refusal.specs.Order.{firstFault, answerOf, afterwards}
-use Rattle.layout.specs.Layout.{tableSize, writeTable}
+use Rattle.layout.specs.Layout.{tableSize, writeTable, largest}
 use Rattle.layout.specs.Tests.{inRange}
 use Rattle.table.specs.Format.{formatted, formatRefusal, formatBytes}
 use Rattle.line.specs.declared.Command.{Command}
@@ -49,7 +49,7 @@ turn a n = record { answer = a; size = n }
 -- ---- the calls
 
 -- a call on the lent table: y is what came back
-pub call-turns : (l y : List ℕ) (n : ℕ) {command : Command} (x : Command) (a : Answer) → command ≡ x → n ≤ length l → n ≤ 61172 → length y ≡ length (take (n - 0) l)
+pub call-turns : (l y : List ℕ) (n : ℕ) {command : Command} (x : Command) (a : Answer) → command ≡ x → n ≤ length l → n ≤ largest → length y ≡ length (take (n - 0) l)
     → a ≡ commandAnswer (take (n - 0) l) x → y ≡ commandTable (take (n - 0) l) x → Turns l n command (putMid 0 (n - 0) l y) (turn a n)
 call-turns l y n x a e m k h ha hy =
     let z : n - 0 ≡ n = omega arith in
@@ -59,7 +59,7 @@ call-turns l y n x a e m k h ha hy =
     (record { answer = ha ∙ ap (λ (j : ℕ). commandAnswer (take j l) x) z; size = sym (ap length (sym t) ∙ b); most = k; bytes = came-back l y (commandTable (take n l) x) n t b })
 
 -- a command that leaves the table
-pub keeps-table : (l : List ℕ) (n : ℕ) {command : Command} (x : Command) (a : Answer) → command ≡ x → n ≤ length l → n ≤ 61172 → a ≡ commandAnswer (take (n - 0) l) x → commandTable (take n l) x ≡ take n l
+pub keeps-table : (l : List ℕ) (n : ℕ) {command : Command} (x : Command) (a : Answer) → command ≡ x → n ≤ length l → n ≤ largest → a ≡ commandAnswer (take (n - 0) l) x → commandTable (take n l) x ≡ take n l
     → Turns l n command l (turn a n)
 keeps-table l n x a e h m ha ht =
     let z : n - 0 ≡ n = omega arith in
@@ -82,12 +82,12 @@ unfolding formatRefusal firstFault inRange
 many-slots logs slots h = rw (lt-leb slots 800 h, and-false (leb 1 logs && leb logs 16 && leb 1 slots))
 
 -- where the counts are not in range nothing is lent
-pub format-counts : (l : List ℕ) (n logs slots keeper : ℕ) → n ≤ length l → n ≤ 61172 → formatFault logs slots ≡ some 8 → Turns l n (Format logs slots keeper) l (turn (Plain 8) n)
+pub format-counts : (l : List ℕ) (n logs slots keeper : ℕ) → n ≤ length l → n ≤ largest → formatFault logs slots ≡ some 8 → Turns l n (Format logs slots keeper) l (turn (Plain 8) n)
 unfolding commandAnswer commandTable answerOf afterwards
 format-counts l n logs slots keeper h m e = keeps-table l n (Format logs slots keeper) (Plain 8) refl h m (sym (ap (λ (o : Option ℕ). Plain (answerOf o)) e)) (ap (λ (o : Option ℕ). afterwards o (writeTable (formatted logs slots keeper (zeros 32))) (take n l)) e)
 
 -- ---- the part of k bytes was lent, b, and came back as y
-module _ (l y : List ℕ) (n k logs slots keeper : ℕ) (size : k ≡ tableSize logs slots) (fits : k ≤ length l) (most : k ≤ 61172) (kept : length y ≡ length (take (k - 0) l))
+module _ (l y : List ℕ) (n k logs slots keeper : ℕ) (size : k ≡ tableSize logs slots) (fits : k ≤ length l) (most : k ≤ largest) (kept : length y ≡ length (take (k - 0) l))
     (bytes : y ≡ formatBytes (take (k - 0) l) logs slots keeper (zeros 32)) where
   lent : List ℕ
   lent = take (k - 0) l
@@ -130,7 +130,7 @@ module _ (l y : List ℕ) (n k logs slots keeper : ℕ) (size : k ≡ tableSize 
   some-refusal j none h e = absurd (omega arith)
   some-refusal j (some i) h e = ap some (sym e)
 
-  pub format-refused : (j : ℕ) → 1 ≤ j → n ≤ length l → n ≤ 61172 → j ≡ answerOf (formatRefusal (length (take (k - 0) l)) logs slots (length (zeros 32)))
+  pub format-refused : (j : ℕ) → 1 ≤ j → n ≤ length l → n ≤ largest → j ≡ answerOf (formatRefusal (length (take (k - 0) l)) logs slots (length (zeros 32)))
       → Turns l n (Format logs slots keeper) (putMid 0 (k - 0) l y) (turn (Plain j) n)
   unfolding lent image commandAnswer commandTable afterwards zeros answerOf
   format-refused j p g m h =

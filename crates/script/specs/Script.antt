@@ -7,7 +7,7 @@ use lib.ListN.{length, take}
 use Rattle.octets.specs.Octets.{splice, zeros}
 use Rattle.bigendian.specs.BigEndian.{placed}
 use Rattle.refusal.specs.Order.{answerOf, afterwards}
-use Rattle.layout.specs.Layout.{tableSize, writeTable}
+use Rattle.layout.specs.Layout.{tableSize, writeTable, largest}
 use Rattle.table.specs.Format.{formatted, formatRefusal}
 use Rattle.a2m.specs.Call.{append, advance, truncate, lookup, end}
 use Rattle.a2m.specs.TableCalls.{tableStep}
@@ -65,5 +65,5 @@ tableAfter b line = commandTable b (commandOf line)
 pub record Turns (buffer : List ℕ) (n : ℕ) (command : Command) (buffer′ : List ℕ) (r : Turn) : Type 0 where
   pub answer : r .answer ≡ commandAnswer (take n buffer) command
   pub size : r .size ≡ length (commandTable (take n buffer) command)
-  pub most : r .size ≤ 61172
+  pub most : r .size ≤ largest
   pub bytes : buffer′ ≡ splice buffer 0 (commandTable (take n buffer) command)

@@ -5,6 +5,7 @@ use mathlib.Core.Bool.{cond}
 use mathlib.Core.List.{List, [], _∷_, _++_}
 use lib.Dec.{eqb}
 use lib.ListN.{length, take}
+use Rattle.layout.specs.Layout.{largest}
 use Rattle.octets.specs.Octets.{splice}
 use Rattle.line.specs.Fields.{partsOf}
 use Rattle.script.specs.Script.{answerText, tableAfter}
@@ -94,8 +95,8 @@ tableIn buffer p = take (p .size) buffer
 pub record Feeds (piece buffer held out : List ℕ) (p : Progress) (buffer′ held′ out′ : List ℕ) (r : Progress) : Type 0 where
   pub line : length held′ ≡ 201
   pub most : r .kept ≤ 201
-  pub whole : length buffer′ ≡ 61172
-  pub sized : r .size ≤ 61172
+  pub whole : length buffer′ ≡ largest
+  pub sized : r .size ≤ largest
   pub few : r .number ≤ p .number + length piece
   pub room : r .to ≤ 168 * length piece
   pub bytes : take (r .kept) held′ ≡ heldAfter (take (p .kept) held) piece
@@ -115,8 +116,8 @@ pub record Finishes (buffer held out : List ℕ) (p : Progress) (buffer′ out�
 pub record After (read buffer held : List ℕ) (p : Progress) : Type 0 where
   pub line : length held ≡ 201
   pub most : p .kept ≤ 201
-  pub whole : length buffer ≡ 61172
-  pub sized : p .size ≤ 61172
+  pub whole : length buffer ≡ largest
+  pub sized : p .size ≤ largest
   pub bytes : take (p .kept) held ≡ heldAfter [] read
   pub count : p .number ≡ 1 + newlines read
   pub calls : tableIn buffer p ≡ tableRead [] [] read

@@ -2,10 +2,10 @@
 ghost use mathlib.Core.Path.{_≡_};
 ghost use Prim.Native.Nat.{_≤_};
 ghost use lib.ListN.{length};
+use layout::places::LARGEST;
 use libc::STDOUT_FILENO;
 use script::Progress;
 use script_lines::KEPT;
-use script_lines::LARGEST;
 use script_lines::ROOM;
 
 // Room for the answers to a script of 1,024 bytes.

@@ -7,10 +7,8 @@ pub use lines::answer_line;
 pub use pieces::feed;
 pub use pieces::finish;
 
-// What a program lends: the bytes of the largest table, the first of which are a script's table, at first none; the bytes of a line
-// that are kept, one more than a line may have; and the room that an answer takes at most.
-pub const LARGEST: usize = 61172;
-
+// What a program lends beside the bytes of the largest table: the bytes of a line that are kept, one more than a line may have; and the
+// room that an answer takes at most.
 pub const KEPT: usize = 201;
 
 pub const ROOM: usize = 168;

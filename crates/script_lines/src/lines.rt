@@ -6,6 +6,7 @@ use script::Next;
 ghost use mathlib.Core.Path.{_≡_};
 ghost use Prim.Native.Nat.{_+_, _≤_};
 ghost use lib.ListN.{length, take};
+ghost use Rattle.layout.specs.Layout.{largest};
 ghost use Rattle.octets.specs.Octets.{splice};
 ghost use Rattle.script.specs.Script.{cellsOf, answerText, tableAfter};
 
@@ -56,8 +57,8 @@ pub fn answer_line(
     number: u64,
     text: &[u8],
 ) -> Next
-    requires { ⌜ (length (now buffer) ≡ 61172) × (size ≤ 61172) × (to + 168 ≤ length (now out)) ⌝ }
-    ensures size { λ r. ⌜ (r .size ≡ length (tableAfter (take size (now (buffer .entry))) (now (text .entry)))) × (r .size ≤ 61172) ⌝ }
+    requires { ⌜ (length (now buffer) ≡ largest) × (size ≤ largest) × (to + 168 ≤ length (now out)) ⌝ }
+    ensures size { λ r. ⌜ (r .size ≡ length (tableAfter (take size (now (buffer .entry))) (now (text .entry)))) × (r .size ≤ largest) ⌝ }
     ensures end { λ r. ⌜ r .to ≡ to + length (answerText (take size (now (buffer .entry))) number (now (text .entry))) ⌝ }
     ensures table { λ _. ⌜ now (buffer .exit) ≡ splice (now (buffer .entry)) 0 (tableAfter (take size (now (buffer .entry))) (now (text .entry))) ⌝ }
     ensures line { λ _. ⌜ now (out .exit) ≡ splice (now (out .entry)) to (answerText (take size (now (buffer .entry))) number (now (text .entry))) ⌝ }

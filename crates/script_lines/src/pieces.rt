@@ -2,6 +2,7 @@
 ghost use mathlib.Core.Path.{_≡_};
 ghost use Prim.Native.Nat.{_+_, _*_, _≤_, _<_, _^_, min};
 ghost use lib.ListN.{length};
+ghost use Rattle.layout.specs.Layout.{largest};
 ghost use Rattle.script.specs.Stream.{Keeps, Feeds, Finishes};
 use crate::KEPT;
 use crate::lines::answer_line;
@@ -36,7 +37,7 @@ pub fn feed(
     out: &mut [u8],
     p: Progress,
 ) -> Progress
-    requires { ⌜ (length (now held) ≡ 201) × (p .kept ≤ 201) × (length (now buffer) ≡ 61172) × (p .size ≤ 61172) ⌝ }
+    requires { ⌜ (length (now held) ≡ 201) × (p .kept ≤ 201) × (length (now buffer) ≡ largest) × (p .size ≤ largest) ⌝ }
     requires { ⌜ (p .number + length (now piece) < 2 ^ 64) × (168 * length (now piece) ≤ length (now out)) ⌝ }
     ensures { λ r. ⌜ Feeds (now (piece .entry)) (now (buffer .entry)) (now (held .entry)) (now (out .entry)) p (now (buffer .exit)) (now (held .exit)) (now (out .exit)) r ⌝ }
 {
@@ -72,7 +73,7 @@ pub fn feed(
 
 // Answers the last line of a script, where it lacks its newline: its answer goes to the start of out. The end of that answer.
 pub fn finish(buffer: &mut [u8], held: &[u8], out: &mut [u8], p: Progress) -> usize
-    requires { ⌜ (p .kept ≤ length (now held)) × (length (now buffer) ≡ 61172) × (p .size ≤ 61172) × (168 ≤ length (now out)) ⌝ }
+    requires { ⌜ (p .kept ≤ length (now held)) × (length (now buffer) ≡ largest) × (p .size ≤ largest) × (168 ≤ length (now out)) ⌝ }
     ensures { λ r. ⌜ Finishes (now (buffer .entry)) (now (held .entry)) (now (out .entry)) p (now (buffer .exit)) (now (out .exit)) r ⌝ }
 {
     let kept = p.kept;

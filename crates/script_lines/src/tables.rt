@@ -13,12 +13,13 @@ use script_calls::truncate;
 ghost use mathlib.Core.Path.{_≡_};
 ghost use Prim.Native.Nat.{_≤_};
 ghost use lib.ListN.{length, take};
+ghost use Rattle.layout.specs.Layout.{largest};
 ghost use Rattle.line.specs.declared.Command.the-variants.{Format};
 ghost use Rattle.script.specs.Script.{Turns};
 
 // A new table, of its own size, where the buffer can hold it.
 fn format(buffer: &mut [u8], size: usize, logs: u64, slots: u64, keeper: u64) -> Turn
-    requires { ⌜ (length (now buffer) ≡ 61172) × (size ≤ 61172) ⌝ }
+    requires { ⌜ (length (now buffer) ≡ largest) × (size ≤ largest) ⌝ }
     ensures { λ r. ⌜ Turns (now (buffer .entry)) size (Format logs slots keeper) (now (buffer .exit)) r ⌝ }
 {
     let counts = Turn {
@@ -48,7 +49,7 @@ fn format(buffer: &mut [u8], size: usize, logs: u64, slots: u64, keeper: u64) ->
 
 // Carries a command out.
 pub fn carry_out(buffer: &mut [u8], size: usize, command: Command) -> Turn
-    requires { ⌜ (length (now buffer) ≡ 61172) × (size ≤ 61172) ⌝ }
+    requires { ⌜ (length (now buffer) ≡ largest) × (size ≤ largest) ⌝ }
     ensures { λ r. ⌜ Turns (now (buffer .entry)) size command (now (buffer .exit)) r ⌝ }
 {
     let answer = match command {

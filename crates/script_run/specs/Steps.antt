@@ -3,6 +3,7 @@ use Prim.Native.Nat.{ℕ, _+_, _≤_, _<_, _^_}
 use mathlib.Core.Path.{_≡_}
 use mathlib.Core.List.{List, [], _++_}
 use lib.ListN.{length, take}
+use Rattle.layout.specs.Layout.{largest}
 use Rattle.script.specs.declared.Progress.{Progress}
 use Rattle.script.specs.Stream.{heldAfter, newlines, answered, tableRead, tableIn, Feeds, After}
 use Rattle.script_run.specs.declared.Ending.{Ending}
@@ -14,8 +15,8 @@ use Rattle.script_run.specs.declared.Step.the-variants.{More, Over}
 pub record Ready (buffer held out : List ℕ) (p : Progress) : Type 0 where
   pub line : length held ≡ 201
   pub most : p .kept ≤ 201
-  pub whole : length buffer ≡ 61172
-  pub sized : p .size ≤ 61172
+  pub whole : length buffer ≡ largest
+  pub sized : p .size ≤ largest
   pub room : length out ≡ 1376256
   pub numbers : p .number ≤ 2 ^ 63
 

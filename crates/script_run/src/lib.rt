@@ -6,12 +6,12 @@ ghost use lib.ListN.{length};
 ghost use Rattle.script.specs.declared.Progress.{Progress};
 ghost use Rattle.script.specs.Stream.{newlines, After};
 ghost use Rattle.script_run.specs.Steps.{Ready, Answers, Steps, Ended, AfterSome};
+use layout::places::LARGEST;
 use libc::STDERR_FILENO;
 use libc::STDIN_FILENO;
 use libc::STDOUT_FILENO;
 use script::Progress;
 use script_lines::KEPT;
-use script_lines::LARGEST;
 use script_lines::ROOM;
 
 // The bytes of a read, at most.

@@ -50,6 +50,9 @@ heldBy slots g (r ∷ rs) = chain slots (suc g) (r .first) ++ heldBy slots (suc 
 unfoldable pub meets : Image → List ℕ
 meets m = chain (m .slots) 0 (m .free) ++ heldBy (m .slots) 0 (m .rows)
 
--- "chain lengths together make S"
+-- document 01's clauses on chains; "chain lengths together make S"
+abbrev pub linked : Image → Bool
+linked m = freeOk m && rowsOk (m .slots) 0 (m .rows) && eqb (length (meets m)) (length (m .slots))
+
 unfoldable pub wholeImage : Image → Bool
-wholeImage m = freeOk m && rowsOk (m .slots) 0 (m .rows) && eqb (length (meets m)) (length (m .slots))
+wholeImage m = linked m

@@ -1,5 +1,6 @@
 -- `script_run::run` meets its contract.
 use Prim.Native.Nat.{ℕ}
+use Rattle.layout.specs.Layout.{largest}
 use Rattle.script_run.specs.Steps.{Ended}
 use Rattle.script_run.specs.declared.Ending.{Ending}
 use Rattle.script.proofs.Reading.{after-none}
@@ -35,7 +36,7 @@ slice-aggregate-read-all-3 : tie.Need-slice-aggregate-read-all-3
 slice-aggregate-read-all-3 c = search needs
 
 read-all-requires : tie.Need-read-all-requires
-read-all-requires c κs = (after-none _ _ _ (length-replicate {A = ℕ} 201 0) refl (length-replicate {A = ℕ} 61172 0) refl refl, c .before .before .before .room .ensures)
+read-all-requires c κs = (after-none _ _ _ (length-replicate {A = ℕ} 201 0) refl (length-replicate {A = ℕ} largest 0) refl refl, c .before .before .before .room .ensures)
 
 enum-known-q : tie.Need-enum-known-q
 enum-known-q c = search needs

@@ -1,4 +1,5 @@
 -- `script_lines::tables::format` meets its contract.
+use Rattle.layout.specs.Layout.{largest}
 use Rattle.refusal.specs.Number.{numberOf, outcomeNumber}
 use Rattle.octets.specs.Octets.{zeros}
 use Prim.Native.Nat.{_≤_}
@@ -54,7 +55,7 @@ unfolding zeros
 returns-3 c = let a = c .before .before .before .before .before .before .before .before .before .before .before .args in
     let n = c .before .before .before .before .before .before .before .table-size .result in
     let f = c .before .before .before .before .format in
-    let k : n ≤ 61172 = omega (arith, c .before .before .before .before .before .before .before .table-size .ensures) in
+    let k : n ≤ largest = omega (arith, c .before .before .before .before .before .before .before .table-size .ensures) in
     format-done (a .buffer .now) (f .last .0) (a .size) n (a .logs) (a .slots) (a .keeper) (c .before .before .before .before .before .before .before .table-size .ensures) (omega arith) k (f .kept .0) (f .ensures .1)
     (ap outcomeNumber (sym (c .enum-told .given .1)) ∙ f .ensures .0)
 
@@ -66,7 +67,7 @@ unfolding zeros
 returns-4 c = let a = c .before .before .before .before .before .before .before .before .before .before .before .before .before .before .args in
     let n = c .before .before .before .before .before .before .before .before .before .before .table-size .result in
     let f = c .before .before .before .before .before .before .before .format in
-    let k : n ≤ 61172 = omega (arith, c .before .before .before .before .before .before .before .before .before .before .table-size .ensures) in
+    let k : n ≤ largest = omega (arith, c .before .before .before .before .before .before .before .before .before .before .table-size .ensures) in
     let e : c .wide .result ≡ numberOf (c .before .before .before .outcome .given .0 .0) = c .wide .ensures .0 ∙ c .before .number .ensures in
     format-refused (a .buffer .now) (f .last .0) (a .size) n (a .logs) (a .slots) (a .keeper) (c .before .before .before .before .before .before .before .before .before .before .table-size .ensures) (omega arith) k (f .kept .0) (f .ensures .1)
     (c .wide .result) (omega (arith, numberOf-positive (c .before .before .before .outcome .given .0 .0))) (omega arith) (omega arith) (e ∙ ap outcomeNumber (sym (c .before .before .before .outcome .given .1)) ∙ f .ensures .0)
