@@ -16,10 +16,14 @@ enum-told : tie.Need-enum-told
 enum-told c = search needs
 
 returns : tie.Need-returns
-returns c = ?
+returns c =
+    let a = c .before .before .before .before .before .args in
+    subst (Shows 0 _ (a .free .now)) (ap screenAnswer (sym (c .before .n .given .1)) ∙ c .before .before .before .free-slots .ensures) (shows (c .before .n .given .0 .0) (a .free .now))
 
 returns-2 : tie.Need-returns-2
-returns-2 c = ?
+returns-2 c =
+    let a = c .before .before .before .before .args in
+    subst (Shows 1 (a .free .now) (a .free .now)) (ap screenAnswer (sym (c .enum-told .given .1)) ∙ c .before .before .free-slots .ensures) (shows-nothing (a .free .now))
 
 pub keeper-free-spec : {M : Type 1} → statement M
 keeper-free-spec = tie.close (tie.spec free-slots-requires enum-known-n enum-told returns returns-2)
