@@ -48,11 +48,17 @@ pub fn spoiled(table: &mut [u8], place: u64, b: u64, n: u64) {
 
 // Bytes of the table from a place on.
 pub fn shown(table: &[u8], place: u64, n: u64) {
-    let first = slot(table, 0, place).len();
-    let rest = &table[first..];
-    text(b"bytes ");
-    hex(slot(rest, 0, n));
-    text(b"\n");
+    if place <= table.len() as u64 {
+        let at = place as usize;
+        if n <= (table.len() - at) as u64 {
+            let e = at + n as usize;
+            text(b"bytes ");
+            hex(&table[at..e]);
+            text(b"\n");
+            return;
+        }
+    }
+    text(b"? no such bytes\n");
 }
 
 pub fn screened(table: &[u8]) {
