@@ -2,23 +2,24 @@
 use crate::sides::{Random, Run, Side, Verdict, KEEPER, PLAIN};
 use crate::tables::*;
 
-pub const CALLS: [&str; 13] = [
-    "hash", "tag", "format", "check", "append", "advance", "truncate", "lookup", "end", "verify", "verify end",
+pub const CALLS: [&str; 14] = [
+    "hash", "tag", "format", "check", "free", "append", "advance", "truncate", "lookup", "end", "verify", "verify end",
     "certify", "compare",
 ];
 const HASH: usize = 0;
 const TAG: usize = 1;
 const FORMAT: usize = 2;
 const CHECK: usize = 3;
-const APPEND: usize = 4;
-const ADVANCE: usize = 5;
-const TRUNCATE: usize = 6;
-const LOOKUP: usize = 7;
-const END: usize = 8;
-const VERIFY: usize = 9;
-const VERIFY_END: usize = 10;
-const CERTIFY: usize = 11;
-const COMPARE: usize = 12;
+const FREE: usize = 4;
+const APPEND: usize = 5;
+const ADVANCE: usize = 6;
+const TRUNCATE: usize = 7;
+const LOOKUP: usize = 8;
+const END: usize = 9;
+const VERIFY: usize = 10;
+const VERIFY_END: usize = 11;
+const CERTIFY: usize = 12;
+const COMPARE: usize = 13;
 
 /// What is spoiled of plain C's first accepted answer to a call, to see that the check finds it.
 #[derive(Clone, Copy, PartialEq, Debug)]
@@ -205,6 +206,21 @@ impl Check {
     fn check(&mut self, table: &[u8]) -> Checked<Answer> {
         let run = |side: &Side, b: &mut [Lent], _: &mut [u64; 5]| side.check(b[0].get());
         self.case(CHECK, &[table], run, String::new)
+    }
+
+    fn free(&mut self, table: &[u8]) -> Checked<Answer> {
+        let run = |side: &Side, b: &mut [Lent], r: &mut [u64; 5]| side.free(b[0].get(), &mut r[0]);
+        self.case(FREE, &[table], run, String::new)
+    }
+
+    /// The status screen shows this number, or with none refuses.
+    fn shows(&mut self, table: &[u8], number: Option<u64>) -> Checked<()> {
+        let answer = self.free(table)?;
+        match number {
+            Some(n) if answer.number == 0 && answer.results[0] == n => Ok(()),
+            None if answer.number == 1 => Ok(()),
+            _ => Err(format!("free: {}, {}, not {number:?}", answer.number, answer.results[0])),
+        }
     }
 
     fn append(&mut self, table: &[u8], log: u64, value: &[u8]) -> Checked<Answer> {
@@ -429,6 +445,7 @@ impl Check {
             let answer = self.format(&table, g, s, keeper, &key)?;
             if answer.number == 0 {
                 self.check(&answer.lent[0])?;
+                self.shows(&answer.lent[0], Some(s))?;
             }
         }
         Ok(())
@@ -484,7 +501,7 @@ impl Check {
         let at = slot(self);
         let other = slot(self);
         let row = row_at(self.random.below(g));
-        match self.random.below(22) {
+        match self.random.below(25) {
             0..=2 => {
                 let at = self.random.below(t.len() as u64) as usize;
                 t[at] ^= 1 << self.random.below(8);
@@ -546,6 +563,24 @@ impl Check {
                 t[other..other + SLOT].copy_from_slice(&kept);
             }
             20 => {
+                // Another number of free slots.
+                let n = named_free(t);
+                let n = self.random.pick(&[0, n.wrapping_sub(1), n + 1, s, s - n.min(s), 65535, n ^ 1 << 8]);
+                put(t, 18, 2, n & 0xffff);
+            }
+            21 => {
+                // The free chain cut, or led past a slot, and the number true of what is left.
+                let chain = free_chain(t);
+                if !chain.is_empty() {
+                    let kept = self.random.below(chain.len() as u64) as usize;
+                    let on = if self.random.once_in(2) { 0 } else { chain.get(kept + 1).copied().unwrap_or(0) };
+                    let at = if kept == 0 { 16 } else { slot_at(t, chain[kept - 1]) + 2 };
+                    put(t, at, 2, on);
+                    put(t, 18, 2, if on == 0 { kept } else { chain.len() - 1 } as u64);
+                }
+            }
+            22 => t[..4].copy_from_slice(OLD_MARK),
+            23 => {
                 // A fresh row where the log holds entries, or the other way round.
                 put(t, row, 8, 1);
                 put(t, row + 8, 8, self.random.pick(&[0, 1]));
@@ -568,6 +603,7 @@ impl Check {
         let n = self.position(near, log);
         let (digest, value, receipt) = (self.value(), self.value(), self.length(160));
         self.check(t)?;
+        self.free(t)?;
         self.append(t, log, &value)?;
         self.advance(t, log, n, &digest, &value)?;
         self.truncate(t, log, n)?;
@@ -576,8 +612,61 @@ impl Check {
         Ok(())
     }
 
+    /// Every table call refuses with 1.
+    fn torn(&mut self, t: &[u8]) -> Checked<()> {
+        let zeros = [0; 32];
+        let numbers = [
+            self.check(t)?.number,
+            self.append(t, 0, &zeros)?.number,
+            self.advance(t, 0, u64::MAX, &zeros, &zeros)?.number,
+            self.truncate(t, 0, 1)?.number,
+            self.lookup(t, 0, 1, &zeros, 160)?.number,
+            self.end(t, 0, &zeros, 160)?.number,
+        ];
+        if numbers == [1; 6] { Ok(()) } else { Err(format!("check: a torn table is taken, {numbers:?}")) }
+    }
+
+    /// Request [1]: the calls want the stored number true, and the screen shows it as it stands.
+    fn screens(&mut self) -> Checked<()> {
+        for (g, s, held) in [(1, 1, 0), (1, 1, 1), (2, 3, 0), (2, 3, 2), (16, 800, 0), (16, 800, 333), (16, 800, 800)] {
+            let t = filled(g, s, held, &mut self.random);
+            let n = s - held;
+            if self.check(&t)?.number != 0 {
+                return Err("check: a filled table is torn".to_string());
+            }
+            self.shows(&t, Some(n))?;
+            for other in [0, 1, 2, 3, 4, n.saturating_sub(1), n + 1, held, s, s + 1, n ^ 256, n ^ 1 << 15, 65535] {
+                if other != n {
+                    let mut changed = t.clone();
+                    put(&mut changed, 18, 2, other);
+                    self.torn(&changed)?;
+                    self.shows(&changed, Some(other))?;
+                }
+            }
+            for length in 0..HEADER {
+                self.shows(&t[..length], None)?;
+            }
+            let mut longer = t.clone();
+            longer.push(0);
+            for other in [&t[..HEADER], &t[..t.len() - 1], &longer] {
+                self.torn(other)?;
+                self.shows(other, Some(n))?;
+            }
+            // Document 01's own mark, with the number and with the zero bytes that it had in its place.
+            let mut old = t.clone();
+            old[..4].copy_from_slice(OLD_MARK);
+            for number in [n, 0] {
+                put(&mut old, 18, 2, number);
+                self.torn(&old)?;
+                self.shows(&old, None)?;
+            }
+        }
+        Ok(())
+    }
+
     fn tables(&mut self, times: u64) -> Checked<()> {
         self.example()?;
+        self.screens()?;
         for i in 0..60 * times {
             let g = self.random.pick(&[1, 1, 2, 2, 3, 5, 16]);
             let s = match i % 40 {
@@ -591,6 +680,7 @@ impl Check {
             for _ in 0..40 + 2 * s.min(100) {
                 let (after, receipt) = self.step(&t)?;
                 t = after;
+                self.shows(&t, Some(free_chain(&t).len() as u64))?;
                 if let Some((receipt, nonce)) = receipt {
                     self.receipt(&receipt, &nonce, keeper, &key)?;
                 }
@@ -634,12 +724,16 @@ impl Check {
             if good { Ok(answer) } else { Err("document 01's example is answered otherwise".to_string()) }
         };
         t = expect(self.format(&t, 2, 3, 7, &zeros)?, 0, &[], &[])?.lent.swap_remove(0);
+        self.shows(&t, Some(3))?;
         t = expect(self.append(&t, 0, &number(41))?, 0, &[1, 1], &[])?.lent.swap_remove(0);
+        self.shows(&t, Some(2))?;
         t = expect(self.append(&t, 0, &number(42))?, 0, &[1, 2], &[])?.lent.swap_remove(0);
         t = expect(self.advance(&t, 0, 5, &zeros, &number(43))?, 0, &[1, 5], &[])?.lent.swap_remove(0);
+        self.shows(&t, Some(0))?;
         expect(self.append(&t, 1, &number(9))?, 5, &[], &[])?;
         expect(self.lookup(&t, 0, 3, &zeros, 160)?, 0, &[3], &[2, 3, 5, 0])?;
         t = expect(self.truncate(&t, 0, 5)?, 0, &[5, 5], &[])?.lent.swap_remove(0);
+        self.shows(&t, Some(2))?;
         t = expect(self.append(&t, 1, &number(9))?, 0, &[1, 1], &[])?.lent.swap_remove(0);
         expect(self.lookup(&t, 0, 2, &zeros, 160)?, 0, &[0], &[3, 2, 5, 0])?;
         expect(self.lookup(&t, 0, 6, &zeros, 160)?, 0, &[0], &[0, 6, 5, 0])?;
@@ -873,6 +967,7 @@ impl Check {
                     let mut edited = t.clone();
                     edited[at] = x;
                     self.check(&edited)?;
+                    self.free(&edited)?;
                 }
             }
         }
@@ -898,7 +993,8 @@ impl Check {
         Ok(())
     }
 
-    /// Every way to link three slots of one log or none, with positions at random.
+    /// Every way to link three slots of one log or none, with positions at random and the number of free slots that the
+    /// owners leave; where the table is whole, every other number too.
     fn every_link(&mut self) -> Checked<()> {
         let nothing = vec![0; table_bytes(1, 3)];
         let key = self.random.bytes(32);
@@ -908,6 +1004,8 @@ impl Check {
             for held in 0..8u64 {
                 let mut t = fresh.clone();
                 put(&mut t, 16, 2, link(0));
+                let free = 3 - held.count_ones() as u64;
+                put(&mut t, 18, 2, free);
                 let row = row_at(0);
                 put(&mut t, row, 8, 1 + self.random.once_in(4) as u64);
                 put(&mut t, row + 16, 2, link(1));
@@ -929,6 +1027,10 @@ impl Check {
                 if self.check(&t)?.number == 0 {
                     for _ in 0..10 {
                         self.all_calls(&t, 1, &t)?;
+                    }
+                    for other in (0..5).filter(|n| *n != free) {
+                        put(&mut t, 18, 2, other);
+                        self.torn(&t)?;
                     }
                 }
             }

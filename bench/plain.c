@@ -1,5 +1,5 @@
-/* The keeper in plain C: the bench's yardstick, and an independent reading of document 01. Portable C, no intrinsics.
- * Where document 01 leaves the free slot open it does as the keeper does: the free chain is a queue. */
+/* The keeper in plain C: the bench's yardstick, and an independent reading of document 01 and request [1]. Portable C, no
+ * intrinsics. Where document 01 leaves the free slot open it does as the keeper does: the free chain is a queue. */
 #include "plain.h"
 
 #include <string.h>
@@ -200,8 +200,10 @@ uint8_t plain_tag(const uint8_t *key, size_t key_bytes, const uint8_t *text, siz
 
 enum { HEADER = 52, ROW = 20, SLOT = 76, MAX_LOGS = 16, MAX_SLOTS = 800 };
 
+static const uint8_t mark[4] = {'A', '2', 'M', 'U'};
+
 /* Offsets in the header, a row and a slot. */
-enum { H_LOGS = 4, H_SLOTS = 6, H_KEEPER = 8, H_FREE = 16, H_KEY = 20 };
+enum { H_LOGS = 4, H_ZERO = 5, H_SLOTS = 6, H_KEEPER = 8, H_FREE = 16, H_COUNT = 18, H_KEY = 20 };
 enum { R_LOW = 0, R_HIGH = 8, R_FIRST = 16, R_LAST = 18 };
 enum { S_OWNER = 0, S_ZERO = 1, S_NEXT = 2, S_POSITION = 4, S_VALUE = 12, S_DIGEST = 44 };
 
@@ -236,7 +238,7 @@ typedef struct {
 /* Whether the table is whole. Each chain is walked once; a chain that goes on for more than S slots has a loop. */
 static int whole(const uint8_t *t, size_t bytes, whole_table *found)
 {
-    if (bytes < HEADER || memcmp(t, "A2MT", 4) != 0 || t[5] != 0 || t[18] != 0 || t[19] != 0)
+    if (bytes < HEADER || memcmp(t, mark, 4) != 0 || t[H_ZERO] != 0)
         return 0;
     uint32_t logs = t[H_LOGS], slots = get16(t + H_SLOTS);
     if (logs < 1 || logs > MAX_LOGS || slots < 1 || slots > MAX_SLOTS || bytes != KEEPER_TABLE_BYTES(logs, slots))
@@ -253,6 +255,8 @@ static int whole(const uint8_t *t, size_t bytes, whole_table *found)
         last = i;
         i = get16(s + S_NEXT);
     }
+    if (count != get16(t + H_COUNT))
+        return 0;
     found->logs = logs;
     found->free_last = last;
 
@@ -294,6 +298,19 @@ uint8_t plain_check(const uint8_t *table, size_t table_bytes)
     return whole(table, table_bytes, &found) ? KEEPER_DONE : KEEPER_TORN;
 }
 
+uint8_t plain_free(const uint8_t *table, size_t table_bytes, uint64_t *free)
+{
+    if (table_bytes < HEADER || memcmp(table, mark, 4) != 0)
+        return KEEPER_TORN;
+    *free = get16(table + H_COUNT);
+    return KEEPER_DONE;
+}
+
+uint64_t plain_two_bytes(const uint8_t *table)
+{
+    return get16(table + H_COUNT);
+}
+
 uint8_t plain_format(uint8_t *table, size_t table_bytes, uint64_t logs, uint64_t slots, uint64_t keeper,
                      const uint8_t *key, size_t key_bytes)
 {
@@ -302,11 +319,12 @@ uint8_t plain_format(uint8_t *table, size_t table_bytes, uint64_t logs, uint64_t
     if (table_bytes != KEEPER_TABLE_BYTES(logs, slots) || key_bytes != 32)
         return KEEPER_LENGTH;
     memset(table, 0, table_bytes);
-    memcpy(table, "A2MT", 4);
+    memcpy(table, mark, 4);
     table[H_LOGS] = (uint8_t)logs;
     put16(table + H_SLOTS, (uint32_t)slots);
     put64(table + H_KEEPER, keeper);
     put16(table + H_FREE, 1);
+    put16(table + H_COUNT, (uint32_t)slots);
     memcpy(table + H_KEY, key, 32);
     for (uint32_t g = 0; g < logs; g++)
         put64(table + row_at(g) + R_LOW, 1);
@@ -336,6 +354,7 @@ static void put_entry(uint8_t *t, uint32_t logs, uint64_t log, uint64_t position
     block_of(block, position, value, previous);
 
     put16(t + H_FREE, get16(s + S_NEXT));
+    put16(t + H_COUNT, get16(t + H_COUNT) - 1);
     s[S_OWNER] = (uint8_t)(log + 1);
     put16(s + S_NEXT, 0);
     memcpy(s + S_POSITION, block, 40);
@@ -403,7 +422,7 @@ uint8_t plain_truncate(uint8_t *table, size_t table_bytes, uint64_t log, uint64_
 
     /* The freed slots are the front of the log's chain. They keep their links and go behind the last free slot; the
      * entry at H stays, so the walk ends inside the chain. */
-    uint32_t first = get16(r + R_FIRST), i = first, last = 0;
+    uint32_t first = get16(r + R_FIRST), i = first, last = 0, freed = 0;
     for (;;) {
         uint8_t *s = table + slot_at(found.logs, i);
         if (get64(s + S_POSITION) >= position)
@@ -411,12 +430,14 @@ uint8_t plain_truncate(uint8_t *table, size_t table_bytes, uint64_t log, uint64_
         s[S_OWNER] = 0;
         memset(s + S_POSITION, 0, SLOT - S_POSITION);
         last = i;
+        freed++;
         i = get16(s + S_NEXT);
     }
     if (last != 0) {
         put16(table + slot_at(found.logs, last) + S_NEXT, 0);
         put16(found.free_last == 0 ? table + H_FREE : table + slot_at(found.logs, found.free_last) + S_NEXT, first);
         put16(r + R_FIRST, i);
+        put16(table + H_COUNT, get16(table + H_COUNT) + freed);
     }
     put64(r + R_LOW, position);
     *low = position;

@@ -1,5 +1,5 @@
-/* The keeper in plain C, written for the bench from document 01 alone: the same calls as in keeper.h, with the same
- * arguments, numbers and orders of refusal. The constants and the verdict's type are keeper.h's. */
+/* The keeper in plain C, written for the bench from document 01 and request [1] alone: the same calls as in keeper.h, with
+ * the same arguments, numbers and orders of refusal. The constants and the verdict's type are keeper.h's. */
 #ifndef PLAIN_H
 #define PLAIN_H
 
@@ -14,6 +14,11 @@ uint8_t plain_format(uint8_t *table, size_t table_bytes, uint64_t logs, uint64_t
                      const uint8_t *key, size_t key_bytes);
 
 uint8_t plain_check(const uint8_t *table, size_t table_bytes);
+
+uint8_t plain_free(const uint8_t *table, size_t table_bytes, uint64_t *free);
+
+/* For the bench's row of plain_free: the two bytes alone, nothing tested. */
+uint64_t plain_two_bytes(const uint8_t *table);
 
 uint8_t plain_append(uint8_t *table, size_t table_bytes, uint64_t log, const uint8_t *value, size_t value_bytes,
                      uint64_t *low, uint64_t *high);

@@ -26,6 +26,7 @@ pub struct Side {
     tag: unsafe extern "C" fn(In, usize, In, usize, Out, usize) -> u8,
     format: unsafe extern "C" fn(Out, usize, u64, u64, u64, In, usize) -> u8,
     check: unsafe extern "C" fn(In, usize) -> u8,
+    free: unsafe extern "C" fn(In, usize, Num) -> u8,
     append: unsafe extern "C" fn(Out, usize, u64, In, usize, Num, Num) -> u8,
     advance: unsafe extern "C" fn(Out, usize, u64, u64, In, usize, In, usize, Num, Num) -> u8,
     truncate: unsafe extern "C" fn(Out, usize, u64, u64, Num, Num) -> u8,
@@ -38,14 +39,15 @@ pub struct Side {
 }
 
 macro_rules! side {
-    ($side:ident, $label:expr, $hash:ident, $tag:ident, $format:ident, $check:ident, $append:ident, $advance:ident,
-     $truncate:ident, $lookup:ident, $end:ident, $verify_lookup:ident, $verify_end:ident, $certify:ident,
-     $compare:ident) => {
+    ($side:ident, $label:expr, $hash:ident, $tag:ident, $format:ident, $check:ident, $free:ident, $append:ident,
+     $advance:ident, $truncate:ident, $lookup:ident, $end:ident, $verify_lookup:ident, $verify_end:ident,
+     $certify:ident, $compare:ident) => {
         extern "C" {
             fn $hash(message: In, message_bytes: usize, digest: Out, digest_bytes: usize) -> u8;
             fn $tag(key: In, key_bytes: usize, text: In, text_bytes: usize, tag: Out, tag_bytes: usize) -> u8;
             fn $format(t: Out, t_bytes: usize, logs: u64, slots: u64, keeper: u64, key: In, key_bytes: usize) -> u8;
             fn $check(t: In, t_bytes: usize) -> u8;
+            fn $free(t: In, t_bytes: usize, free: Num) -> u8;
             fn $append(t: Out, t_bytes: usize, log: u64, value: In, value_bytes: usize, low: Num, high: Num) -> u8;
             fn $advance(
                 t: Out, t_bytes: usize, log: u64, position: u64, digest: In, digest_bytes: usize, value: In,
@@ -83,6 +85,7 @@ macro_rules! side {
             tag: $tag,
             format: $format,
             check: $check,
+            free: $free,
             append: $append,
             advance: $advance,
             truncate: $truncate,
@@ -97,12 +100,12 @@ macro_rules! side {
 }
 
 side!(
-    KEEPER, "keeper", keeper_hash, keeper_tag, keeper_format, keeper_check, keeper_append, keeper_advance,
+    KEEPER, "keeper", keeper_hash, keeper_tag, keeper_format, keeper_check, keeper_free, keeper_append, keeper_advance,
     keeper_truncate, keeper_lookup, keeper_end, keeper_verify_lookup, keeper_verify_end, keeper_certify, keeper_compare
 );
 side!(
-    PLAIN, "plain C", plain_hash, plain_tag, plain_format, plain_check, plain_append, plain_advance, plain_truncate,
-    plain_lookup, plain_end, plain_verify_lookup, plain_verify_end, plain_certify, plain_compare
+    PLAIN, "plain C", plain_hash, plain_tag, plain_format, plain_check, plain_free, plain_append, plain_advance,
+    plain_truncate, plain_lookup, plain_end, plain_verify_lookup, plain_verify_end, plain_certify, plain_compare
 );
 
 // What keeper.h asks holds of slices and references: pointers that are not null, bytes that can be read or written, and
@@ -124,6 +127,10 @@ impl Side {
 
     pub fn check(&self, table: &[u8]) -> u8 {
         unsafe { (self.check)(table.as_ptr(), table.len()) }
+    }
+
+    pub fn free(&self, table: &[u8], free: &mut u64) -> u8 {
+        unsafe { (self.free)(table.as_ptr(), table.len(), free) }
     }
 
     pub fn append(&self, table: &mut [u8], log: u64, value: &[u8], low: &mut u64, high: &mut u64) -> u8 {

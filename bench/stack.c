@@ -29,6 +29,7 @@ CALL(keeper_hash, values, sizeof values, collision, 32)
 CALL(keeper_tag, key, sizeof key, values, sizeof values, collision, 32)
 CALL(keeper_format, table, sizeof table, 2, 6, 7, key, 32)
 CALL(keeper_check, table, sizeof table)
+CALL(keeper_free, table, sizeof table, &low)
 CALL(keeper_append, table, sizeof table, 0, value, 32, &low, &high)
 CALL(keeper_advance, table, sizeof table, 0, 9, nonce, 32, value, 32, &low, &high)
 CALL(keeper_lookup, table, sizeof table, 0, 9, nonce, 32, receipt, 160, &examined)
@@ -72,6 +73,7 @@ int main(void)
     MEASURE(keeper_append);
     MEASURE(keeper_advance);
     MEASURE(keeper_check);
+    MEASURE(keeper_free);
     MEASURE(keeper_lookup);
     MEASURE(keeper_end);
     MEASURE(keeper_truncate);

@@ -11,6 +11,8 @@ extern "C" {
     fn openssl_version() -> *const c_char;
     /// plain.c's hash with the standard's own formulas.
     fn book_hash(message: *const u8, bytes: usize, digest: *mut u8, digest_bytes: usize) -> u8;
+    /// The number of free slots with nothing tested.
+    fn plain_two_bytes(table: *const u8) -> u64;
 }
 
 /// Columns of a row's label.
@@ -290,6 +292,36 @@ impl Table {
         }
     }
 
+    /// Its time is that of a few bytes, whatever the table.
+    fn screens(&mut self) {
+        let mut random = Random(9);
+        let (small, large) = (filled(1, 1, 0, &mut random), filled(16, 800, 400, &mut random));
+        let tables = [("free slots (1,1) empty", &small, 1), ("free slots (16,800) half", &large, 400)];
+        let (mut n1, mut n2) = (0, 0);
+        self.head("The status screen's read", "plain C");
+        for (label, t, n) in tables {
+            let times = self.timer.pair(
+                || assert_eq!((KEEPER.free(black_box(t), &mut n1), n1), (0, n)),
+                || assert_eq!((PLAIN.free(black_box(t), &mut n2), n2), (0, n)),
+            );
+            self.row(label, &times, None, "");
+        }
+        self.head("The status screen's read, against two bytes alone", "two bytes");
+        for (label, t, n) in tables {
+            let times = self.timer.pair(
+                || assert_eq!((KEEPER.free(black_box(t), &mut n1), n1), (0, n)),
+                || assert_eq!(unsafe { plain_two_bytes(black_box(t).as_ptr()) }, n),
+            );
+            self.row(label, &times, None, "");
+        }
+        self.head("The status screen's read, by size of table", "keeper (1,1)");
+        let times = self.timer.pair(
+            || assert_eq!((KEEPER.free(black_box(&large), &mut n1), n1), (0, 400)),
+            || assert_eq!((KEEPER.free(black_box(&small), &mut n2), n2), (0, 1)),
+        );
+        self.row("free slots (16,800) half / (1,1) empty", &times, Some(1.0), "");
+    }
+
     fn verifiers(&mut self) {
         self.head("The verifier", "plain C");
         let mut random = Random(6);
@@ -414,6 +446,7 @@ pub fn run(quick: bool) -> bool {
     table.hashes();
     let good = table.openssl();
     table.tables();
+    table.screens();
     table.verifiers();
     table.certificates();
     table.runs();

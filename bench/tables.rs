@@ -13,6 +13,9 @@ pub fn put(bytes: &mut [u8], at: usize, width: usize, n: u64) {
     bytes[at..at + width].copy_from_slice(&n.to_be_bytes()[8 - width..]);
 }
 
+/// The mark of document 01's own tables, which every call now refuses.
+pub const OLD_MARK: &[u8; 4] = b"A2MT";
+
 pub fn table_bytes(logs: u64, slots: u64) -> usize {
     HEADER + ROW * logs as usize + SLOT * slots as usize
 }
@@ -49,6 +52,22 @@ pub fn positions(t: &[u8], log: u64) -> Vec<u64> {
         slot = get(t, at + 2, 2);
     }
     found
+}
+
+/// The slots of the free chain; of a torn table as far as it goes, at most as many as there are.
+pub fn free_chain(t: &[u8]) -> Vec<u64> {
+    let mut found = Vec::new();
+    let mut slot = get(t, 16, 2);
+    while slot != 0 && slot <= slots(t) && (found.len() as u64) < slots(t) {
+        found.push(slot);
+        slot = get(t, slot_at(t, slot) + 2, 2);
+    }
+    found
+}
+
+/// The number of free slots that the header names.
+pub fn named_free(t: &[u8]) -> u64 {
+    get(t, 18, 2)
 }
 
 /// The same chains over slots in another order: a whole table stays whole.

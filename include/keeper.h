@@ -32,7 +32,7 @@ extern "C" {
 #endif
 
 /* One more with each change of a prototype, a constant, a rule, or the bytes of a table or receipt. */
-#define KEEPER_VERSION 1
+#define KEEPER_VERSION 2
 
 /* Numbers returned. */
 enum {
@@ -120,6 +120,11 @@ uint8_t keeper_format(uint8_t *table, size_t table_bytes, uint64_t logs, uint64_
 
 /* Whether the table is whole: 0, or refused with 1. */
 uint8_t keeper_check(const uint8_t *table, size_t table_bytes);
+
+/* The number of free slots, for a status screen: free becomes the number that the header names, also that of a torn table;
+ * of a whole one it is the number of free slots. Looks at the length and six bytes, and walks nothing. Refused: 1 for bytes
+ * shorter than a header, 52, or without the mark A2MU. */
+uint8_t keeper_free(const uint8_t *table, size_t table_bytes, uint64_t *free);
 
 /* Puts a value of 32 bytes at the log's next position; low and high become the log's lowest and highest position after it.
  * Refused, in this order: 7 the value's length; 1; 2; 4; 5. */

@@ -1,4 +1,5 @@
-/* A crest is put, looked up and verified; then what the receipt says is read out of its bytes. */
+/* A crest is put, looked up and verified; then what the receipt says is read out of its bytes. The status screen reads the
+ * number of free slots before and after. */
 #include "keeper.h"
 #include <inttypes.h>
 #include <stdio.h>
@@ -21,17 +22,20 @@ int main(void)
     const uint8_t key[KEEPER_KEY_BYTES] = {1}, nonce[KEEPER_NONCE_BYTES] = {2};
     const uint8_t crest[KEEPER_VALUE_BYTES] = {[30] = 455 / 256, [31] = 455 % 256};
     uint8_t receipt[KEEPER_RECEIPT_BYTES], tag[KEEPER_DIGEST_BYTES];
-    uint64_t low, high, examined;
+    uint64_t low, high, examined, free_before, free_after;
     keeper_verdict verdict;
 
     int formatted = keeper_format(table, sizeof table, 2, 6, 7, key, sizeof key);
+    int screen = keeper_free(table, sizeof table, &free_before);
     int appended = keeper_append(table, sizeof table, 0, crest, sizeof crest, &low, &high);
+    screen |= keeper_free(table, sizeof table, &free_after);
     int looked_up = keeper_lookup(table, sizeof table, 0, high, nonce, sizeof nonce, receipt, sizeof receipt, &examined);
     int verified = keeper_verify_lookup(key, sizeof key, receipt, sizeof receipt, nonce, sizeof nonce, 7, 0, high, &verdict);
 
     printf("format %d, append %d, lookup %d, verify %d\n", formatted, appended, looked_up, verified);
-    if (verified != KEEPER_DONE)
+    if (verified != KEEPER_DONE || screen != KEEPER_DONE)
         return 1;
+    printf("status screen: %" PRIu64 " slots free, after the append %" PRIu64 "\n", free_before, free_after);
     printf("verdict: kind %" PRIu64 ", log %" PRIu64 ", keeper %" PRIu64 ", position %" PRIu64 ", reference %" PRIu64 "\n",
            verdict.kind, verdict.log, verdict.keeper, verdict.position, verdict.reference);
     printf("receipt: kind %d, log %d, keeper %" PRIu64 ", position %" PRIu64 ", reference %" PRIu64 ", %.6s\n",

@@ -13,7 +13,8 @@ use Rattle.refusal.specs.Number.{numberOf}
 use Rattle.refusal.specs.declared.Refusal.{Refusal}
 use Rattle.layout.specs.declared.Row.{Row}
 use Rattle.layout.specs.Image.{Entry, Image, freshRow, slotAt}
-use Rattle.layout.specs.Layout.{readTable, writeTable}
+use Rattle.layout.specs.Layout.{readTable}
+use Rattle.table.specs.Free.{writeTable}
 use Rattle.layout.specs.Changes.{advancedRow, appendedRow, truncatedRow}
 use Rattle.layout.proofs.TableLaws.{length-rows}
 use Rattle.a2m.specs.declared.View.{View}

@@ -7,7 +7,8 @@ use mathlib.Core.Option.{Option, none, some}
 use lib.ListN.{length}
 use lib.Dec.{leb}
 use Rattle.refusal.specs.Order.{fault, firstFault}
-use Rattle.layout.specs.Layout.{readTable, writeTable}
+use Rattle.layout.specs.Layout.{readTable}
+use Rattle.table.specs.Free.{writeTable}
 use Rattle.table.specs.Whole.{whole}
 use Rattle.a2m.specs.Call.{Call, logOf, Reply, refused}
 use Rattle.a2m.specs.ImageCalls.{rowIn, wrongLength, misplaced, spent, nothingHeld, full, faults, imageAccept}

@@ -1,5 +1,5 @@
 -- What an entering entry writes, write by write: in the end the bytes are those of `put`.
-use Prim.Native.Nat.{ℕ, suc, _+_, _^_, _≤_, _<_}
+use Prim.Native.Nat.{ℕ, suc, _+_, _-_, _^_, _≤_, _<_}
 use mathlib.Core.Path.{_≡_, refl, sym, ap, ap₂, subst, _∙_}
 use mathlib.Core.Logic.{_≢_}
 use mathlib.Core.List.{List, [], _∷_}
@@ -13,22 +13,23 @@ use Rattle.octets.specs.Octets.{Bytes}
 use Rattle.layout.specs.declared.Row.{Row}
 use Rattle.layout.specs.declared.Link.{Link}
 use Rattle.layout.specs.Image.{Slot, Image, slotAt, setSlot}
-use Rattle.layout.specs.Layout.{headerSize, readTable, writeTable, putSlot, putNext, putRow, putFree}
+use Rattle.layout.specs.Layout.{Stock, stocked, headerSize, readTable, stockOf, writeWith, putSlot, putNext, putRow, putFree, putCount}
 use Rattle.layout.specs.Changes.{withRow, withSlot, withFree, withNext, slotOf, linkOf, advancedRow}
 use Rattle.layout.specs.Fits.{RowFits, SlotFits}
-use Rattle.layout.proofs.HoldsLaws.{Holds, holds-counted, holds-row, holds-slot, holds-next, holds-free}
+use Rattle.layout.proofs.TableLaws.{length-rows}
+use Rattle.layout.proofs.HoldsLaws.{Holds, holds-counted, holds-row, holds-slot, holds-next, holds-free, holds-count}
 use Rattle.table.specs.Chains.{chain}
-use Rattle.table.specs.Free.{freeChain}
+use Rattle.table.specs.Free.{freeChain, writeTable}
 use Rattle.a2m.specs.declared.View.{View}
 use Rattle.a2m.specs.Call.{done}
 use Rattle.a2m.specs.ImageCalls.{rowIn, entriesIn, joined, put}
 use Rattle.a2m.specs.Opened.{Opened, hooked, entryAt}
-use Rattle.a2m.proofs.Links.{slotAt-other}
+use Rattle.a2m.proofs.Links.{slotAt-other, chain-links}
 use Rattle.table.specs.Conditions.{Links}
 use Rattle.a2m.proofs.Moves.{hook-apart}
-use Rattle.a2m.proofs.Chained.{Chained, put-move}
+use Rattle.a2m.proofs.Chained.{Chained, put-move, put-chained}
 use Rattle.a2m.proofs.FitsAfter.{slot-fits, first-fits}
-use Rattle.a2m.proofs.OpenedLaws.{view-row, view-free, opened-holds, opened-chained, opened-log, free-most, last-most, chain-cons}
+use Rattle.a2m.proofs.OpenedLaws.{view-row, view-free, view-count, opened-holds, opened-chained, opened-log, free-most, last-most, chain-cons}
 
 -- slot t is the next of slot last, if there is one
 abbrev pub hookedSlots : List Slot → ℕ → ℕ → List Slot
@@ -37,21 +38,21 @@ hookedSlots slots last t = cond (eqb last 0) slots (setSlot slots last (withNext
 abbrev withSlots : Image → List Slot → Image
 withSlots m slots = record { keeper = m .keeper; key = m .key; free = m .free; rows = m .rows; slots = slots }
 
-holds-hooked : (b a : List ℕ) (m : Image) (logs slots last t : ℕ) → Holds b m logs slots → a ≡ hooked b last t → last ≤ slots → t ≤ slots → Holds a (withSlots m (hookedSlots (m .slots) last t)) logs slots
+holds-hooked : (b a : List ℕ) (k : Stock) (m : Image) (logs slots last t : ℕ) → Holds b k m logs slots → a ≡ hooked b last t → last ≤ slots → t ≤ slots → Holds a k (withSlots m (hookedSlots (m .slots) last t)) logs slots
 unfolding hooked
-holds-hooked b a m logs slots last t h e l k = go (eqb last 0) refl
+holds-hooked b a st m logs slots last t h e l k = go (eqb last 0) refl
   where
     most : slots ≤ 800
     most = h .slots-most
 
-    go : (z : Bool) → eqb last 0 ≡ z → Holds a (withSlots m (hookedSlots (m .slots) last t)) logs slots
+    go : (z : Bool) → eqb last 0 ≡ z → Holds a st (withSlots m (hookedSlots (m .slots) last t)) logs slots
     go true z =
         let q : a ≡ b = rw (hooked, z) at e in
-        rw z (subst (λ (x : List ℕ). Holds x m logs slots) (sym q) h)
+        rw z (subst (λ (x : List ℕ). Holds x st m logs slots) (sym q) h)
     go false z =
         let q : a ≡ putNext b last t = rw (hooked, z) at e in
         let n : last ≢ 0 = eqb-false last 0 z in
-        rw z (holds-next b m logs slots h a last t q (omega arith) l (omega arith))
+        rw z (holds-next b st m logs slots h a last t q (omega arith) l (omega arith))
 
 hooked-joined : (slots : List Slot) (t last : ℕ) (x : Slot) → last ≢ t → hookedSlots (setSlot slots t x) last t ≡ joined slots t last x
 unfolding joined
@@ -81,26 +82,33 @@ module _ (b : List ℕ) (v : View) (after : Row) (x d : List ℕ) (o : Opened b 
   next-good l e = let h = opened-holds b v o bytes in let q = slot-fits (readTable b .slots) (h .fits .slots) (v .free) .next in omega (arith, ap (λ (y : Link). y .next) e)
 
   -- after each write
-  pub held-1 : (b₁ : List ℕ) → b₁ ≡ putSlot b (v .free) slot → Holds b₁ (withSlot (readTable b) (v .free) slot) (v .logs) (v .slots)
-  held-1 b₁ e = holds-slot b (readTable b) (v .logs) (v .slots) (opened-holds b v o bytes) b₁ (v .free) slot e some (free-most b v o) slot-good
+  pub held-1 : (b₁ : List ℕ) → b₁ ≡ putSlot b (v .free) slot → Holds b₁ (stockOf b) (withSlot (readTable b) (v .free) slot) (v .logs) (v .slots)
+  held-1 b₁ e = holds-slot b (stockOf b) (readTable b) (v .logs) (v .slots) (opened-holds b v o bytes) b₁ (v .free) slot e some (free-most b v o) slot-good
+
+  -- the free chain begins with the slot that is taken
+  rest : (q : List ℕ) × (freeChain (readTable b) ≡ readTable b .free ∷ q)
+  rest = let m = readTable b in chain-cons (m .slots) 0 (m .free) (freeChain m) (omega (arith, view-free b v o)) (opened-chained b v o .free)
+
+  before : Chained (readTable b) (v .log) (chain (readTable b .slots) (suc (v .log)) (rowIn (readTable b) (v .log) .first)) (entriesIn (readTable b) (v .log)) (readTable b .free ∷ rest .0)
+  before =
+      let m = readTable b in
+      let h = opened-chained b v o in
+      record { log = h .log; last = h .last; free = subst (λ (c : List ℕ). Links (m .slots) 0 (m .free) c 0) (rest .1) (h .free) }
 
   apart : v .row .last ≢ v .free
-  apart e =
-      let m = readTable b in
-      let g = v .log in
-      let h = opened-chained b v o in
-      let q = chain-cons (m .slots) 0 (m .free) (freeChain m) (omega (arith, view-free b v o)) (h .free) in
-      let k : Chained m g (chain (m .slots) (suc g) (rowIn m g .first)) (entriesIn m g) (m .free ∷ q .0) = record { log = h .log; last = h .last; free = subst (λ (c : List ℕ). Links (m .slots) 0 (m .free) c 0) (q .1) (h .free) } in
-      hook-apart _ _ _ _ _ _ _ _ _ (put-move m g _ _ (q .0) k (entryAt 0 [] [])) (sym (ap (λ (r : Row). r .last) (view-row b v o)) ∙ e ∙ view-free b v o)
+  apart e = hook-apart _ _ _ _ _ _ _ _ _ (put-move (readTable b) (v .log) _ _ (rest .0) before (entryAt 0 [] [])) (sym (ap (λ (r : Row). r .last) (view-row b v o)) ∙ e ∙ view-free b v o)
 
-  pub held-2 : (b₁ b₂ : List ℕ) → b₁ ≡ putSlot b (v .free) slot → b₂ ≡ hooked b₁ (v .row .last) (v .free) → Holds b₂ (withSlots (readTable b) (joined (readTable b .slots) (v .free) (v .row .last) slot)) (v .logs) (v .slots)
+  pub some-free : 1 ≤ v .count
+  some-free = omega (arith, view-count b v o, ap length (rest .1))
+
+  pub held-2 : (b₁ b₂ : List ℕ) → b₁ ≡ putSlot b (v .free) slot → b₂ ≡ hooked b₁ (v .row .last) (v .free) → Holds b₂ (stockOf b) (withSlots (readTable b) (joined (readTable b .slots) (v .free) (v .row .last) slot)) (v .logs) (v .slots)
   held-2 b₁ b₂ e₁ e₂ =
-      subst (λ (l : List Slot). Holds b₂ (withSlots (readTable b) l) (v .logs) (v .slots)) (hooked-joined (readTable b .slots) (v .free) (v .row .last) slot apart)
-      (holds-hooked b₁ b₂ (withSlot (readTable b) (v .free) slot) (v .logs) (v .slots) (v .row .last) (v .free) (held-1 b₁ e₁) e₂ (last-most b v o) (free-most b v o))
+      subst (λ (l : List Slot). Holds b₂ (stockOf b) (withSlots (readTable b) l) (v .logs) (v .slots)) (hooked-joined (readTable b .slots) (v .free) (v .row .last) slot apart)
+      (holds-hooked b₁ b₂ (stockOf b) (withSlot (readTable b) (v .free) slot) (v .logs) (v .slots) (v .row .last) (v .free) (held-1 b₁ e₁) e₂ (last-most b v o) (free-most b v o))
 
   pub held-3 : (b₁ b₂ b₃ : List ℕ) → b₁ ≡ putSlot b (v .free) slot → b₂ ≡ hooked b₁ (v .row .last) (v .free) → b₃ ≡ putRow b₂ (v .log) after
-      → Holds b₃ (withRow (withSlots (readTable b) (joined (readTable b .slots) (v .free) (v .row .last) slot)) (v .log) after) (v .logs) (v .slots)
-  held-3 b₁ b₂ b₃ e₁ e₂ e₃ = holds-row b₂ _ (v .logs) (v .slots) (held-2 b₁ b₂ e₁ e₂) b₃ (v .log) after e₃ (opened-log b v o) row-good
+      → Holds b₃ (stockOf b) (withRow (withSlots (readTable b) (joined (readTable b .slots) (v .free) (v .row .last) slot)) (v .log) after) (v .logs) (v .slots)
+  held-3 b₁ b₂ b₃ e₁ e₂ e₃ = holds-row b₂ (stockOf b) _ (v .logs) (v .slots) (held-2 b₁ b₂ e₁ e₂) b₃ (v .log) after e₃ (opened-log b v o) row-good
 
   -- the image after all of them
   is-put : (n : ℕ) → n ≡ slotAt (readTable b .slots) (v .free) .next
@@ -118,11 +126,26 @@ module _ (b : List ℕ) (v : View) (after : Row) (x d : List ℕ) (o : Opened b 
         slots = (ap₂ (λ (s l : ℕ). joined (m .slots) s l slot) rf (ap (λ (r : Row). r .last) rr) ∙ ap (λ (k : ℕ). joined (m .slots) (m .free) (rowIn m (v .log) .last) (slotOf k 0 (after .high) x d)) (add-one (v .log))) i;
       }
 
-  pub entered : (b₁ b₂ b₃ b₄ : List ℕ) (l : Link) → l ≡ linkOf (slotAt (readTable b .slots) (v .free)) → b₁ ≡ putSlot b (v .free) slot → b₂ ≡ hooked b₁ (v .row .last) (v .free) → b₃ ≡ putRow b₂ (v .log) after → b₄ ≡ putFree b₃ (l .next)
-      → b₄ ≡ writeTable (put (readTable b) (v .log) (entryAt (after .high) x d))
-  entered b₁ b₂ b₃ b₄ l el e₁ e₂ e₃ e₄ =
-      let h = holds-free b₃ _ (v .logs) (v .slots) (held-3 b₁ b₂ b₃ e₁ e₂ e₃) b₄ (l .next) e₄ (next-good l el) in
-      h .is ∙ ap writeTable (is-put (l .next) (ap (λ (y : Link). y .next) el))
+  pub held-4 : (b₁ b₂ b₃ b₄ : List ℕ) (l : Link) → l ≡ linkOf (slotAt (readTable b .slots) (v .free)) → b₁ ≡ putSlot b (v .free) slot → b₂ ≡ hooked b₁ (v .row .last) (v .free) → b₃ ≡ putRow b₂ (v .log) after → b₄ ≡ putFree b₃ (l .next)
+      → Holds b₄ (stockOf b) (put (readTable b) (v .log) (entryAt (after .high) x d)) (v .logs) (v .slots)
+  held-4 b₁ b₂ b₃ b₄ l el e₁ e₂ e₃ e₄ =
+      subst (λ (m : Image). Holds b₄ (stockOf b) m (v .logs) (v .slots)) (is-put (l .next) (ap (λ (y : Link). y .next) el))
+      (holds-free b₃ (stockOf b) _ (v .logs) (v .slots) (held-3 b₁ b₂ b₃ e₁ e₂ e₃) b₄ (l .next) e₄ (next-good l el))
+
+  -- one free slot less
+  fewer : v .count - 1 ≡ length (freeChain (put (readTable b) (v .log) (entryAt (after .high) x d)))
+  fewer =
+      let m = readTable b in
+      let e = entryAt (after .high) x d in
+      let c = put-chained m (v .log) _ _ (rest .0) before (omega (arith, o .log, length-rows b)) e in
+      omega (arith, view-count b v o, ap length (rest .1), ap length (chain-links (put m (v .log) e .slots) 0 (put m (v .log) e .free) (rest .0) (c .free)))
+
+  pub entered : (b₁ b₂ b₃ b₄ b₅ : List ℕ) (l : Link) → l ≡ linkOf (slotAt (readTable b .slots) (v .free)) → b₁ ≡ putSlot b (v .free) slot → b₂ ≡ hooked b₁ (v .row .last) (v .free) → b₃ ≡ putRow b₂ (v .log) after → b₄ ≡ putFree b₃ (l .next)
+      → b₅ ≡ putCount b₄ (v .count - 1) → b₅ ≡ writeTable (put (readTable b) (v .log) (entryAt (after .high) x d))
+  unfolding writeTable
+  entered b₁ b₂ b₃ b₄ b₅ l el e₁ e₂ e₃ e₄ e₅ =
+      let m = put (readTable b) (v .log) (entryAt (after .high) x d) in
+      holds-count b₄ (stockOf b) m (v .logs) (v .slots) (held-4 b₁ b₂ b₃ b₄ l el e₁ e₂ e₃ e₄) b₅ (v .count - 1) e₅ .is ∙ ap (λ (n : ℕ). writeWith (stocked n) m) fewer
 
 -- ---- what the code hooks, and the answer
 
@@ -134,8 +157,8 @@ pub no-hook : (b : List ℕ) (last t : ℕ) → last ≡ 0 → b ≡ hooked b la
 unfolding hooked
 no-hook b last t e = rw (hooked, eq-eqb last 0 e)
 
-pub held-long : (b : List ℕ) (m : Image) (logs slots : ℕ) → Holds b m logs slots → headerSize ≤ length b
-held-long b m logs slots h = let c = holds-counted b m logs slots h in omega (arith, c .sized)
+pub held-long : (b : List ℕ) (k : Stock) (m : Image) (logs slots : ℕ) → Holds b k m logs slots → headerSize ≤ length b
+held-long b k m logs slots h = let c = holds-counted b k m logs slots h in omega (arith, c .sized)
 
 pub enter-answer : (v : View) (after : Row) → after ≡ advancedRow (v .row) (after .high) (v .free) → done (after .low) (after .high) ≡ done (v .row .low) (after .high)
 unfolding advancedRow

@@ -15,7 +15,7 @@ use Rattle.refusal.specs.declared.Refusal.the-variants as why
 use Rattle.octets.specs.Octets.{Bytes}
 use Rattle.layout.specs.declared.Row.{Row}
 use Rattle.layout.specs.Image.{Slot}
-use Rattle.layout.specs.Layout.{headerSize, logsOf, slotsOf, freeOf, readTable, tableSize}
+use Rattle.layout.specs.Layout.{headerSize, logsOf, slotsOf, freeOf, readTable, stockOf, tableSize}
 use Rattle.layout.specs.Fits.{Formed, Counted}
 use Rattle.layout.proofs.TableLaws.{length-rows, length-slots}
 use Rattle.layout.proofs.HoldsLaws.{Holds, holds-read}
@@ -34,6 +34,7 @@ use Rattle.a2m.proofs.Lists.{In, in-last}
 use Rattle.a2m.proofs.Links.{links-in, reaches-links}
 use Rattle.table.specs.Conditions.{Links}
 use Rattle.a2m.proofs.Chained.{Chained, whole-chained}
+use Rattle.table.proofs.WalkLaws.{chain-short}
 use Rattle.table.proofs.WholeLaws.{whole-range, whole-formed, whole-image, check-torn, check-whole as found-whole}
 
 -- ---- opening
@@ -43,8 +44,8 @@ module _ (b : List ℕ) (g : ℕ) where
   unfolding openingOf
   open-torn h = rw (openingOf, check-torn b h)
 
-  pub check-whole : (free last : ℕ) → check.Whole free last ≡ checkOf b → (whole b ≡ true) × (last ≡ joint (readTable b))
-  check-whole free last h = let w = found-whole b free last h in (w .0, sym (w .2))
+  pub check-whole : (free last : ℕ) → check.Whole free last ≡ checkOf b → (whole b ≡ true) × (free ≡ length (freeChain (readTable b))) × (last ≡ joint (readTable b))
+  check-whole free last h = let w = found-whole b free last h in (w .0, sym (w .1), sym (w .2))
 
   pub open-beyond : whole b ≡ true → logsOf b ≤ g → opening.Refused why.NoLog ≡ openingOf b g
   unfolding openingOf
@@ -54,11 +55,12 @@ module _ (b : List ℕ) (g : ℕ) where
   unfolding openingOf
   open-at v w h e = rw (openingOf, w, lt-leb (logsOf b) g h) (ap opening.Open e)
 
-  pub open-found : whole b ≡ true → (logs slots free last : ℕ) (row : Row) → g < logs → logs ≡ logsOf b → slots ≡ slotsOf b → row ≡ rowIn (readTable b) g → free ≡ freeOf b → last ≡ joint (readTable b)
-      → opening.Open (record { logs = logs; slots = slots; log = g; row = row; free = free; last = last }) ≡ openingOf b g
+  pub open-found : whole b ≡ true → (logs slots free count last : ℕ) (row : Row) → g < logs → logs ≡ logsOf b → slots ≡ slotsOf b → row ≡ rowIn (readTable b) g → free ≡ freeOf b → count ≡ length (freeChain (readTable b)) → last ≡ joint (readTable b)
+      → opening.Open (record { logs = logs; slots = slots; log = g; row = row; free = free; count = count; last = last }) ≡ openingOf b g
   unfolding viewOf
-  open-found w logs slots free last row h el es er ef ej =
-      open-at (record { logs = logs; slots = slots; log = g; row = row; free = free; last = last }) w (omega (arith, el)) (λ i. record { logs = el i; slots = es i; log = g; row = er i; free = ef i; last = ej i })
+  open-found w logs slots free count last row h el es er ef ec ej =
+      open-at (record { logs = logs; slots = slots; log = g; row = row; free = free; count = count; last = last }) w (omega (arith, el))
+      (λ i. record { logs = el i; slots = es i; log = g; row = er i; free = ef i; count = ec i; last = ej i })
 
   -- an opened table
   pub opened : (v : View) → opening.Open v ≡ openingOf b g → Opened b v × (v .log ≡ g)
@@ -151,6 +153,10 @@ module _ (b : List ℕ) (v : View) (o : Opened b v) where
   unfolding viewOf readTable
   view-free = ap (λ (x : View). x .free) (o .is)
 
+  pub view-count : v .count ≡ length (freeChain (readTable b))
+  unfolding viewOf
+  view-count = ap (λ (x : View). x .count) (o .is)
+
   pub view-last : v .last ≡ joint (readTable b)
   unfolding viewOf
   view-last = ap (λ (x : View). x .last) (o .is)
@@ -171,7 +177,7 @@ module _ (b : List ℕ) (v : View) (o : Opened b v) where
   pub opened-known : leb (length (readTable b .rows)) (v .log) ≡ false
   opened-known = lt-leb (length (readTable b .rows)) (v .log) (omega (arith, o .log, length-rows b))
 
-  pub opened-holds : Bytes b → Holds b (readTable b) (v .logs) (v .slots)
+  pub opened-holds : Bytes b → Holds b (stockOf b) (readTable b) (v .logs) (v .slots)
   opened-holds h = let c = opened-counted in holds-read b (v .logs) (v .slots) h (whole-formed b (o .whole)) view-logs view-slots (c .logs-most) (c .slots-most)
 
   pub opened-chained : Chained (readTable b) (v .log) (chain (readTable b .slots) (suc (v .log)) (rowIn (readTable b) (v .log) .first)) (entriesIn (readTable b) (v .log)) (freeChain (readTable b))
@@ -179,6 +185,9 @@ module _ (b : List ℕ) (v : View) (o : Opened b v) where
 
   pub free-most : v .free ≤ v .slots
   free-most = let h = first-within (readTable b .slots) 0 (readTable b .free) (freeChain (readTable b)) (opened-chained .free) in omega (arith, view-free, slots-length)
+
+  pub count-most : v .count ≤ v .slots
+  count-most = omega (arith, chain-short (readTable b .slots) 0 (readTable b .free), view-count, slots-length)
 
   pub last-free-most : v .last ≤ v .slots
   last-free-most = let h = last-within (readTable b .slots) 0 (readTable b .free) (freeChain (readTable b)) (opened-chained .free) in omega (arith, view-last, slots-length)

@@ -1,12 +1,12 @@
 -- What truncate writes, write by write. The log's chain joins the free chain, its slots become free one by one, and the free chain is
 -- cut behind the last of them: the bytes are then those of `releases`, whose slots go over one by one.
-use Prim.Native.Nat.{ℕ, zero, suc, _≤_, _<_, _^_}
+use Prim.Native.Nat.{ℕ, zero, suc, _+_, _≤_, _<_, _^_}
 use mathlib.Core.Path.{_≡_, refl, sym, ap, ap₂, subst, _∙_}
 use mathlib.Core.Logic.{_⊎_, inl, inr, _≢_}
 use mathlib.Core.List.{List, [], _∷_, _++_, map}
 use mathlib.Core.Bool.{Bool, true, false, cond}
 use native.Mathlib.Omega.{arith}
-use lib.ListN.{length, set, length-set}
+use lib.ListN.{length, set, length-set, length-append}
 use lib.Seq.{getD-set-same, set-getD, set-set, set-comm}
 use lib.Dec.{eqb, leb}
 use borrow.Author.Tests.{eqb-true, eqb-false, eq-eqb, ne-eqb}
@@ -14,13 +14,13 @@ use Rattle.octets.specs.Octets.{Bytes, zeros}
 use Rattle.layout.specs.declared.Row.{Row}
 use Rattle.layout.specs.declared.Link.{Link}
 use Rattle.layout.specs.Image.{Entry, Slot, Image, entryOf, freeSlot, freshRow, slotAt, setSlot}
-use Rattle.layout.specs.Layout.{readTable, writeTable, putSlot, putNext, putRow, putFree}
+use Rattle.layout.specs.Layout.{Stock, stocked, readTable, stockOf, writeWith, putSlot, putNext, putRow, putFree, putCount}
 use Rattle.layout.specs.Changes.{withRow, withSlot, withNext, slotOf, linkOf, truncatedRow}
 use Rattle.layout.specs.Fits.{RowFits, SlotFits}
 use Rattle.layout.proofs.TableLaws.{length-rows, free-fits}
-use Rattle.layout.proofs.HoldsLaws.{Holds, holds-image, holds-row, holds-slot, holds-next, holds-free}
+use Rattle.layout.proofs.HoldsLaws.{Holds, holds-image, holds-row, holds-slot, holds-next, holds-free, holds-count}
 use Rattle.table.specs.Chains.{chain, lastOf, positionsOf, entriesOf}
-use Rattle.table.specs.Free.{freeChain, joint}
+use Rattle.table.specs.Free.{freeChain, joint, writeTable}
 use Rattle.a2m.specs.declared.View.{View}
 use Rattle.a2m.specs.Call.{done}
 use Rattle.a2m.specs.ImageCalls.{rowIn, entriesIn, firstOf, joined, release, releases, lowered}
@@ -34,7 +34,7 @@ use Rattle.a2m.proofs.Releases.{releases-stop, releases-go}
 use Rattle.table.proofs.WholeLaws.{whole-image}
 use Rattle.a2m.proofs.WholeChains.{log-chain}
 use Rattle.a2m.proofs.EnterLaws.{hookedSlots}
-use Rattle.a2m.proofs.OpenedLaws.{view-row, view-last, slots-length, opened-holds, opened-chained, opened-log, first-most, last-free-most, first-within, last-within}
+use Rattle.a2m.proofs.OpenedLaws.{view-row, view-count, view-last, slots-length, opened-holds, opened-chained, opened-log, first-most, last-free-most, first-within, last-within}
 
 -- ---- slots set again
 
@@ -133,28 +133,28 @@ held-apart slots g s f c q h k e = go (in-last q)
 abbrev joinedImage : Image → ℕ → ℕ → Image
 joinedImage m last t = record { keeper = m .keeper; key = m .key; free = firstOf last (m .free) t; rows = m .rows; slots = hookedSlots (m .slots) last t }
 
-holds-joined : (b a : List ℕ) (m : Image) (logs slots last t : ℕ) → Holds b m logs slots → a ≡ joinedAt b last t → last ≤ slots → t ≤ slots → Holds a (joinedImage m last t) logs slots
+holds-joined : (b a : List ℕ) (k : Stock) (m : Image) (logs slots last t : ℕ) → Holds b k m logs slots → a ≡ joinedAt b last t → last ≤ slots → t ≤ slots → Holds a k (joinedImage m last t) logs slots
 unfolding joinedAt
-holds-joined b a m logs slots last t h e l k = go (eqb last 0) refl
+holds-joined b a st m logs slots last t h e l k = go (eqb last 0) refl
   where
     most : slots ≤ 800
     most = h .slots-most
 
-    go : (z : Bool) → eqb last 0 ≡ z → Holds a (joinedImage m last t) logs slots
+    go : (z : Bool) → eqb last 0 ≡ z → Holds a st (joinedImage m last t) logs slots
     go true z =
         let q : a ≡ putFree b t = rw (joinedAt, z) at e in
-        rw z (holds-free b m logs slots h a t q (omega arith))
+        rw z (holds-free b st m logs slots h a t q (omega arith))
     go false z =
         let q : a ≡ putNext b last t = rw (joinedAt, z) at e in
         let n : last ≢ 0 = eqb-false last 0 z in
-        rw z (holds-next b m logs slots h a last t q (omega arith) l (omega arith))
+        rw z (holds-next b st m logs slots h a last t q (omega arith) l (omega arith))
 
 -- the position of the last entry
 abbrev topOf : List Entry → ℕ
 topOf es = lastOf (map (λ (e : Entry). e .position) es)
 
 -- while slots go over: the table is that of the image reached, with its free chain joined to what is left of the log's chain
-pub record Releasing (b : List ℕ) (v : View) (n : ℕ) (table : List ℕ) (last s : ℕ) : Type 0 where
+pub record Releasing (b : List ℕ) (v : View) (n : ℕ) (table : List ℕ) (last count s : ℕ) : Type 0 where
   pub image : Image
   pub fuel : ℕ
   pub left : List ℕ
@@ -164,8 +164,9 @@ pub record Releasing (b : List ℕ) (v : View) (n : ℕ) (table : List ℕ) (las
   pub enough : suc (length left) ≤ fuel
   pub chained : Chained image (v .log) (s ∷ left) entries freed
   pub last-is : last ≡ lastOf freed
+  pub count-is : count ≡ length freed
   pub top : n ≤ topOf entries
-  pub held : Holds table (joinedImage (withRow image (v .log) (v .row)) last s) (v .logs) (v .slots)
+  pub held : Holds table (stockOf b) (joinedImage (withRow image (v .log) (v .row)) last s) (v .logs) (v .slots)
 
 pub joins-first : (b a : List ℕ) (last t : ℕ) → last ≡ 0 → a ≡ putFree b t → a ≡ joinedAt b last t
 unfolding joinedAt
@@ -232,7 +233,7 @@ module _ (b : List ℕ) (v : View) (o : Opened b v) (n : ℕ) (n1 : 1 ≤ n) (nH
         slots = m .slots;
       }
 
-  pub releasing-first : Bytes b → (table : List ℕ) → table ≡ joinedAt b (v .last) (v .row .first) → Releasing b v n table (v .last) (v .row .first)
+  pub releasing-first : Bytes b → (table : List ℕ) → table ≡ joinedAt b (v .last) (v .row .first) → Releasing b v n table (v .last) (v .count) (v .row .first)
   unfolding entriesIn
   releasing-first bytes table e =
       let m = readTable b in
@@ -251,8 +252,9 @@ module _ (b : List ℕ) (v : View) (o : Opened b v) (n : ℕ) (n1 : 1 ≤ n) (nH
         enough = omega (arith, ap length (q .1), slots-length b v o);
         chained = subst (λ (c : List ℕ). Chained m g c (entriesIn m g) (freeChain m)) (q .1) h;
         last-is = view-last b v o;
+        count-is = view-count b v o;
         top = omega (arith, ap lastOf (positions-entries (m .slots) (chain (m .slots) (suc g) (rowIn m g .first))), r .top, ap (λ (x : Row). x .high) (view-row b v o));
-        held = holds-joined b table (withRow m g (v .row)) (v .logs) (v .slots) (v .last) (v .row .first) (subst (λ (x : Image). Holds b x (v .logs) (v .slots)) (sym own-row) (opened-holds b v o bytes)) e (last-free-most b v o) (first-most b v o);
+        held = holds-joined b table (stockOf b) (withRow m g (v .row)) (v .logs) (v .slots) (v .last) (v .row .first) (subst (λ (x : Image). Holds b (stockOf b) x (v .logs) (v .slots)) (sym own-row) (opened-holds b v o bytes)) e (last-free-most b v o) (first-most b v o);
       }
 
 -- ---- one slot more
@@ -268,7 +270,7 @@ pub record Begins (b : List ℕ) (v : View) (n : ℕ) (t : List ℕ) : Type 0 wh
 pub begins : (b : List ℕ) (v : View) (n : ℕ) (t : List ℕ) → Opened b v → Bytes b → 1 ≤ n → n ≤ v .row .high → t ≡ joinedAt b (v .last) (v .row .first) → Begins b v n t
 begins b v n t o h l k e = record { opened = o; bytes = h; least = l; most = k; joined = e }
 
-module _ (b : List ℕ) (v : View) (n : ℕ) (table : List ℕ) (last s : ℕ) (o : Opened b v) (R : Releasing b v n table last s) where
+module _ (b : List ℕ) (v : View) (n : ℕ) (table : List ℕ) (last count s : ℕ) (o : Opened b v) (R : Releasing b v n table last count s) where
   abbrev I : Image
   I = R .image
 
@@ -287,6 +289,9 @@ module _ (b : List ℕ) (v : View) (n : ℕ) (table : List ℕ) (last s : ℕ) (
   last-in : last ≤ length (I .slots)
   last-in = let h = last-within (I .slots) 0 (I .free) (R .freed) (R .chained .free) in omega (arith, R .last-is)
 
+  pub count-most-free : count ≤ v .slots
+  count-most-free = omega (arith, R .count-is, links-fit (I .slots) 0 (I .free) (R .freed) (R .chained .free), size)
+
   -- what the code asks of the slot and reads of it
   pub slot-within : (1 ≤ s) × (s ≤ v .slots)
   slot-within = let h = own .2 in (own .1, omega (arith, size))
@@ -295,7 +300,7 @@ module _ (b : List ℕ) (v : View) (n : ℕ) (table : List ℕ) (last s : ℕ) (
   last-most-free = omega (arith, last-in, size)
 
   slot-is : slotAt (readTable table .slots) s ≡ slotAt (I .slots) s
-  slot-is = ap (λ (x : Image). slotAt (x .slots) s) (holds-image table _ (v .logs) (v .slots) (R .held)) ∙ hooked-other (I .slots) last s s (λ (e : s ≡ last). apart (sym e))
+  slot-is = ap (λ (x : Image). slotAt (x .slots) s) (holds-image table (stockOf b) _ (v .logs) (v .slots) (R .held)) ∙ hooked-other (I .slots) last s s (λ (e : s ≡ last). apart (sym e))
 
   -- no slot of the log is the last free one
   not-last : (t : ℕ) → 1 ≤ t → slotAt (I .slots) t .owner ≡ suc (v .log) → t ≡ lastOf (R .freed) → (lastOf (R .freed) ≡ 0) ⊎ In (lastOf (R .freed)) (R .freed) → ⊥
@@ -309,7 +314,7 @@ module _ (b : List ℕ) (v : View) (n : ℕ) (table : List ℕ) (last s : ℕ) (
 
   pub left-is : chain (readTable table .slots) (suc (v .log)) s ≡ s ∷ R .left
   left-is =
-      ap (λ (x : Image). chain (x .slots) (suc (v .log)) s) (holds-image table _ (v .logs) (v .slots) (R .held))
+      ap (λ (x : Image). chain (x .slots) (suc (v .log)) s) (holds-image table (stockOf b) _ (v .logs) (v .slots) (R .held))
       ∙ chain-links (hookedSlots (I .slots) last s) (suc (v .log)) s (s ∷ R .left) (links-frame (I .slots) (hookedSlots (I .slots) last s) (suc (v .log)) s (s ∷ R .left) 0 (length-hooked (I .slots) last s) kept own)
 
   module _ (l : Link) (el : l ≡ linkOf (slotAt (readTable table .slots) s)) where
@@ -340,7 +345,7 @@ module _ (b : List ℕ) (v : View) (n : ℕ) (table : List ℕ) (last s : ℕ) (
           slots = (hooked-freed (I .slots) last s (l .next) (own .1) (own .2) last-in apart ∙ ap₂ (λ (f k : ℕ). hookedSlots (joined (I .slots) f k (freeSlot 0)) s (l .next)) (sym starts) (sym j)) i;
         }
 
-    step : (t : ℕ) (c : List ℕ) → R .left ≡ t ∷ c → (k : ℕ) → R .fuel ≡ suc k → l .position < n → (after : List ℕ) → after ≡ putSlot table s (slotOf 0 (l .next) 0 (zeros 32) (zeros 32)) → (Q : Releasing b v n after s (l .next)) × (suc (length (Q .left)) ≡ length (R .left))
+    step : (t : ℕ) (c : List ℕ) → R .left ≡ t ∷ c → (k : ℕ) → R .fuel ≡ suc k → l .position < n → (after : List ℕ) → after ≡ putSlot table s (slotOf 0 (l .next) 0 (zeros 32) (zeros 32)) → (Q : Releasing b v n after s (count + 1) (l .next)) × (suc (length (Q .left)) ≡ length (R .left))
     unfolding lastOf
     step t c ec k ef p after e =
         let g = v .log in
@@ -363,18 +368,19 @@ module _ (b : List ℕ) (v : View) (n : ℕ) (table : List ℕ) (last s : ℕ) (
             enough = let q = R .enough in omega (arith, ap length ec);
             chained = subst (λ (y : ℕ). Chained (release I g) g (y ∷ c) es (R .freed ++ (rowIn I g .first ∷ []))) (sym tn) rc;
             last-is = sym (lastOf-snoc (R .freed) (rowIn I g .first) ∙ starts);
+            count-is = omega (arith, R .count-is, length-append (R .freed) (rowIn I g .first ∷ []));
             top = subst (λ (y : List Entry). n ≤ topOf y) eq (R .top);
-            held = subst (λ (y : Image). Holds after y (v .logs) (v .slots)) image-is (holds-slot table _ (v .logs) (v .slots) (R .held) after s (freeSlot (l .next)) e (own .1) (slot-within .1) freed-fits);
+            held = subst (λ (y : Image). Holds after (stockOf b) y (v .logs) (v .slots)) image-is (holds-slot table (stockOf b) _ (v .logs) (v .slots) (R .held) after s (freeSlot (l .next)) e (own .1) (slot-within .1) freed-fits);
           },
           sym (ap length ec),
         )
 
     -- the log's last entry stands at n or above: a slot below it is followed by another
-    pub releasing-on : l .position < n → (after : List ℕ) → after ≡ putSlot table s (slotOf 0 (l .next) 0 (zeros 32) (zeros 32)) → (Q : Releasing b v n after s (l .next)) × (suc (length (Q .left)) ≡ length (R .left))
+    pub releasing-on : l .position < n → (after : List ℕ) → after ≡ putSlot table s (slotOf 0 (l .next) 0 (zeros 32) (zeros 32)) → (Q : Releasing b v n after s (count + 1) (l .next)) × (suc (length (Q .left)) ≡ length (R .left))
     unfolding lastOf
     releasing-on p after e = go (R .left) refl (R .fuel) refl
       where
-        go : (c : List ℕ) → R .left ≡ c → (f : ℕ) → R .fuel ≡ f → (Q : Releasing b v n after s (l .next)) × (suc (length (Q .left)) ≡ length (R .left))
+        go : (c : List ℕ) → R .left ≡ c → (f : ℕ) → R .fuel ≡ f → (Q : Releasing b v n after s (count + 1) (l .next)) × (suc (length (Q .left)) ≡ length (R .left))
         go c ec zero ef = absurd (let h = R .enough in omega arith)
         go [] ec (suc k) ef =
             let h : entriesOf (I .slots) (s ∷ []) ≡ R .entries = subst (λ (d : List ℕ). entriesOf (I .slots) (s ∷ d) ≡ R .entries) ec (R .chained .log .held) in
@@ -411,8 +417,8 @@ module _ (b : List ℕ) (v : View) (n : ℕ) (table : List ℕ) (last s : ℕ) (
         slots = hooked-cut (I .slots) last s last-in ends i;
       }
 
-  pub cut-held : (a : List ℕ) → a ≡ joinedAt table last 0 → Holds a (withRow I (v .log) (v .row)) (v .logs) (v .slots)
-  cut-held a e = subst (λ (y : Image). Holds a y (v .logs) (v .slots)) cut-is (holds-joined table a _ (v .logs) (v .slots) last 0 (R .held) e last-most-free (omega arith))
+  pub cut-held : (a : List ℕ) → a ≡ joinedAt table last 0 → Holds a (stockOf b) (withRow I (v .log) (v .row)) (v .logs) (v .slots)
+  cut-held a e = subst (λ (y : Image). Holds a (stockOf b) y (v .logs) (v .slots)) cut-is (holds-joined table a (stockOf b) _ (v .logs) (v .slots) last 0 (R .held) e last-most-free (omega arith))
 
   pub cut-row : Bytes b → n < 2 ^ 64 → (after : Row) → after ≡ truncatedRow (v .row) n s → RowFits after
   unfolding truncatedRow
@@ -432,25 +438,34 @@ module _ (b : List ℕ) (v : View) (n : ℕ) (table : List ℕ) (last s : ℕ) (
       let la : v .row .last ≡ rowIn I g .last = ap (λ (x : Row). x .last) (view-row b v o) ∙ sym (k .2) ∙ ap (λ (x : Image). rowIn x g .last) st in
       e ∙ (λ i. record { low = n; high = hi i; first = sym starts i; last = la i })
 
-  pub struck : Bytes b → n < 2 ^ 64 → (l : Link) → l ≡ linkOf (slotAt (readTable table .slots) s) → n ≤ l .position → (a₁ a₂ : List ℕ) (after : Row) → a₁ ≡ joinedAt table last 0 → after ≡ truncatedRow (v .row) n s → a₂ ≡ putRow a₁ (v .log) after
-      → a₂ ≡ writeTable (lowered (releases (v .slots) n (readTable b) (v .log)) (v .log) n)
-  unfolding lowered
-  struck bytes h l el p a₁ a₂ after e₁ ea e₂ =
+  pub row-held : Bytes b → n < 2 ^ 64 → (a₁ a₂ : List ℕ) (after : Row) → a₁ ≡ joinedAt table last 0 → after ≡ truncatedRow (v .row) n s → a₂ ≡ putRow a₁ (v .log) after
+      → Holds a₂ (stockOf b) (withRow (withRow I (v .log) (v .row)) (v .log) after) (v .logs) (v .slots)
+  row-held bytes h a₁ a₂ after e₁ ea e₂ = holds-row a₁ (stockOf b) _ (v .logs) (v .slots) (cut-held a₁ e₁) a₂ (v .log) after e₂ (opened-log b v o) (cut-row bytes h after ea)
+
+  -- the free chain is what it was with the slots that went over behind it
+  freed-is : freeChain I ≡ R .freed
+  freed-is = chain-links (I .slots) 0 (I .free) (R .freed) (R .chained .free)
+
+  pub struck : Bytes b → n < 2 ^ 64 → (l : Link) → l ≡ linkOf (slotAt (readTable table .slots) s) → n ≤ l .position → (a₁ a₂ a₃ : List ℕ) (after : Row) → a₁ ≡ joinedAt table last 0 → after ≡ truncatedRow (v .row) n s → a₂ ≡ putRow a₁ (v .log) after
+      → a₃ ≡ putCount a₂ count → a₃ ≡ writeTable (lowered (releases (v .slots) n (readTable b) (v .log)) (v .log) n)
+  unfolding lowered writeTable
+  struck bytes h l el p a₁ a₂ a₃ after e₁ ea e₂ e₃ =
       let g = v .log in
       let st = stays l el p in
-      let q = holds-row a₁ _ (v .logs) (v .slots) (cut-held a₁ e₁) a₂ g after e₂ (opened-log b v o) (cut-row bytes h after ea) in
       let im : withRow (withRow I g (v .row)) g after ≡ lowered I g n =
       λ i. record { keeper = I .keeper; key = I .key; free = I .free; rows = (set-set (I .rows) g (v .row) after ∙ ap (set (I .rows) g) (row-is st after ea)) i; slots = I .slots } in
-      q .is ∙ ap writeTable im ∙ ap (λ (x : Image). writeTable (lowered x g n)) (sym st)
+      holds-count a₂ (stockOf b) _ (v .logs) (v .slots) (row-held bytes h a₁ a₂ after e₁ ea e₂) a₃ count e₃ .is
+      ∙ ap₂ (λ (k : ℕ) (m : Image). writeWith (stocked k) m) (R .count-is ∙ sym (ap length freed-is)) im
+      ∙ ap (λ (x : Image). writeTable (lowered x g n)) (sym st)
 
 pub struck-answer : (v : View) (n s : ℕ) (after : Row) → after ≡ truncatedRow (v .row) n s → done (after .low) (after .high) ≡ done n (v .row .high)
 unfolding truncatedRow
 struck-answer v n s after e = ap (λ (x : Row). done (x .low) (x .high)) e
 
 -- the chain still to go is shorter by one after each slot
-pub falls : (b : List ℕ) (v : View) (n : ℕ) (table : List ℕ) (last s : ℕ) (o : Opened b v) (R : Releasing b v n table last s) (l : Link) → l ≡ linkOf (slotAt (readTable table .slots) s) → l .position < n → (after : List ℕ)
+pub falls : (b : List ℕ) (v : View) (n : ℕ) (table : List ℕ) (last count s : ℕ) (o : Opened b v) (R : Releasing b v n table last count s) (l : Link) → l ≡ linkOf (slotAt (readTable table .slots) s) → l .position < n → (after : List ℕ)
     → after ≡ putSlot table s (slotOf 0 (l .next) 0 (zeros 32) (zeros 32)) → length (chain (readTable after .slots) (suc (v .log)) (l .next)) < length (chain (readTable table .slots) (suc (v .log)) s)
-falls b v n table last s o R l el p after e =
-    let Q = releasing-on b v n table last s o R l el p after e in
+falls b v n table last count s o R l el p after e =
+    let Q = releasing-on b v n table last count s o R l el p after e in
     let f : suc (length (Q .0 .left)) ≡ length (R .left) = Q .1 in
-    omega (arith, ap length (left-is b v n table last s o R), ap length (left-is b v n after s (l .next) o (Q .0)))
+    omega (arith, ap length (left-is b v n table last count s o R), ap length (left-is b v n after s (count + 1) (l .next) o (Q .0)))

@@ -7,10 +7,10 @@ use native.Mathlib.Omega.{arith}
 use borrow.Author.Tests.{not-false}
 use Rattle.octets.specs.Octets.{Bytes}
 use Rattle.layout.specs.Image.{Image}
-use Rattle.layout.specs.Layout.{readTable, writeTable}
-use Rattle.layout.proofs.TableLaws.{write-read}
+use Rattle.layout.specs.Layout.{readTable}
+use Rattle.table.specs.Free.{writeTable}
 use Rattle.table.specs.Whole.{whole}
-use Rattle.table.proofs.WholeLaws.{whole-formed}
+use Rattle.table.proofs.WholeLaws.{write-read}
 use Rattle.a2m.specs.Call.{Call, append, advance, truncate, lookup, end, refused}
 use Rattle.a2m.specs.ImageCalls.{imageDone, imageAccept}
 use Rattle.a2m.specs.TableCalls.{tableRefusal, tableStep}
@@ -56,5 +56,5 @@ read-unchanged b h call r = go (tableRefusal b call) refl
     go : (o : Option ℕ) → tableRefusal b call ≡ o → tableStep b call .state ≡ b
     go none e =
         let c = clear _ (readTable b) call e in
-        rw (tableStep, e) (ap writeTable (read-same (readTable b) call r) ∙ write-read b h (whole-formed b (not-false (whole b) (c .whole))))
+        rw (tableStep, e) (ap writeTable (read-same (readTable b) call r) ∙ write-read b h (not-false (whole b) (c .whole)))
     go (some k) e = rw (tableStep, e)

@@ -4,11 +4,10 @@ use mathlib.Core.Path.{_≡_, refl}
 use mathlib.Core.Option.{Option, none, some}
 use lib.ListN.{length}
 use Rattle.layout.specs.Image.{Image}
-use Rattle.layout.specs.Layout.{writeTable}
+use Rattle.table.specs.Free.{writeTable}
 use Rattle.layout.specs.Fits.{Fits}
-use Rattle.layout.proofs.TableLaws.{read-write}
 use Rattle.layout.specs.Fits.{Range}
-use Rattle.table.proofs.WholeLaws.{written-whole}
+use Rattle.table.proofs.WholeLaws.{read-write, written-whole}
 use Rattle.a2m.specs.Call.{Call}
 use Rattle.a2m.specs.ImageCalls.{imageRefusal, imageStep}
 use Rattle.a2m.specs.TableCalls.{tableRefusal, written, tableStep}

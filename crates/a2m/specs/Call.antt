@@ -2,7 +2,7 @@
 use Prim.Native.Nat.{ℕ, _^_, _<_}
 use mathlib.Core.List.{List, [], _∷_}
 use mathlib.Core.Option.{Option, none, some}
-use Rattle.receipt.specs.Answer.{Answer, answer}
+use Rattle.refusal.specs.Answer.{Answer, answer}
 
 -- document 01: "each call's arguments (of a lent receipt only the length)"
 pub data Call : Type 0 where

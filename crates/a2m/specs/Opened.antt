@@ -3,6 +3,7 @@ use Prim.Native.Nat.{ℕ, _<_}
 use mathlib.Core.Path.{_≡_}
 use mathlib.Core.List.{List}
 use mathlib.Core.Bool.{true, cond, not}
+use lib.ListN.{length}
 use lib.Dec.{eqb, leb}
 use Rattle.refusal.specs.Number.{numberOf}
 use Rattle.refusal.specs.declared.Refusal.the-variants as why
@@ -10,7 +11,7 @@ use Rattle.refusal.specs.declared.Outcome.{Outcome}
 use Rattle.refusal.specs.declared.Outcome.the-variants as outcome
 use Rattle.layout.specs.Image.{Entry, Slot, entryOf, slotAt}
 use Rattle.layout.specs.Layout.{logsOf, slotsOf, freeOf, readTable, putNext, putFree}
-use Rattle.table.specs.Free.{joint}
+use Rattle.table.specs.Free.{freeChain, joint}
 use Rattle.table.specs.Whole.{whole}
 use Rattle.a2m.specs.declared.View.{View}
 use Rattle.a2m.specs.declared.Opening.{Opening}
@@ -31,7 +32,15 @@ changeReply (change.Refused r) = refused (numberOf r)
 
 -- what a table's bytes say at log g
 unfoldable pub viewOf : List ℕ → ℕ → View
-viewOf b g = record { logs = logsOf b; slots = slotsOf b; log = g; row = rowIn (readTable b) g; free = freeOf b; last = joint (readTable b) }
+viewOf b g = record {
+  logs = logsOf b;
+  slots = slotsOf b;
+  log = g;
+  row = rowIn (readTable b) g;
+  free = freeOf b;
+  count = length (freeChain (readTable b));
+  last = joint (readTable b);
+}
 
 -- 1 "torn", then 2 "no log"
 unfoldable pub openingOf : List ℕ → ℕ → Opening

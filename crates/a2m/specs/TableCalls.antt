@@ -5,7 +5,8 @@ use mathlib.Core.Bool.{not}
 use mathlib.Core.Option.{Option, none, some}
 use Rattle.refusal.specs.Order.{firstFault}
 use Rattle.layout.specs.Image.{Image}
-use Rattle.layout.specs.Layout.{readTable, writeTable}
+use Rattle.layout.specs.Layout.{readTable}
+use Rattle.table.specs.Free.{writeTable}
 use Rattle.table.specs.Whole.{whole}
 use Rattle.a2m.specs.Call.{Call, refused, Effect, effect}
 use Rattle.a2m.specs.ImageCalls.{faults, imageAccept}

@@ -16,13 +16,15 @@ pub enum Finding {
     Refused(Refusal),
 }
 
-// A whole table at one of its logs: its counts, the log's row, the first free slot and the last (0 if none is free).
+// A whole table at one of its logs: its counts, the log's row, the first free slot, the number of free slots, and the last
+// (0 if none is free).
 pub struct View {
     pub logs: usize,
     pub slots: usize,
     pub log: usize,
     pub row: Row,
     pub free: usize,
+    pub count: usize,
     pub last: usize,
 }
 

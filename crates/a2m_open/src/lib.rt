@@ -15,7 +15,7 @@ ghost use Rattle.a2m.specs.Opened.{openingOf};
 pub fn open(table: &[u8], log: u64) -> Opening
     ensures { λ r. ⌜ r ≡ openingOf (now (table .entry)) log ⌝ }
 {
-    let Check::Whole { free: _, last } = check(table) else {
+    let Check::Whole { free: count, last } = check(table) else {
         return Opening::Refused(Refusal::Torn);
     };
     let logs = logs_of(table);
@@ -32,6 +32,7 @@ pub fn open(table: &[u8], log: u64) -> Opening
         log: g,
         row,
         free,
+        count,
         last,
     })
 }

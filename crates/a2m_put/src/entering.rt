@@ -2,6 +2,7 @@
 use a2m::Change;
 use a2m::View;
 use layout::Row;
+use layout_header::put_count;
 use layout_header::put_free;
 use layout_rows::put_row;
 use layout_slots::link_at;
@@ -10,7 +11,8 @@ use layout_slots::put_slot;
 ghost use mathlib.Core.Path.{_≡_};
 ghost use Prim.Native.Nat.{_≤_, _<_, _^_};
 ghost use lib.ListN.{length};
-ghost use Rattle.layout.specs.Layout.{readTable, writeTable};
+ghost use Rattle.layout.specs.Layout.{readTable};
+ghost use Rattle.table.specs.Free.{writeTable};
 ghost use Rattle.layout.specs.Fits.{Counted};
 ghost use Rattle.layout.specs.Changes.{advancedRow};
 ghost use Rattle.a2m.specs.Call.{done};
@@ -28,7 +30,7 @@ pub fn hook(table: &mut [u8], logs: usize, slots: usize, last: usize, t: usize)
     }
 }
 
-// The entry goes into the first free slot, that behind the log's last, and the row becomes `after`.
+// The entry goes into the first free slot, that behind the log's last, and the row becomes `after`; one slot less is free.
 pub fn enter(table: &mut [u8], view: View, after: Row, value: &[u8], digest: &[u8]) -> Change
     requires { ⌜ Opened (now table) view ⌝ }
     requires { ⌜ 1 ≤ view .free ⌝ }
@@ -48,6 +50,7 @@ pub fn enter(table: &mut [u8], view: View, after: Row, value: &[u8], digest: &[u
     hook(table, logs, slots, row.last, t);
     put_row(table, logs, slots, log, after);
     put_free(table, l.next);
+    put_count(table, view.count - 1);
     Change::Done {
         low: after.low,
         high: after.high,

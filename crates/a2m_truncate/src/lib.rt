@@ -3,6 +3,7 @@ use a2m::Change;
 use a2m::Opening;
 use a2m::View;
 use a2m_open::open;
+use layout_header::put_count;
 use layout_header::put_free;
 use layout_rows::put_row;
 use layout_slots::link_at;
@@ -11,7 +12,8 @@ use layout_slots::put_slot;
 use refusal::Refusal;
 ghost use mathlib.Core.Path.{_≡_};
 ghost use Prim.Native.Nat.{_≤_};
-ghost use Rattle.layout.specs.Layout.{readTable, writeTable};
+ghost use Rattle.layout.specs.Layout.{readTable};
+ghost use Rattle.table.specs.Free.{writeTable};
 ghost use Rattle.layout.specs.Fits.{Counted};
 ghost use Rattle.a2m.specs.Call.{truncate as truncates, done};
 ghost use Rattle.a2m.specs.ImageCalls.{releases, lowered};
@@ -32,7 +34,7 @@ fn join(table: &mut [u8], logs: usize, slots: usize, last: usize, t: usize)
 }
 
 // Frees the log's slots below position n. The log's chain joins the free chain whole, its slots become free one by one,
-// each keeping its next, and the free chain is cut behind the last of them.
+// each keeping its next, and the free chain is cut behind the last of them. The number of free slots counts them.
 fn strike(table: &mut [u8], view: View, n: u64) -> Change
     requires { ⌜ Opened (now table) view ⌝ }
     requires { ⌜ (1 ≤ n) × (n ≤ view .row .high) ⌝ }
@@ -44,6 +46,7 @@ fn strike(table: &mut [u8], view: View, n: u64) -> Change
     let row = view.row;
     let none = [0u8; 32];
     let mut last = view.last;
+    let mut count = view.count;
     let mut s = row.first;
     join(table, logs, slots, last, s);
     loop {
@@ -53,11 +56,13 @@ fn strike(table: &mut [u8], view: View, n: u64) -> Change
         }
         put_slot(table, logs, slots, s, 0, l.next, 0, &none, &none);
         last = s;
+        count += 1;
         s = l.next;
     }
     join(table, logs, slots, last, 0);
     let after = row.truncate(n, s);
     put_row(table, logs, slots, view.log, after);
+    put_count(table, count);
     Change::Done {
         low: after.low,
         high: after.high,

@@ -1,9 +1,12 @@
-// Format, and the check of a table.
+// Format, the check of a table, and the status screen's read.
+use table::Screen;
 ghost use mathlib.Core.Path.{_≡_};
 ghost use lib.ListN.{length};
 ghost use Rattle.refusal.specs.Order.{answerOf};
 ghost use Rattle.table.specs.Format.{formatRefusal, formatBytes};
 ghost use Rattle.table.specs.Whole.{wholeRefusal};
+ghost use Rattle.table.specs.Screen.{screen};
+ghost use Rattle.capi_results.specs.Results.{freeAfter};
 
 #[no_mangle]
 pub extern "C" fn keeper_format(
@@ -26,4 +29,18 @@ pub extern "C" fn keeper_check(table: &[u8]) -> u8
 {
     let outcome = table_check::is_whole(table);
     outcome.number()
+}
+
+#[no_mangle]
+pub extern "C" fn keeper_free(table: &[u8], free: &mut u64) -> u8
+    ensures answer { λ r. ⌜ r ≡ screen (now (table .entry)) .number ⌝ }
+    ensures free { λ _. ⌜ now (free .exit) ≡ freeAfter (screen (now (table .entry))) (now (free .entry)) ⌝ }
+{
+    match table_screen::free_slots(table) {
+        Screen::Free(n) => {
+            *free = n;
+            0
+        }
+        Screen::Torn => 1,
+    }
 }

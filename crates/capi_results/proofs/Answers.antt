@@ -16,11 +16,11 @@ use Rattle.a2m.specs.Call.{Reply}
 use Rattle.a2m.specs.Opened.{changeReply, endReply}
 use Rattle.a2m.specs.declared.Change.{Change}
 use Rattle.a2m.specs.declared.Change.the-variants as change
-use Rattle.receipt.specs.Answer.{Answer, answer}
+use Rattle.refusal.specs.Answer.{Answer, answer}
 use Rattle.receipt.specs.Verdict.{verdictAnswer}
 use Rattle.receipt.specs.declared.Verdict.{Verdict}
 use Rattle.receipt.specs.declared.Verdict.the-variants as verdict
-use Rattle.capi_results.specs.Results.{replyNumber, lowAfter, highAfter, examinedAfter, verdictAfter, placeAfter, maskAfter}
+use Rattle.capi_results.specs.Results.{replyNumber, lowAfter, highAfter, examinedAfter, freeAfter, verdictAfter, placeAfter, maskAfter}
 
 -- no refusal has the number 0
 not-done : (why : Refusal) → eqb (numberOf why) 0 ≡ false
@@ -49,6 +49,20 @@ module _ (v : Change) (low high : ℕ) where
 -- what a lookup gives
 abbrev pub Looked : (n k examined : ℕ) → Reply → Type 0
 Looked n k examined r = (n ≡ replyNumber r) × (k ≡ examinedAfter r examined)
+
+-- ---- the status screen
+
+-- what a reading gives
+abbrev pub Shows : (n f free : ℕ) → Answer → Type 0
+Shows n f free a = (n ≡ a .number) × (f ≡ freeAfter a free)
+
+pub shows : (f free : ℕ) → Shows 0 f free (answer 0 (f ∷ []))
+unfolding freeAfter
+shows f free = (refl, refl)
+
+pub shows-nothing : (free : ℕ) → Shows 1 free free (answer 1 [])
+unfolding freeAfter
+shows-nothing free = (refl, refl)
 
 -- ---- the verifier and certificates
 

@@ -7,7 +7,7 @@ use mathlib.Core.Option.{Option, none, some}
 use lib.Dec.{eqb}
 use lib.ListN.{getD}
 use Rattle.a2m.specs.Call.{Reply, refused, done, found, ended, numbered}
-use Rattle.receipt.specs.Answer.{Answer}
+use Rattle.refusal.specs.Answer.{Answer}
 use Rattle.runs.specs.Compare.{Verdict, differ, agree, collision}
 
 -- ---- the calls on a table
@@ -35,6 +35,12 @@ examinedAfter (refused k) old = old
 examinedAfter (done l h) old = old
 examinedAfter (found receipt k) old = k
 examinedAfter (ended receipt) old = old
+
+-- ---- the status screen
+
+-- "the stored number"
+unfoldable pub freeAfter : Answer → ℕ → ℕ
+freeAfter a old = cond (eqb (a .number) 0) (getD (a .values) 0 0) old
 
 -- ---- the verifier and certificates
 

@@ -19,6 +19,8 @@
 // end LOG NONCE SLOT SIZE                  the same
 // answer LOG NONCE SLOT SIZE               an end's answer alone
 // digest                                   the SHA-256 of the table
+// bytes AT SIZE                            bytes of the table
+// screen SIZE                              what the status screen reads off the table's first bytes
 // receipt SLOT KIND LOG KEEPER POSITION REFERENCE KEY NONCE VALUE DIGEST
 // end-receipt, with the same fields        a receipt of a lookup or of an end, into a slot of the pile
 // put SLOT BYTES                           bytes of the pile
@@ -64,6 +66,8 @@ use tables::ends;
 use tables::formats;
 use tables::fresh;
 use tables::looked_up;
+use tables::screened;
+use tables::shown;
 use tables::spoiled;
 use tables::table_after;
 use tables::truncates;
@@ -102,6 +106,8 @@ lookup n n x n n
 end n x n n
 answer n x n n
 digest
+bytes n n
+screen n
 receipt n n n n n n x x x x
 end-receipt n n n n n n x x x x
 put n x
@@ -128,15 +134,17 @@ compare x n x x n x n n
         12 => ends(v, store, table, pile),
         13 => ended(v, store, table, pile),
         14 => table_after(table),
-        15 => written(Name::Lookup, v, store, pile),
-        16 => written(Name::End, v, store, pile),
-        17 => keep(pile, v.a, 0, slot(store, 2, v.b)),
-        18 => flip(pile, v.a, v.b),
-        19 => tagged(pile, v.a, slot(store, 2, v.b)),
-        20 => verified(v, store, pile, Ask::Lookup(v.g)),
-        21 => verified(v, store, pile, Ask::End),
-        22 => certified(v, store, pile),
-        23 => compared(v, store, pile),
+        15 => shown(table, v.a, v.b),
+        16 => screened(slot(table, 0, v.a)),
+        17 => written(Name::Lookup, v, store, pile),
+        18 => written(Name::End, v, store, pile),
+        19 => keep(pile, v.a, 0, slot(store, 2, v.b)),
+        20 => flip(pile, v.a, v.b),
+        21 => tagged(pile, v.a, slot(store, 2, v.b)),
+        22 => verified(v, store, pile, Ask::Lookup(v.g)),
+        23 => verified(v, store, pile, Ask::End),
+        24 => certified(v, store, pile),
+        25 => compared(v, store, pile),
         _ => unknown(form),
     }
     Step::On

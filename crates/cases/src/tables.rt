@@ -1,4 +1,4 @@
-// The check, format, and the five calls on a table. A line of a call ends with the SHA-256 of the table after it.
+// The check, format, the five calls on a table, and the status screen. A line of a call ends with the SHA-256 of the table after it.
 use crate::report::refused;
 use crate::report::show;
 use crate::report::words;
@@ -13,12 +13,15 @@ use case_fields::Values;
 use case_fields::slot;
 use case_fields::slot_mut;
 use octets::wide;
+use printing::hex;
 use printing::text;
 use refusal::Outcome;
 use sha256_digest::hash;
 use table::Check;
+use table::Screen;
 use table_check::check;
 use table_format::format;
+use table_screen::free_slots;
 
 pub fn checked(table: &[u8]) {
     match check(table) {
@@ -40,6 +43,28 @@ pub fn spoiled(table: &mut [u8], place: u64, b: u64, n: u64) {
         table[at] = held;
     } else {
         text(b"? no such byte\n");
+    }
+}
+
+// Bytes of the table from a place on.
+pub fn shown(table: &[u8], place: u64, n: u64) {
+    if place <= table.len() as u64 {
+        let at = place as usize;
+        if n <= (table.len() - at) as u64 {
+            let e = at + n as usize;
+            text(b"bytes ");
+            hex(&table[at..e]);
+            text(b"\n");
+            return;
+        }
+    }
+    text(b"? no such bytes\n");
+}
+
+pub fn screened(table: &[u8]) {
+    match free_slots(table) {
+        Screen::Free(n) => show(b"screen 0, free %d\n", &[n]),
+        Screen::Torn => text(b"screen 1\n"),
     }
 }
 

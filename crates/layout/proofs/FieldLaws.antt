@@ -12,7 +12,7 @@ use Rattle.bigendian.specs.BigEndian.{be, unbe}
 use Rattle.bigendian.proofs.Laws.{length-be, unbe-be, be-unbe-part}
 use Rattle.layout.specs.declared.Row.{Row}
 use Rattle.layout.specs.Image.{Slot}
-use Rattle.layout.specs.Layout.{mark, headerSize, rowSize, slotSize, freeOffset, zeroOffset, zerosOffset, readRow, rowBytes, readSlot, slotBytes, headerBytes}
+use Rattle.layout.specs.Layout.{Stock, stocked, mark, headerSize, rowSize, slotSize, freeOffset, zeroOffset, countOffset, readRow, rowBytes, readSlot, slotBytes, headerBytes}
 use Rattle.layout.specs.Changes.{withNext}
 use Rattle.layout.specs.Fits.{RowFits, SlotFits}
 
@@ -24,9 +24,9 @@ pub length-slotBytes : (s : Slot) → SlotFits s → length (slotBytes s) ≡ sl
 unfolding slotBytes
 length-slotBytes s h = simp (length-append, length-be, length-zeros) (omega (arith, h .value, h .digest))
 
-pub length-headerBytes : (logs slots keeper free : ℕ) (key : List ℕ) → length key ≡ 32 → length (headerBytes logs slots keeper free key) ≡ headerSize
+pub length-headerBytes : (logs slots keeper free : ℕ) (stock : Stock) (key : List ℕ) → length key ≡ 32 → length (headerBytes logs slots keeper free stock key) ≡ headerSize
 unfolding headerBytes
-length-headerBytes logs slots keeper free key h = simp (length-append, length-be, length-zeros) (omega (arith, h))
+length-headerBytes logs slots keeper free stock key h = simp (length-append, length-be, length-zeros) (omega (arith, h))
 
 -- a field of fields on end: past one of k bytes, at the front, and the last
 pub skip : (p q : List ℕ) (k a n : ℕ) → length p ≡ k → part (p ++ q) (k + a) n ≡ part q a n
@@ -117,74 +117,89 @@ write-slot b h l z =
     ∙ only b slotSize l
 
 -- the header's fields
-module _ (logs slots keeper free : ℕ) (key : List ℕ) where
+module _ (logs slots keeper free : ℕ) (stock : Stock) (key : List ℕ) where
   -- what follows the slot count
   after-count : List ℕ
-  after-count = be 8 keeper ++ (be 2 free ++ (zeros 2 ++ key))
+  after-count = be 8 keeper ++ (be 2 free ++ (be 2 (stock .count) ++ key))
 
-  pub mark-header : part (headerBytes logs slots keeper free key) 0 4 ≡ mark
+  pub mark-header : part (headerBytes logs slots keeper free stock key) 0 4 ≡ mark
   unfolding headerBytes
-  mark-header = here mark (be 1 logs ++ (zeros 1 ++ (be 2 slots ++ (be 8 keeper ++ (be 2 free ++ (zeros 2 ++ key)))))) 4 refl
+  mark-header = here mark (be 1 logs ++ (zeros 1 ++ (be 2 slots ++ (be 8 keeper ++ (be 2 free ++ (be 2 (stock .count) ++ key)))))) 4 refl
 
-  pub logs-header : part (headerBytes logs slots keeper free key) 4 1 ≡ be 1 logs
+  pub logs-header : part (headerBytes logs slots keeper free stock key) 4 1 ≡ be 1 logs
   unfolding headerBytes after-count
   logs-header = skip mark (be 1 logs ++ (zeros 1 ++ (be 2 slots ++ after-count))) 4 0 1 refl ∙ here (be 1 logs) (zeros 1 ++ (be 2 slots ++ after-count)) 1 (length-be 1 logs)
 
-  pub zero-header : part (headerBytes logs slots keeper free key) zeroOffset 1 ≡ zeros 1
+  pub zero-header : part (headerBytes logs slots keeper free stock key) zeroOffset 1 ≡ zeros 1
   unfolding headerBytes after-count
   zero-header =
       skip mark (be 1 logs ++ (zeros 1 ++ (be 2 slots ++ after-count))) 4 1 1 refl ∙ skip (be 1 logs) (zeros 1 ++ (be 2 slots ++ after-count)) 1 0 1 (length-be 1 logs) ∙ here (zeros 1) (be 2 slots ++ after-count) 1 (length-zeros 1)
 
-  past-zero : (a n : ℕ) → part (headerBytes logs slots keeper free key) (4 + (1 + (1 + a))) n ≡ part (be 2 slots ++ after-count) a n
+  past-zero : (a n : ℕ) → part (headerBytes logs slots keeper free stock key) (4 + (1 + (1 + a))) n ≡ part (be 2 slots ++ after-count) a n
   unfolding headerBytes after-count
   past-zero a n =
       skip mark (be 1 logs ++ (zeros 1 ++ (be 2 slots ++ after-count))) 4 (1 + (1 + a)) n refl
       ∙ skip (be 1 logs) (zeros 1 ++ (be 2 slots ++ after-count)) 1 (1 + a) n (length-be 1 logs)
       ∙ skip (zeros 1) (be 2 slots ++ after-count) 1 a n (length-zeros 1)
 
-  past-count : (a n : ℕ) → part (headerBytes logs slots keeper free key) (8 + a) n ≡ part after-count a n
-  past-count a n = let e : 8 + a ≡ 4 + (1 + (1 + (2 + a))) = omega arith in ap (λ (k : ℕ). part (headerBytes logs slots keeper free key) k n) e ∙ past-zero (2 + a) n ∙ skip (be 2 slots) after-count 2 a n (length-be 2 slots)
+  past-count : (a n : ℕ) → part (headerBytes logs slots keeper free stock key) (8 + a) n ≡ part after-count a n
+  past-count a n = let e : 8 + a ≡ 4 + (1 + (1 + (2 + a))) = omega arith in ap (λ (k : ℕ). part (headerBytes logs slots keeper free stock key) k n) e ∙ past-zero (2 + a) n ∙ skip (be 2 slots) after-count 2 a n (length-be 2 slots)
 
-  pub slots-header : part (headerBytes logs slots keeper free key) 6 2 ≡ be 2 slots
+  pub slots-header : part (headerBytes logs slots keeper free stock key) 6 2 ≡ be 2 slots
   slots-header = past-zero 0 2 ∙ here (be 2 slots) after-count 2 (length-be 2 slots)
 
-  pub keeper-header : part (headerBytes logs slots keeper free key) 8 8 ≡ be 8 keeper
+  pub keeper-header : part (headerBytes logs slots keeper free stock key) 8 8 ≡ be 8 keeper
   unfolding after-count
   keeper-header = past-count 0 8 ∙ here (be 8 keeper) _ 8 (length-be 8 keeper)
 
-  past-keeper : (a n : ℕ) → part (headerBytes logs slots keeper free key) (16 + a) n ≡ part (be 2 free ++ (zeros 2 ++ key)) a n
+  past-keeper : (a n : ℕ) → part (headerBytes logs slots keeper free stock key) (16 + a) n ≡ part (be 2 free ++ (be 2 (stock .count) ++ key)) a n
   unfolding after-count
-  past-keeper a n = let e : 16 + a ≡ 8 + (8 + a) = omega arith in ap (λ (k : ℕ). part (headerBytes logs slots keeper free key) k n) e ∙ past-count (8 + a) n ∙ skip (be 8 keeper) (be 2 free ++ (zeros 2 ++ key)) 8 a n (length-be 8 keeper)
+  past-keeper a n = let e : 16 + a ≡ 8 + (8 + a) = omega arith in ap (λ (k : ℕ). part (headerBytes logs slots keeper free stock key) k n) e ∙ past-count (8 + a) n ∙ skip (be 8 keeper) (be 2 free ++ (be 2 (stock .count) ++ key)) 8 a n (length-be 8 keeper)
 
-  pub free-header : part (headerBytes logs slots keeper free key) freeOffset 2 ≡ be 2 free
-  free-header = past-keeper 0 2 ∙ here (be 2 free) (zeros 2 ++ key) 2 (length-be 2 free)
+  pub free-header : part (headerBytes logs slots keeper free stock key) freeOffset 2 ≡ be 2 free
+  free-header = past-keeper 0 2 ∙ here (be 2 free) (be 2 (stock .count) ++ key) 2 (length-be 2 free)
 
-  pub zeros-header : part (headerBytes logs slots keeper free key) zerosOffset 2 ≡ zeros 2
-  zeros-header = past-keeper 2 2 ∙ skip (be 2 free) (zeros 2 ++ key) 2 0 2 (length-be 2 free) ∙ here (zeros 2) key 2 (length-zeros 2)
+  pub count-header : part (headerBytes logs slots keeper free stock key) countOffset 2 ≡ be 2 (stock .count)
+  count-header = past-keeper 2 2 ∙ skip (be 2 free) (be 2 (stock .count) ++ key) 2 0 2 (length-be 2 free) ∙ here (be 2 (stock .count)) key 2 (length-be 2 (stock .count))
 
-  pub key-header : length key ≡ 32 → part (headerBytes logs slots keeper free key) 20 32 ≡ key
-  key-header h = past-keeper 4 32 ∙ skip (be 2 free) (zeros 2 ++ key) 2 2 32 (length-be 2 free) ∙ skip (zeros 2) key 2 0 32 (length-zeros 2) ∙ only key 32 h
+  pub key-header : length key ≡ 32 → part (headerBytes logs slots keeper free stock key) 20 32 ≡ key
+  key-header h = past-keeper 4 32 ∙ skip (be 2 free) (be 2 (stock .count) ++ key) 2 2 32 (length-be 2 free) ∙ skip (be 2 (stock .count)) key 2 0 32 (length-be 2 (stock .count)) ∙ only key 32 h
+
+  -- a header, what follows the keeper number given
+  headed : List ℕ → List ℕ
+  headed q = mark ++ (be 1 logs ++ (zeros 1 ++ (be 2 slots ++ (be 8 keeper ++ q))))
+
+  splice-past : (a : ℕ) (x : List ℕ) → splice (headerBytes logs slots keeper free stock key) (4 + (1 + (1 + (2 + (8 + a))))) x ≡ headed (splice (be 2 free ++ (be 2 (stock .count) ++ key)) a x)
+  unfolding headerBytes headed
+  splice-past a x =
+      let t : List ℕ = be 2 free ++ (be 2 (stock .count) ++ key) in
+      let k : List ℕ = be 8 keeper ++ t in
+      let s : List ℕ = be 2 slots ++ k in
+      over mark (be 1 logs ++ (zeros 1 ++ s)) 4 (1 + (1 + (2 + (8 + a)))) x refl
+      ∙ ap (λ (q : List ℕ). mark ++ q) (over (be 1 logs) (zeros 1 ++ s) 1 (1 + (2 + (8 + a))) x (length-be 1 logs)
+      ∙ ap (λ (q : List ℕ). be 1 logs ++ q) (over (zeros 1) s 1 (2 + (8 + a)) x (length-zeros 1)
+      ∙ ap (λ (q : List ℕ). zeros 1 ++ q) (over (be 2 slots) k 2 (8 + a) x (length-be 2 slots)
+      ∙ ap (λ (q : List ℕ). be 2 slots ++ q) (over (be 8 keeper) t 8 a x (length-be 8 keeper)))))
 
   -- another first free slot in a header
-  pub splice-free : (f : ℕ) → splice (headerBytes logs slots keeper free key) freeOffset (be 2 f) ≡ headerBytes logs slots keeper f key
-  unfolding headerBytes
-  splice-free f =
-      let t : List ℕ = zeros 2 ++ key in
-      let k : List ℕ = be 8 keeper ++ (be 2 free ++ t) in
-      let s : List ℕ = be 2 slots ++ k in
-      over mark (be 1 logs ++ (zeros 1 ++ s)) 4 12 (be 2 f) refl
-      ∙ ap (λ (q : List ℕ). mark ++ q) (over (be 1 logs) (zeros 1 ++ s) 1 11 (be 2 f) (length-be 1 logs)
-      ∙ ap (λ (q : List ℕ). be 1 logs ++ q) (over (zeros 1) s 1 10 (be 2 f) (length-zeros 1)
-      ∙ ap (λ (q : List ℕ). zeros 1 ++ q) (over (be 2 slots) k 2 8 (be 2 f) (length-be 2 slots)
-      ∙ ap (λ (q : List ℕ). be 2 slots ++ q) (over (be 8 keeper) (be 2 free ++ t) 8 0 (be 2 f) (length-be 8 keeper)
-      ∙ ap (λ (q : List ℕ). be 8 keeper ++ q) (front (be 2 free) t (be 2 f) (length-be 2 f ∙ sym (length-be 2 free)))))))
+  pub splice-free : (f : ℕ) → splice (headerBytes logs slots keeper free stock key) freeOffset (be 2 f) ≡ headerBytes logs slots keeper f stock key
+  unfolding headerBytes headed
+  splice-free f = splice-past 0 (be 2 f) ∙ ap headed (front (be 2 free) (be 2 (stock .count) ++ key) (be 2 f) (length-be 2 f ∙ sym (length-be 2 free)))
+
+  -- another number of free slots
+  pub splice-count : (n : ℕ) → splice (headerBytes logs slots keeper free stock key) countOffset (be 2 n) ≡ headerBytes logs slots keeper free (stocked n) key
+  unfolding headerBytes headed
+  splice-count n =
+      splice-past 2 (be 2 n)
+      ∙ ap headed (over (be 2 free) (be 2 (stock .count) ++ key) 2 0 (be 2 n) (length-be 2 free)
+      ∙ ap (λ (q : List ℕ). be 2 free ++ q) (front (be 2 (stock .count)) key (be 2 n) (length-be 2 n ∙ sym (length-be 2 (stock .count)))))
 
 -- a header that was read, written again
-pub write-header : (b : List ℕ) → Bytes b → headerSize ≤ length b → part b 0 4 ≡ mark → part b zeroOffset 1 ≡ zeros 1 → part b zerosOffset 2 ≡ zeros 2
-    → headerBytes (unbe (part b 4 1)) (unbe (part b 6 2)) (unbe (part b 8 8)) (unbe (part b freeOffset 2)) (part b 20 32) ≡ part b 0 headerSize
+pub write-header : (b : List ℕ) → Bytes b → headerSize ≤ length b → part b 0 4 ≡ mark → part b zeroOffset 1 ≡ zeros 1
+    → headerBytes (unbe (part b 4 1)) (unbe (part b 6 2)) (unbe (part b 8 8)) (unbe (part b freeOffset 2)) (stocked (unbe (part b countOffset 2))) (part b 20 32) ≡ part b 0 headerSize
 unfolding headerBytes
-write-header b h l m z zs =
-    ap₂ _++_ (sym m) (ap₂ _++_ (be-unbe-part b 4 1 h (omega arith)) (ap₂ _++_ (sym z) (ap₂ _++_ (be-unbe-part b 6 2 h (omega arith)) (ap₂ _++_ (be-unbe-part b 8 8 h (omega arith)) (ap₂ _++_ (be-unbe-part b 16 2 h (omega arith)) (ap (λ (q : List ℕ). q ++ part b 20 32) (sym zs)))))))
+write-header b h l m z =
+    ap₂ _++_ (sym m) (ap₂ _++_ (be-unbe-part b 4 1 h (omega arith)) (ap₂ _++_ (sym z) (ap₂ _++_ (be-unbe-part b 6 2 h (omega arith)) (ap₂ _++_ (be-unbe-part b 8 8 h (omega arith)) (ap₂ _++_ (be-unbe-part b 16 2 h (omega arith)) (ap (λ (q : List ℕ). q ++ part b 20 32) (be-unbe-part b countOffset 2 h (omega arith))))))))
     ∙ sym (part-add b 0 4 48
     ∙ ap (λ (q : List ℕ). part b 0 4 ++ q) (part-add b 4 1 47
     ∙ ap (λ (q : List ℕ). part b 4 1 ++ q) (part-add b 5 1 46

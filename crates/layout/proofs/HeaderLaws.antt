@@ -10,11 +10,11 @@ use lib.Dec.{eqb, leb}
 use lib.ListN.{length}
 use Rattle.octets.specs.Octets.{Bytes, part, same, zeros}
 use Rattle.bigendian.specs.BigEndian.{unbe}
-use Rattle.layout.specs.Layout.{mark, markNumber, headerSize, slotSize, zeroOffset, zerosOffset, rowOffset, padOffset, tableSize, logsOf, slotsOf}
+use Rattle.layout.specs.Layout.{mark, markNumber, headerSize, slotSize, zeroOffset, rowOffset, padOffset, tableSize, logsOf, slotsOf}
 use Rattle.layout.specs.Fits.{Counted}
-use Rattle.layout.proofs.CodeLaws.{zero-one, zero-two, mark-four}
+use Rattle.layout.proofs.CodeLaws.{zero-one, mark-four}
 use Rattle.layout.specs.Fits.{Range}
-use Rattle.layout.specs.Tests.{inRange, constantsFit, headerFits, allBelow, padsFit}
+use Rattle.layout.specs.Tests.{inRange, marked, constantsFit, headerFits, allBelow, padsFit}
 use Rattle.layout.proofs.TestLaws.{and-yes, and-no, and-not, and-split, field-same}
 
 -- counts in range
@@ -53,26 +53,16 @@ pub zero-test : (b : List ℕ) (at : ℕ) → Bytes b → at + 1 ≤ length b �
 zero-test b at h k = field-same b at 1 0 h k (omega arith) ∙ ap (same (part b at 1)) zero-one
 
 module _ (b : List ℕ) (bytes : Bytes b) (long : headerSize ≤ length b) where
-  mark-test : eqb (unbe (part b 0 4)) markNumber ≡ same (part b 0 4) mark
+  pub mark-test : eqb (unbe (part b 0 4)) markNumber ≡ marked b
   mark-test = field-same b 0 4 markNumber bytes (omega arith) (omega arith) ∙ ap (same (part b 0 4)) mark-four
 
-  zeros-test : eqb (unbe (part b zerosOffset 2)) 0 ≡ same (part b zerosOffset 2) (zeros 2)
-  zeros-test = field-same b zerosOffset 2 0 bytes (omega arith) (omega arith) ∙ ap (same (part b zerosOffset 2)) zero-two
-
-  pub no-mark : (x : ℕ) → x ≡ unbe (part b 0 4) → x ≢ markNumber → false ≡ constantsFit b
+  pub no-mark : (t : Bool) → t ≡ marked b → not t ≡ true → false ≡ constantsFit b
   unfolding constantsFit
-  no-mark x e h = sym (and-no _ (and-no _ (sym mark-test ∙ ne-eqb (unbe (part b 0 4)) markNumber (λ q. h (e ∙ q)))))
+  no-mark t e h = sym (and-no _ (sym e ∙ not-true t h))
 
-  pub no-zero : (x : ℕ) → x ≡ unbe (part b zeroOffset 1) → x ≢ 0 → false ≡ constantsFit b
+  pub by-zero : (t : Bool) (x : ℕ) → t ≡ marked b → not t ≡ false → x ≡ unbe (part b zeroOffset 1) → eqb x 0 ≡ constantsFit b
   unfolding constantsFit
-  no-zero x e h = sym (and-no _ (and-not (same (part b 0 4) mark) (sym (zero-test b zeroOffset bytes (omega arith)) ∙ ne-eqb (unbe (part b zeroOffset 1)) 0 (λ q. h (e ∙ q)))))
-
-  pub by-zeros : (x y z : ℕ) → x ≡ unbe (part b 0 4) → x ≡ markNumber → y ≡ unbe (part b zeroOffset 1) → y ≡ 0 → z ≡ unbe (part b zerosOffset 2) → eqb z 0 ≡ constantsFit b
-  unfolding constantsFit
-  by-zeros x y z ex x₀ ey y₀ ez =
-      ap (λ (n : ℕ). eqb n 0) ez
-      ∙ zeros-test
-      ∙ sym (and-yes _ (and-yes _ (sym mark-test ∙ eq-eqb (unbe (part b 0 4)) markNumber (sym ex ∙ x₀)) ∙ (sym (zero-test b zeroOffset bytes (omega arith)) ∙ eq-eqb (unbe (part b zeroOffset 1)) 0 (sym ey ∙ y₀))))
+  by-zero t x e h k = ap (λ (n : ℕ). eqb n 0) k ∙ zero-test b zeroOffset bytes (omega arith) ∙ sym (and-yes _ (sym e ∙ not-false t h))
 
 -- the header
 

@@ -1,4 +1,4 @@
--- Bytes and images determine each other: what was written is read back, and bytes of a table's length and constants are what their image writes.
+-- Bytes and images determine each other: what was written is read back, and bytes of a table's length and constants are what their image and stock write.
 use Prim.Native.Nat.{ℕ, zero, suc, _+_, _-_, _*_, _^_, _≤_, _<_}
 use mathlib.Core.Path.{_≡_, sym, ap, ap₂, _∙_, subst}
 use mathlib.Core.List.{List, _++_}
@@ -11,10 +11,10 @@ use Rattle.bigendian.specs.BigEndian.{unbe}
 use Rattle.bigendian.proofs.Laws.{unbe-be, unbe-part-lt}
 use Rattle.layout.specs.Image.{Image, slotAt, rowAt, freshRow, freeSlot}
 use Rattle.layout.specs.Lists.{tabulate, flat}
-use Rattle.layout.specs.Layout.{headerSize, rowSize, slotSize, freeOffset, zeroOffset, zerosOffset, rowOffset, cellOffset, slotOffset, padOffset, tableSize, logsOf, slotsOf, keeperOf, freeOf, keyOf, readRow, rowBytes, readSlot, slotBytes, rowsOf, cellsOf, readTable, headerBytes, writeTable}
-use Rattle.layout.specs.Fits.{RowFits, SlotFits, Fits, Formed}
+use Rattle.layout.specs.Layout.{Stock, headerSize, rowSize, slotSize, freeOffset, zeroOffset, countOffset, rowOffset, cellOffset, slotOffset, padOffset, tableSize, logsOf, slotsOf, keeperOf, freeOf, keyOf, readRow, rowBytes, readSlot, slotBytes, rowsOf, cellsOf, readTable, stockOf, headerBytes, writeWith}
+use Rattle.layout.specs.Fits.{RowFits, SlotFits, StockFits, Fits, Formed}
 use Rattle.layout.proofs.ListLaws.{length-tabulate, getD-tabulate, tabulate-ext, tabulate-getD, every-tabulate, length-flat, part-flat, flat-tabulate}
-use Rattle.layout.proofs.FieldLaws.{length-rowBytes, length-slotBytes, length-headerBytes, skip, read-row, write-row, read-slot, write-slot, pad-written, mark-header, logs-header, zero-header, slots-header, keeper-header, free-header, zeros-header, key-header, write-header}
+use Rattle.layout.proofs.FieldLaws.{length-rowBytes, length-slotBytes, length-headerBytes, skip, read-row, write-row, read-slot, write-slot, pad-written, mark-header, logs-header, zero-header, slots-header, keeper-header, free-header, count-header, key-header, write-header}
 use Rattle.octets.proofs.Zeros.{length-zeros}
 
 -- one row or slot of the image of bytes
@@ -41,9 +41,9 @@ slot-read b (suc i) h k =
 
 -- what is written
 
-module _ (m : Image) (h : Fits m) where
-  pub length-header : length (headerBytes (length (m .rows)) (length (m .slots)) (m .keeper) (m .free) (m .key)) ≡ headerSize
-  length-header = length-headerBytes (length (m .rows)) (length (m .slots)) (m .keeper) (m .free) (m .key) (h .key)
+module _ (stock : Stock) (m : Image) (h : Fits m) where
+  pub length-header : length (headerBytes (length (m .rows)) (length (m .slots)) (m .keeper) (m .free) stock (m .key)) ≡ headerSize
+  length-header = length-headerBytes (length (m .rows)) (length (m .slots)) (m .keeper) (m .free) stock (m .key) (h .key)
 
   pub slot-lengths : (i : ℕ) → length (slotBytes (getD (m .slots) i (freeSlot 0))) ≡ slotSize
   slot-lengths i = length-slotBytes (getD (m .slots) i (freeSlot 0)) (h .slots i)
@@ -55,82 +55,86 @@ module _ (m : Image) (h : Fits m) where
   length-slots-written = length-flat slotBytes slotSize (freeSlot 0) (m .slots) slot-lengths
 
   -- "The length is 52 + 20G + 76S exactly"
-  pub length-write : length (writeTable m) ≡ tableSize (length (m .rows)) (length (m .slots))
-  unfolding writeTable
+  pub length-write : length (writeWith stock m) ≡ tableSize (length (m .rows)) (length (m .slots))
+  unfolding writeWith
   length-write = simp (length-append, length-header, length-rows-written, length-slots-written) (omega arith)
 
   -- a part of the header, a row and a slot of what was written
-  header-written : (a n : ℕ) → a + n ≤ headerSize → part (writeTable m) a n ≡ part (headerBytes (length (m .rows)) (length (m .slots)) (m .keeper) (m .free) (m .key)) a n
-  unfolding writeTable
+  header-written : (a n : ℕ) → a + n ≤ headerSize → part (writeWith stock m) a n ≡ part (headerBytes (length (m .rows)) (length (m .slots)) (m .keeper) (m .free) stock (m .key)) a n
+  unfolding writeWith
   header-written a n k =
-      part-append-left (headerBytes (length (m .rows)) (length (m .slots)) (m .keeper) (m .free) (m .key)) (flat rowBytes (m .rows) ++ flat slotBytes (m .slots)) a n (omega (arith, length-header))
+      part-append-left (headerBytes (length (m .rows)) (length (m .slots)) (m .keeper) (m .free) stock (m .key)) (flat rowBytes (m .rows) ++ flat slotBytes (m .slots)) a n (omega (arith, length-header))
 
-  row-written : (g : ℕ) → g < length (m .rows) → part (writeTable m) (rowOffset g) rowSize ≡ rowBytes (rowAt (m .rows) g)
-  unfolding writeTable
+  row-written : (g : ℕ) → g < length (m .rows) → part (writeWith stock m) (rowOffset g) rowSize ≡ rowBytes (rowAt (m .rows) g)
+  unfolding writeWith
   row-written g k =
-      skip (headerBytes (length (m .rows)) (length (m .slots)) (m .keeper) (m .free) (m .key)) (flat rowBytes (m .rows) ++ flat slotBytes (m .slots)) headerSize (rowSize * g) rowSize length-header
+      skip (headerBytes (length (m .rows)) (length (m .slots)) (m .keeper) (m .free) stock (m .key)) (flat rowBytes (m .rows) ++ flat slotBytes (m .slots)) headerSize (rowSize * g) rowSize length-header
       ∙ part-append-left (flat rowBytes (m .rows)) (flat slotBytes (m .slots)) (rowSize * g) rowSize (omega (arith, length-rows-written))
       ∙ part-flat rowBytes rowSize freshRow (m .rows) g (λ i. length-rowBytes (getD (m .rows) i freshRow)) k
 
-  slot-written : (i : ℕ) → i < length (m .slots) → part (writeTable m) (cellOffset (length (m .rows)) i) slotSize ≡ slotBytes (getD (m .slots) i (freeSlot 0))
-  unfolding writeTable
+  slot-written : (i : ℕ) → i < length (m .slots) → part (writeWith stock m) (cellOffset (length (m .rows)) i) slotSize ≡ slotBytes (getD (m .slots) i (freeSlot 0))
+  unfolding writeWith
   slot-written i k =
-      let header : List ℕ = headerBytes (length (m .rows)) (length (m .slots)) (m .keeper) (m .free) (m .key) in
+      let header : List ℕ = headerBytes (length (m .rows)) (length (m .slots)) (m .keeper) (m .free) stock (m .key) in
       let e : cellOffset (length (m .rows)) i ≡ headerSize + (rowSize * length (m .rows) + slotSize * i) = omega arith in
       ap (λ (a : ℕ). part (header ++ (flat rowBytes (m .rows) ++ flat slotBytes (m .slots))) a slotSize) e
       ∙ skip header (flat rowBytes (m .rows) ++ flat slotBytes (m .slots)) headerSize (rowSize * length (m .rows) + slotSize * i) slotSize length-header
       ∙ skip (flat rowBytes (m .rows)) (flat slotBytes (m .slots)) (rowSize * length (m .rows)) (slotSize * i) slotSize length-rows-written
       ∙ part-flat slotBytes slotSize (freeSlot 0) (m .slots) i slot-lengths k
 
-  pub logs-written : logsOf (writeTable m) ≡ length (m .rows)
+  pub logs-written : logsOf (writeWith stock m) ≡ length (m .rows)
   unfolding logsOf
-  logs-written = ap unbe (header-written 4 1 (omega arith) ∙ logs-header _ _ _ _ _) ∙ unbe-be 1 (length (m .rows)) (h .logs)
+  logs-written = ap unbe (header-written 4 1 (omega arith) ∙ logs-header _ _ _ _ _ _) ∙ unbe-be 1 (length (m .rows)) (h .logs)
 
-  pub slots-written : slotsOf (writeTable m) ≡ length (m .slots)
+  pub slots-written : slotsOf (writeWith stock m) ≡ length (m .slots)
   unfolding slotsOf
-  slots-written = ap unbe (header-written 6 2 (omega arith) ∙ slots-header _ _ _ _ _) ∙ unbe-be 2 (length (m .slots)) (h .count)
+  slots-written = ap unbe (header-written 6 2 (omega arith) ∙ slots-header _ _ _ _ _ _) ∙ unbe-be 2 (length (m .slots)) (h .count)
 
-  rows-written : rowsOf (writeTable m) ≡ m .rows
+  rows-written : rowsOf (writeWith stock m) ≡ m .rows
   unfolding rowsOf
   rows-written =
-      ap (λ (k : ℕ). tabulate k (λ g. readRow (part (writeTable m) (rowOffset g) rowSize))) logs-written
-      ∙ tabulate-ext (length (m .rows)) (λ g. readRow (part (writeTable m) (rowOffset g) rowSize)) (λ g. rowAt (m .rows) g) (λ g k. ap readRow (row-written g k) ∙ read-row (rowAt (m .rows) g) (h .rows g))
+      ap (λ (k : ℕ). tabulate k (λ g. readRow (part (writeWith stock m) (rowOffset g) rowSize))) logs-written
+      ∙ tabulate-ext (length (m .rows)) (λ g. readRow (part (writeWith stock m) (rowOffset g) rowSize)) (λ g. rowAt (m .rows) g) (λ g k. ap readRow (row-written g k) ∙ read-row (rowAt (m .rows) g) (h .rows g))
       ∙ tabulate-getD (m .rows) freshRow
 
-  cells-written : cellsOf (writeTable m) ≡ m .slots
+  cells-written : cellsOf (writeWith stock m) ≡ m .slots
   unfolding cellsOf
   cells-written =
-      ap₂ (λ (s k : ℕ). tabulate s (λ i. readSlot (part (writeTable m) (cellOffset k i) slotSize))) slots-written logs-written
-      ∙ tabulate-ext (length (m .slots)) (λ i. readSlot (part (writeTable m) (cellOffset (length (m .rows)) i) slotSize)) (λ i. getD (m .slots) i (freeSlot 0)) (λ i k. ap readSlot (slot-written i k) ∙ read-slot (getD (m .slots) i (freeSlot 0)) (h .slots i))
+      ap₂ (λ (s k : ℕ). tabulate s (λ i. readSlot (part (writeWith stock m) (cellOffset k i) slotSize))) slots-written logs-written
+      ∙ tabulate-ext (length (m .slots)) (λ i. readSlot (part (writeWith stock m) (cellOffset (length (m .rows)) i) slotSize)) (λ i. getD (m .slots) i (freeSlot 0)) (λ i k. ap readSlot (slot-written i k) ∙ read-slot (getD (m .slots) i (freeSlot 0)) (h .slots i))
       ∙ tabulate-getD (m .slots) (freeSlot 0)
 
   -- an image that fits is read back
-  pub read-write : readTable (writeTable m) ≡ m
+  pub read-with : readTable (writeWith stock m) ≡ m
   unfolding readTable keeperOf keyOf freeOf
-  read-write =
+  read-with =
       λ i. record {
-        keeper = (ap unbe (header-written 8 8 (omega arith) ∙ keeper-header _ _ _ _ _) ∙ unbe-be 8 (m .keeper) (h .keeper)) i;
-        key = (header-written 20 32 (omega arith) ∙ key-header _ _ _ _ _ (h .key)) i;
-        free = (ap unbe (header-written freeOffset 2 (omega arith) ∙ free-header _ _ _ _ _) ∙ unbe-be 2 (m .free) (h .free)) i;
+        keeper = (ap unbe (header-written 8 8 (omega arith) ∙ keeper-header _ _ _ _ _ _) ∙ unbe-be 8 (m .keeper) (h .keeper)) i;
+        key = (header-written 20 32 (omega arith) ∙ key-header _ _ _ _ _ _ (h .key)) i;
+        free = (ap unbe (header-written freeOffset 2 (omega arith) ∙ free-header _ _ _ _ _ _) ∙ unbe-be 2 (m .free) (h .free)) i;
         rows = rows-written i;
         slots = cells-written i;
       }
 
-  -- and has a table's length and constants
-  pub formed-write : Formed (writeTable m)
-  formed-write =
+  -- and so is a stock
+  pub stock-with : StockFits stock → stockOf (writeWith stock m) ≡ stock
+  unfolding stockOf
+  stock-with k = λ i. record { count = (ap unbe (header-written countOffset 2 (omega arith) ∙ count-header _ _ _ _ _ _) ∙ unbe-be 2 (stock .count) (k .count)) i }
+
+  -- and the bytes have a table's length and constants
+  pub formed-with : Formed (writeWith stock m)
+  formed-with =
       record {
-        marked = header-written 0 4 (omega arith) ∙ mark-header _ _ _ _ _;
-        zero = header-written zeroOffset 1 (omega arith) ∙ zero-header _ _ _ _ _;
-        zeroes = header-written zerosOffset 2 (omega arith) ∙ zeros-header _ _ _ _ _;
+        marked = header-written 0 4 (omega arith) ∙ mark-header _ _ _ _ _ _;
+        zero = header-written zeroOffset 1 (omega arith) ∙ zero-header _ _ _ _ _ _;
         pads = λ i k. pad i (omega (arith, slots-written));
         sized = length-write ∙ sym (ap₂ tableSize logs-written slots-written);
       }
     where
-      pad : (i : ℕ) → i < length (m .slots) → part (writeTable m) (padOffset (logsOf (writeTable m)) i) 1 ≡ zeros 1
+      pad : (i : ℕ) → i < length (m .slots) → part (writeWith stock m) (padOffset (logsOf (writeWith stock m)) i) 1 ≡ zeros 1
       pad i k =
-          ap (λ (g : ℕ). part (writeTable m) (padOffset g i) 1) logs-written
-          ∙ sym (part-part (writeTable m) (cellOffset (length (m .rows)) i) slotSize 1 1 (omega arith))
+          ap (λ (g : ℕ). part (writeWith stock m) (padOffset g i) 1) logs-written
+          ∙ sym (part-part (writeWith stock m) (cellOffset (length (m .rows)) i) slotSize 1 1 (omega arith))
           ∙ ap (λ (l : List ℕ). part l 1 1) (slot-written i k)
           ∙ pad-written (getD (m .slots) i (freeSlot 0))
 
@@ -176,20 +180,20 @@ module _ (b : List ℕ) (bytes : Bytes b) (h : Formed b) where
       flat-tabulate slotBytes slotSize (freeSlot 0) b (slotsOf b) (rowOffset (logsOf b)) (λ i. readSlot (part b (cellOffset (logsOf b) i) slotSize))
       (λ i k. write-slot (part b (cellOffset (logsOf b) i) slotSize) (bytes-part b (cellOffset (logsOf b) i) slotSize bytes) (cell-size i k) (part-part b (cellOffset (logsOf b) i) slotSize 1 1 (omega arith) ∙ h .pads i k))
 
-  header-read : headerBytes (logsOf b) (slotsOf b) (keeperOf b) (freeOf b) (keyOf b) ≡ part b 0 headerSize
-  unfolding logsOf slotsOf keeperOf freeOf keyOf
-  header-read = write-header b bytes (omega (arith, h .sized)) (h .marked) (h .zero) (h .zeroes)
+  header-read : headerBytes (logsOf b) (slotsOf b) (keeperOf b) (freeOf b) (stockOf b) (keyOf b) ≡ part b 0 headerSize
+  unfolding logsOf slotsOf keeperOf freeOf stockOf keyOf
+  header-read = write-header b bytes (omega (arith, h .sized)) (h .marked) (h .zero)
 
-  -- bytes of a table's length and constants are what their image writes
-  pub write-read : writeTable (readTable b) ≡ b
-  unfolding writeTable readTable
+  -- bytes of a table's length and constants are what their image and stock write
+  pub write-read : writeWith (stockOf b) (readTable b) ≡ b
+  unfolding writeWith readTable
   write-read =
-      ap₂ (λ (g s : ℕ). headerBytes g s (keeperOf b) (freeOf b) (keyOf b) ++ (flat rowBytes (rowsOf b) ++ flat slotBytes (cellsOf b))) (length-rows b) (length-slots b)
+      ap₂ (λ (g s : ℕ). headerBytes g s (keeperOf b) (freeOf b) (stockOf b) (keyOf b) ++ (flat rowBytes (rowsOf b) ++ flat slotBytes (cellsOf b))) (length-rows b) (length-slots b)
       ∙ ap₂ _++_ header-read (ap₂ _++_ rows-read cells-read ∙ sym (part-add b headerSize (rowSize * logsOf b) (slotSize * slotsOf b)))
       ∙ sym (part-add b 0 headerSize (rowSize * logsOf b + slotSize * slotsOf b))
       ∙ take-all (headerSize + (rowSize * logsOf b + slotSize * slotsOf b)) b (omega (arith, h .sized))
 
-  -- and their image fits
+  -- their image fits
   pub fits-read : Fits (readTable b)
   unfolding readTable rowsOf cellsOf logsOf slotsOf keeperOf freeOf keyOf
   fits-read =
@@ -202,3 +206,8 @@ module _ (b : List ℕ) (bytes : Bytes b) (h : Formed b) where
         rows = every-tabulate RowFits (logsOf b) (λ g. readRow (part b (rowOffset g) rowSize)) freshRow fresh-fits (λ g k. row-fits (part b (rowOffset g) rowSize) (bytes-part b (rowOffset g) rowSize bytes));
         slots = every-tabulate SlotFits (slotsOf b) (λ i. readSlot (part b (cellOffset (logsOf b) i) slotSize)) (freeSlot 0) (free-fits 0 (omega arith)) (λ i k. slot-fits (part b (cellOffset (logsOf b) i) slotSize) (bytes-part b (cellOffset (logsOf b) i) slotSize bytes) (cell-size i k));
       }
+
+-- and so does their stock
+pub stock-read : (b : List ℕ) → Bytes b → StockFits (stockOf b)
+unfolding stockOf
+stock-read b h = record { count = unbe-part-lt b countOffset 2 h }

@@ -6,7 +6,7 @@ use lib.ListN.{length, getD}
 use Rattle.octets.specs.Octets.{part, zeros}
 use Rattle.layout.specs.declared.Row.{Row}
 use Rattle.layout.specs.Image.{Slot, Image, rowAt, freeSlot}
-use Rattle.layout.specs.Layout.{mark, zeroOffset, zerosOffset, logsOf, slotsOf, tableSize, padOffset}
+use Rattle.layout.specs.Layout.{Stock, mark, zeroOffset, logsOf, slotsOf, tableSize, padOffset}
 
 -- the row's numbers fit their fields
 pub record RowFits (r : Row) : Type 0 where
@@ -33,11 +33,14 @@ pub record Fits (m : Image) : Type 0 where
   pub rows : (g : ℕ) → RowFits (rowAt (m .rows) g)
   pub slots : (i : ℕ) → SlotFits (getD (m .slots) i (freeSlot 0))
 
--- document 01: "the length, constants and counts are as above", as far as a table's bytes follow from its image
+-- the number of free slots fits its field
+pub record StockFits (k : Stock) : Type 0 where
+  pub count : k .count < 256 ^ 2
+
+-- document 01: "the length, constants and counts are as above", as far as a table's bytes follow from its image and stock
 pub record Formed (b : List ℕ) : Type 0 where
   pub marked : part b 0 4 ≡ mark
   pub zero : part b zeroOffset 1 ≡ zeros 1
-  pub zeroes : part b zerosOffset 2 ≡ zeros 2
   pub pads : (i : ℕ) → i < slotsOf b → part b (padOffset (logsOf b) i) 1 ≡ zeros 1
   pub sized : length b ≡ tableSize (logsOf b) (slotsOf b)
 

@@ -18,9 +18,9 @@ pub record Plan : Type 0 where
 abbrev pub plan01 : Plan
 plan01 = record { mark = 65 ∷ 50 ∷ 77 ∷ 84 ∷ []; header = 52; row = 20 }
 
--- the present one
+-- the present one; request [1]: "Such tables begin A2MU instead of A2MT"
 abbrev pub plan : Plan
-plan = plan01
+plan = record { mark = 65 ∷ 50 ∷ 77 ∷ 85 ∷ []; header = 52; row = 20 }
 
 abbrev pub headerSize : ℕ
 headerSize = plan .header
@@ -37,7 +37,7 @@ mark = plan .mark
 
 -- the number that its bytes make (`CodeLaws: mark-four`)
 abbrev pub markNumber : ℕ
-markNumber = 0x41324D54
+markNumber = 0x41324D55
 
 -- "4 log count G"
 unfoldable pub logsOf : List ℕ → ℕ
@@ -57,6 +57,20 @@ freeOffset = 16
 
 unfoldable pub freeOf : List ℕ → ℕ
 freeOf b = unbe (part b freeOffset 2)
+
+-- what a header says of the free slots beside the first: a table's bytes have it, an image does not, for it follows from the free chain
+pub record Stock : Type 0 where
+  pub count : ℕ
+
+abbrev pub stocked : ℕ → Stock
+stocked n = record { count = n }
+
+-- request [1]: "Header bytes 18–19 hold the number" of free slots
+abbrev pub countOffset : ℕ
+countOffset = 18
+
+unfoldable pub stockOf : List ℕ → Stock
+stockOf b = stocked (unbe (part b countOffset 2))
 
 -- "20–51 key"
 unfoldable pub keyOf : List ℕ → List ℕ
@@ -87,12 +101,9 @@ tableSize logs slots = cellOffset logs slots
 abbrev pub largest : ℕ
 largest = tableSize 16 800
 
--- "5 zero": the header's first zero byte; "18–19 zero": the other two
+-- "5 zero": the header's zero byte
 abbrev pub zeroOffset : ℕ
 zeroOffset = 5
-
-abbrev pub zerosOffset : ℕ
-zerosOffset = 18
 
 -- "L (8), H (8), first slot (2), last slot (2)", read off a row's 20 bytes
 unfoldable pub readRow : List ℕ → Row
@@ -129,20 +140,21 @@ cellsOf b = tabulate (slotsOf b) (λ i. readSlot (part b (cellOffset (logsOf b) 
 unfoldable pub readTable : List ℕ → Image
 readTable b = record { keeper = keeperOf b; key = keyOf b; free = freeOf b; rows = rowsOf b; slots = cellsOf b }
 
--- "0–3 ASCII A2MT; 4 log count G; 5 zero; 6–7 slot count S"
+-- the mark; "4 log count G; 5 zero; 6–7 slot count S"
 abbrev pub countBytes : ℕ → ℕ → List ℕ
 countBytes logs slots = mark ++ (be 1 logs ++ (zeros 1 ++ be 2 slots))
 
--- "0–3 ASCII A2MT; 4 log count G; 5 zero; 6–7 slot count S; 8–15 keeper number; 16–17 first free slot, 0 if none; 18–19 zero; 20–51 key"
-unfoldable pub headerBytes : ℕ → ℕ → ℕ → ℕ → List ℕ → List ℕ
-headerBytes logs slots keeper free key =
-    mark ++ (be 1 logs ++ (zeros 1 ++ (be 2 slots ++ (be 8 keeper ++ (be 2 free ++ (zeros 2 ++ key))))))
+-- the mark; "4 log count G; 5 zero; 6–7 slot count S; 8–15 keeper number; 16–17 first free slot, 0 if none"; 18–19 number of free slots; "20–51 key"
+unfoldable pub headerBytes : ℕ → ℕ → ℕ → ℕ → Stock → List ℕ → List ℕ
+headerBytes logs slots keeper free stock key =
+    mark ++ (be 1 logs ++ (zeros 1 ++ (be 2 slots ++ (be 8 keeper ++ (be 2 free ++ (be 2 (stock .count) ++ key))))))
 
--- the bytes of an image: header, rows, slots
-unfoldable pub writeTable : Image → List ℕ
-writeTable m = headerBytes (length (m .rows)) (length (m .slots)) (m .keeper) (m .free) (m .key) ++ (flat rowBytes (m .rows) ++ flat slotBytes (m .slots))
+-- the bytes of an image with a stock: header, rows, slots. `table/specs/Free: writeTable` takes the stock that the image has
+unfoldable pub writeWith : Stock → Image → List ℕ
+writeWith stock m =
+    headerBytes (length (m .rows)) (length (m .slots)) (m .keeper) (m .free) stock (m .key) ++ (flat rowBytes (m .rows) ++ flat slotBytes (m .slots))
 
--- a table's bytes with another row of log g, another slot s, another next in slot s, another first free slot
+-- a table's bytes with another row of log g, another slot s, another next in slot s, another first free slot, another number of free slots
 unfoldable pub putRow : List ℕ → ℕ → Row → List ℕ
 putRow b g r = splice b (rowOffset g) (rowBytes r)
 
@@ -154,3 +166,6 @@ putNext b s n = splice b (nextOffset (logsOf b) s) (be 2 n)
 
 unfoldable pub putFree : List ℕ → ℕ → List ℕ
 putFree b f = splice b freeOffset (be 2 f)
+
+unfoldable pub putCount : List ℕ → ℕ → List ℕ
+putCount b n = splice b countOffset (be 2 n)

@@ -6,15 +6,19 @@ use lib.ListN.{length}
 use lib.Dec.{eqb, leb}
 use Rattle.octets.specs.Octets.{part, same, zeros}
 use Rattle.layout.specs.Image.{Slot}
-use Rattle.layout.specs.Layout.{mark, zeroOffset, zerosOffset, padOffset, logsOf, slotsOf, tableSize}
+use Rattle.layout.specs.Layout.{mark, zeroOffset, padOffset, logsOf, slotsOf, tableSize}
 
 -- "The keeper holds 1 to 16 logs over one shared pool of 1 to 800 slots."
 unfoldable pub inRange : ℕ → ℕ → Bool
 inRange logs slots = leb 1 logs && leb logs 16 && leb 1 slots && leb slots 800
 
--- "0–3 ASCII A2MT; .. 5 zero; .. 18–19 zero"
+-- request [1]: "that mark"
+abbrev pub marked : List ℕ → Bool
+marked b = same (part b 0 4) mark
+
+-- the mark; "5 zero"
 unfoldable pub constantsFit : List ℕ → Bool
-constantsFit b = same (part b 0 4) mark && same (part b zeroOffset 1) (zeros 1) && same (part b zerosOffset 2) (zeros 2)
+constantsFit b = marked b && same (part b zeroOffset 1) (zeros 1)
 
 -- "the length, constants and counts are as above", as far as the header holds them
 unfoldable pub headerFits : List ℕ → Bool

@@ -6,8 +6,8 @@ ghost use Rattle.octets.specs.Octets.{part, splice};
 ghost use Rattle.bigendian.specs.BigEndian.{be, unbe};
 ghost use Rattle.layout.specs.Layout.{rowOffset, slotOffset, tableSize};
 
-// The mark, "A2MT", as a big-endian number.
-pub const MARK: u32 = 0x4132_4D54;
+// The mark, "A2MU", as a big-endian number.
+pub const MARK: u32 = 0x4132_4D55;
 
 pub const HEADER: usize = 52;
 

@@ -13,8 +13,8 @@ use layout::places::table_size;
 ghost use mathlib.Core.Path.{_≡_};
 ghost use Prim.Native.Nat.{_≤_, _<_};
 ghost use lib.ListN.{length};
-ghost use Rattle.layout.specs.Layout.{headerSize, logsOf, slotsOf, keeperOf, freeOf, keyOf, countBytes, headerBytes, putFree};
-ghost use Rattle.layout.specs.Tests.{inRange, constantsFit, headerFits};
+ghost use Rattle.layout.specs.Layout.{headerSize, logsOf, slotsOf, keeperOf, freeOf, stockOf, stocked, keyOf, countBytes, headerBytes, putFree, putCount};
+ghost use Rattle.layout.specs.Tests.{inRange, marked, constantsFit, headerFits};
 ghost use Rattle.octets.specs.Octets.{splice};
 
 // The number of logs.
@@ -49,6 +49,14 @@ pub fn free_of(table: &[u8]) -> usize
     pair_at(table, 16)
 }
 
+// The number of free slots that the header names.
+pub fn count_of(table: &[u8]) -> usize
+    requires { ⌜ headerSize ≤ length (now table) ⌝ }
+    ensures { λ r. ⌜ (r ≡ stockOf (now (table .entry)) .count) × (r < 65536) ⌝ }
+{
+    pair_at(table, 18)
+}
+
 // The key, as a part of the table.
 pub fn key_of(table: &[u8]) -> &[u8]
     requires { ⌜ headerSize ≤ length (now table) ⌝ }
@@ -64,6 +72,15 @@ pub fn put_free(table: &mut [u8], free: usize)
     ensures { λ _. ⌜ now (table .exit) ≡ putFree (now (table .entry)) free ⌝ }
 {
     put_pair(table, 16, free);
+}
+
+// Another number of free slots.
+pub fn put_count(table: &mut [u8], count: usize)
+    requires { ⌜ headerSize ≤ length (now table) ⌝ }
+    requires { ⌜ count < 65536 ⌝ }
+    ensures { λ _. ⌜ now (table .exit) ≡ putCount (now (table .entry)) count ⌝ }
+{
+    put_pair(table, 18, count);
 }
 
 // The mark and the counts into the front of a table.
@@ -85,16 +102,17 @@ pub fn write_header(
     slots: usize,
     keeper: u64,
     free: usize,
+    count: usize,
     key: &[u8],
 )
     requires { ⌜ length (now part) ≡ headerSize ⌝ }
-    requires { ⌜ (logs < 256) × ((slots < 65536) × ((free < 65536) × (length (now key) ≡ 32))) ⌝ }
-    ensures { λ _. ⌜ now (part .exit) ≡ headerBytes logs slots keeper free (now (key .entry)) ⌝ }
+    requires { ⌜ (logs < 256) × ((slots < 65536) × ((free < 65536) × ((count < 65536) × (length (now key) ≡ 32)))) ⌝ }
+    ensures { λ _. ⌜ now (part .exit) ≡ headerBytes logs slots keeper free (stocked count) (now (key .entry)) ⌝ }
 {
     write_counts(part, logs, slots);
     put_u64(part, 8, keeper);
     put_pair(part, 16, free);
-    put_pair(part, 18, 0);
+    put_pair(part, 18, count);
     octets::put(part, 20, key);
 }
 
@@ -114,18 +132,23 @@ pub fn in_range(logs: u64, slots: u64) -> bool
     slots <= 800
 }
 
+// Whether the table begins with the mark.
+pub fn has_mark(table: &[u8]) -> bool
+    requires { ⌜ headerSize ≤ length (now table) ⌝ }
+    ensures { λ r. ⌜ r ≡ marked (now (table .entry)) ⌝ }
+{
+    get_u32(table, 0) == MARK
+}
+
 // Whether the header has its constants.
 fn constants_fit(table: &[u8]) -> bool
     requires { ⌜ headerSize ≤ length (now table) ⌝ }
     ensures { λ r. ⌜ r ≡ constantsFit (now (table .entry)) ⌝ }
 {
-    if get_u32(table, 0) != MARK {
+    if !has_mark(table) {
         return false;
     }
-    if byte_at(table, 5) != 0 {
-        return false;
-    }
-    pair_at(table, 18) == 0
+    byte_at(table, 5) == 0
 }
 
 // Whether the header has its constants and counts in range, and the table the length that they give.

@@ -10,7 +10,7 @@ use native.Mathlib.Omega.{arith}
 use lib.ListN.{length, getD, take}
 use Rattle.octets.specs.Octets.{zeros}
 use Rattle.octets.proofs.Zeros.{length-zeros}
-use Rattle.receipt.specs.Answer.{answer}
+use Rattle.refusal.specs.Answer.{answer}
 use Rattle.receipt.specs.Attestation.{Attestation, LOOKUP, END}
 use Rattle.receipt.specs.Verdict.{carried, verdict}
 use Rattle.receipt.specs.declared.Ask.the-variants.{Lookup, End}

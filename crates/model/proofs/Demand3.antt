@@ -1,6 +1,6 @@
 -- Demand 3, its part on lists of calls, whole: for every accepted format and every list of calls on the table that it wrote, each call getting the table
 -- as the last one left it.
-use Prim.Native.Nat.{ℕ, _^_, _<_}
+use Prim.Native.Nat.{ℕ, _+_, _^_, _<_}
 use mathlib.Core.Path.{_≡_}
 use mathlib.Core.List.{List, []}
 use mathlib.Core.Bool.{true, not, _&&_}
@@ -11,7 +11,8 @@ use borrow.Author.Tests.{eqb-true, not-false}
 use Rattle.octets.proofs.Tests.{and-left}
 use Rattle.refusal.specs.Order.{afterwards}
 use Rattle.refusal.proofs.OrderLaws.{peel}
-use Rattle.layout.specs.Layout.{tableSize, readTable, writeTable}
+use Rattle.layout.specs.Layout.{tableSize, readTable, stockOf}
+use Rattle.table.specs.Free.{writeTable}
 use Rattle.table.specs.Whole.{whole}
 use Rattle.layout.specs.Tests.{inRange}
 use Rattle.table.specs.Format.{formatted, formatRefusal, formatBytes}
@@ -21,11 +22,11 @@ use Rattle.table.proofs.FormattedLaws.{formatted-fits}
 use Rattle.a2m.specs.Call.{Call, AllWide, replies, after}
 use Rattle.a2m.specs.TableCalls.{tableStep}
 use Rattle.model.specs.Log.{freshLog}
-use Rattle.model.specs.Model.{rules, newModel}
+use Rattle.model.specs.Model.{rules, newModel, total, modelStep}
 use Rattle.model.specs.Claim.{by, ListClaim}
 use Rattle.model.proofs.ImageClaim.{new-keeps}
 use Rattle.model.proofs.Fresh.{formatted-rep, fresh-sound}
-use Rattle.model.proofs.TableClaim.{Stands, table-claim, table-whole}
+use Rattle.model.proofs.TableClaim.{Stands, table-claim, table-whole, table-count}
 
 module _ (lent : List ℕ) (G S keeper : ℕ) (key : List ℕ) (k64 : keeper < 2 ^ 64) (accepted : formatRefusal (length lent) G S (length key) ≡ none) where
   in-counts : Range G S
@@ -59,3 +60,7 @@ module _ (lent : List ℕ) (G S keeper : ℕ) (key : List ℕ) (k64 : keeper < 2
   -- the table is whole before and after each call
   pub staysWhole : (cs : List Call) → AllWide cs → whole (after tableStep (formatBytes lent G S keeper key) cs) ≡ true
   staysWhole cs w = rw bytes-are (table-whole (formatted G S keeper key) (newModel G S keeper key) stands cs w)
+
+  -- request [1]: the number on the status screen and the entries of the plain book make S after every list of calls
+  pub countAlong : (cs : List Call) → AllWide cs → stockOf (after tableStep (formatBytes lent G S keeper key) cs) .count + total (after (modelStep rules) (newModel G S keeper key) cs .logs) ≡ S
+  countAlong cs w = rw bytes-are (table-count (formatted G S keeper key) (newModel G S keeper key) stands cs w)

@@ -11,6 +11,7 @@ pub mod Later
 pub mod Lookups
 pub mod MarkedSet
 pub mod MarkedTable
+pub mod OfTable
 pub mod OfWhole
 pub mod Once
 pub mod Passed

@@ -7,8 +7,9 @@ use lib.ListN.{length}
 use lib.Dec.{lit<}
 use Rattle.octets.specs.Octets.{zeros}
 use Rattle.layout.specs.Image.{Image}
-use Rattle.layout.specs.Layout.{readTable, writeTable}
-use Rattle.layout.proofs.TableLaws.{read-write}
+use Rattle.layout.specs.Layout.{readTable}
+use Rattle.table.specs.Free.{writeTable}
+use Rattle.table.proofs.WholeLaws.{read-write}
 use Rattle.table.specs.Format.{formatted, formatRefusal, formatBytes}
 use Rattle.a2m.specs.Call.{Call, AllWide, logOf, Effect, numbered}
 use Rattle.a2m.specs.ImageCalls.{rowIn, imageStep}

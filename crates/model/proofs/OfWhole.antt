@@ -9,26 +9,17 @@ use lib.ListN.{length, length-append, length-map, List·getD-eq-default}
 use lib.Seq.{ext-getD}
 use lib.Dec.{ltb}
 use borrow.Author.Tests.{ltb-true, ltb-false}
-use Rattle.octets.specs.Octets.{Bytes}
 use Rattle.layout.specs.declared.Row.{Row}
 use Rattle.layout.specs.Lists.{tabulate}
 use Rattle.layout.specs.Image.{Image, entryOf, slotAt, freshRow}
-use Rattle.layout.specs.Layout.{readTable}
 use Rattle.layout.proofs.ListLaws.{length-tabulate, getD-tabulate}
-use Rattle.layout.proofs.TableLaws.{length-rows, length-slots, write-read, fits-read, read-write}
 use Rattle.table.specs.Chains.{chain, lastOf, entriesOf}
 use Rattle.table.specs.Free.{freeChain}
-use Rattle.layout.specs.Fits.{Range}
-use Rattle.table.specs.Whole.{whole}
-use Rattle.table.proofs.WholeLaws.{whole-formed, whole-range, whole-image}
 use Rattle.table.specs.WholeImage.{heldBy, meets, wholeImage}
-use Rattle.a2m.specs.Call.{Call, Wide, Effect, effect}
+use Rattle.a2m.specs.Call.{Call, Effect}
 use Rattle.a2m.specs.ImageCalls.{rowIn, entriesIn, imageStep}
-use Rattle.a2m.specs.TableCalls.{written, tableStep}
 use Rattle.a2m.proofs.Links.{chain-links}
-use Rattle.a2m.proofs.FitsAfter.{step-fits}
 use Rattle.a2m.proofs.WholeChains.{RowChain, log-chain, free-links, free-blank, sum-meets}
-use Rattle.a2m.proofs.Written.{step-written}
 use Rattle.model.specs.Log.{Log, freshLog}
 use Rattle.model.specs.Model.{rules, Model, logAt, total, modelStep}
 use Rattle.model.specs.ModelOf.{logIn, modelOf}
@@ -103,9 +94,9 @@ rep-model m b R =
     (λ (g : ℕ) (h : g < length (tabulate (length (m .rows)) (logIn m))). log-in m g ∙ (λ i. record { low = R .rows g .low i; high = R .rows g .high i; entries = entries-are m b R g i })) in
     λ i. record { size = R .size i; keeper = R .keeper i; key = R .key i; logs = logs i }
 
--- ---- calls on a whole table
+-- ---- calls on a whole image
 
--- a call answers as the model, leaves a table that says the model after, and that is whole
+-- a call answers as the model, leaves an image that says the model after, and that is whole
 pub record Follows (m : Image) (call : Call) (o : Effect Image) : Type 0 where
   pub reply : o .reply ≡ modelStep rules (modelOf m) call .reply
   pub model : modelOf (o .state) ≡ modelStep rules (modelOf m) call .state
@@ -119,13 +110,3 @@ whole-step m w call =
       model = rep-model (imageStep m call .state) (modelStep rules (modelOf m) call .state) (a .state);
       whole = whole-of (imageStep m call .state) (modelStep rules (modelOf m) call .state) (a .state) (step-sound rules (modelOf m) (model-sound m w) call);
     }
-
--- the same of bytes
-pub table-step : (b : List ℕ) → Bytes b → whole b ≡ true → (call : Call) → Wide call
-    → Follows (readTable b) call (effect (tableStep b call .reply) (readTable (tableStep b call .state)))
-table-step b h w call wide =
-    let m = readTable b in
-    let f = fits-read b h (whole-formed b w) in
-    let counts : Range (length (m .rows)) (length (m .slots)) = rw (length-rows b, length-slots b) (whole-range b w) in
-    let e : tableStep b call ≡ written (imageStep m call) = ap (λ (x : List ℕ). tableStep x call) (sym (write-read b h (whole-formed b w))) ∙ step-written m f counts call in
-    rw (e, read-write (imageStep m call .state) (step-fits m f call wide)) (whole-step m (whole-image b w) call)

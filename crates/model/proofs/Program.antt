@@ -7,7 +7,8 @@ use mathlib.Core.Bool.{true}
 use mathlib.Core.Option.{Option, none, some}
 use lib.ListN.{length}
 use Rattle.layout.specs.Image.{Image}
-use Rattle.layout.specs.Layout.{readTable, writeTable}
+use Rattle.layout.specs.Layout.{readTable}
+use Rattle.table.specs.Free.{writeTable}
 use Rattle.table.specs.Format.{formatted, formatRefusal, formatBytes}
 use Rattle.table.specs.Whole.{whole}
 use Rattle.a2m.specs.Call.{Call, append, advance, truncate, lookup, end, AllWide, Reply, Effect, replies, after}

@@ -1,29 +1,31 @@
 -- Demand 3 on bytes: along every list of calls the table's bytes are those of the image, so what holds of images holds of them.
-use Prim.Native.Nat.{ℕ, _≤_}
+use Prim.Native.Nat.{ℕ, _+_, _≤_}
 use mathlib.Core.Path.{_≡_, refl, sym, ap, subst, _∙_}
 use mathlib.Core.List.{List, [], _∷_, _++_}
 use mathlib.Core.Bool.{true}
+use native.Mathlib.Omega.{arith}
 use lib.ListN.{length}
 use Rattle.layout.specs.Image.{Image}
-use Rattle.layout.specs.Layout.{readTable, writeTable}
+use Rattle.layout.specs.Layout.{Stock, readTable, stockOf}
+use Rattle.table.specs.Free.{freeChain, writeTable}
 use Rattle.layout.specs.Fits.{Fits}
-use Rattle.layout.proofs.TableLaws.{read-write}
 use Rattle.layout.specs.Fits.{Range}
 use Rattle.table.specs.Whole.{whole}
-use Rattle.table.proofs.WholeLaws.{written-whole}
+use Rattle.table.proofs.WholeLaws.{read-write, stock-write, written-whole}
 use Rattle.a2m.specs.Call.{Call, AllWide, Reply, replies, after}
 use Rattle.a2m.specs.ImageCalls.{imageStep}
 use Rattle.a2m.specs.TableCalls.{tableStep}
+use Rattle.a2m.proofs.Links.{chain-links}
 use Rattle.a2m.proofs.FitsAfter.{step-fits}
 use Rattle.a2m.proofs.Written.{step-written}
-use Rattle.model.specs.Model.{rules, Model, modelStep}
+use Rattle.model.specs.Model.{rules, Model, total, modelStep}
 use Rattle.model.specs.Claim.{Turn, by, modelTurn, ListClaim}
 use Rattle.model.proofs.Represents.{Rep, Sound}
 use Rattle.model.proofs.WholeOf.{whole-of}
 use Rattle.model.proofs.Step.{step-agrees}
 use Rattle.model.proofs.Sound.{step-sound}
 use Rattle.model.proofs.Along.{Keeps, step-fixed, after-fixed}
-use Rattle.model.proofs.Turns.{Each}
+use Rattle.model.proofs.Turns.{Each, after-by}
 use Rattle.model.proofs.ImageClaim.{Proper, image-claim}
 
 -- bytes of an image that says a sound model, all within their fields
@@ -78,3 +80,14 @@ table-whole m b s cs w =
     let W = list-written m b s cs w in
     let t = W .stands in
     ap whole (W .bytes) ∙ written-whole (after imageStep m cs) (t .fits) (in-range _ _ t) ∙ whole-of (after imageStep m cs) (after (modelStep rules) b cs) (t .says) (t .sound)
+
+-- request [1], "each call keeps it true": the number that the bytes hold, and the entries of all logs, make the slots
+pub table-count : (m : Image) (b : Model) → Stands m b → (cs : List Call) → AllWide cs → stockOf (after tableStep (writeTable m) cs) .count + total (after (modelStep rules) b cs .logs) ≡ b .size
+table-count m b s cs w =
+    let W = list-written m b s cs w in
+    let t = W .stands in
+    let M = after imageStep m cs in
+    let number : stockOf (after tableStep (writeTable m) cs) .count ≡ length (freeChain M) = ap (λ (l : List ℕ). stockOf l .count) (W .bytes) ∙ ap (λ (k : Stock). k .count) (stock-write M (t .fits)) in
+    let queue : length (freeChain M) ≡ length (t .says .queue) = ap length (chain-links (M .slots) 0 (M .free) (t .says .queue) (t .says .free .links)) in
+    let size : after (modelStep rules) b cs .size ≡ b .size = ap (λ (x : Model). x .size) (sym (after-by rules b cs)) ∙ after-fixed b (by rules cs) .size in
+    omega (arith, number, queue, t .says .sum, t .says .size, size)

@@ -10,7 +10,7 @@ use lib.ListN.{length}
 use borrow.Author.Tests.{eqb-false, not-false}
 use Rattle.octets.specs.Octets.{Bytes}
 use Rattle.octets.proofs.Zeros.{length-zeros}
-use Rattle.receipt.specs.Answer.{answer}
+use Rattle.refusal.specs.Answer.{answer}
 use Rattle.receipt.specs.Verdict.{carried, verdict}
 use Rattle.layout.specs.Image.{Entry, Image, entryOf, slotAt}
 use Rattle.layout.specs.Layout.{readTable}
@@ -34,7 +34,8 @@ use Rattle.model.specs.Question.{questionOf, nonceOf, valuesIn, valuesOf
 use Rattle.model.proofs.Represents.{LogOk}
 use Rattle.model.proofs.Lookups.{foundAs, lookup-is}
 use Rattle.model.proofs.Along.{Keeps}
-use Rattle.model.proofs.OfWhole.{log-in, model-sound, table-step}
+use Rattle.model.proofs.OfWhole.{log-in, model-sound}
+use Rattle.model.proofs.OfTable.{table-step}
 use Rattle.model.proofs.Accepted.{attests, step-verified}
 
 -- ---- the model that a whole table says keeps what the verifier asks

@@ -7,7 +7,7 @@ use mathlib.Core.Option.{Option, some, Option·map}
 use mathlib.Core.Bool.{cond}
 use lib.ListN.{length, getD, take, getElem?}
 use lib.Dec.{eqb}
-use Rattle.receipt.specs.Answer.{answer}
+use Rattle.refusal.specs.Answer.{answer}
 use Rattle.receipt.specs.Attestation.{readAttestation}
 use Rattle.receipt.specs.Verdict.{verdict}
 use Rattle.layout.specs.Image.{Image}

@@ -17,9 +17,9 @@ use Rattle.octets.specs.Octets.{Bytes, same}
 use Rattle.octets.proofs.Tests.{and-left, and-right, and-both, or-left, or-right, or-cases, equal-or-not}
 use Rattle.octets.proofs.Parts.{bytes-part}
 use Rattle.octets.proofs.Same.{same-eq, eq-same, same-not}
-use Rattle.receipt.specs.Answer.{Answer, answer}
+use Rattle.refusal.specs.Answer.{Answer, answer}
 use Rattle.receipt.specs.Attestation.{receiptSize}
-use Rattle.receipt.proofs.AnswerLaws.{no-fault}
+use Rattle.refusal.proofs.AnswerLaws.{no-fault}
 use Rattle.quorum.specs.Bits.{countBelow, maskBelow}
 use Rattle.quorum.specs.Roster.{size, isRoster, IsRoster, distinct, majority}
 use Rattle.quorum.specs.Certificate.{receiptCount, isCertificate, receiptAt, pairAt, isNone, goodBy, showsIn, shows, certified, goodAt, firstOf, firstPlace, named, certificateRefusal, certificate, Admitted, GoodBy, GenuineBy, GoodAt, Shows, Members, Certified, Named, NamesExactly, Consistent}

@@ -14,7 +14,7 @@ use Rattle.refusal.specs.Number.{numberOf}
 use Rattle.refusal.specs.declared.Refusal.{Refusal}
 use Rattle.refusal.specs.declared.Outcome.the-variants.{Done, Refused as Turned}
 use Rattle.refusal.proofs.NumberLaws.{outcomeNumber-injective}
-use Rattle.receipt.specs.Answer.{Answer, answer}
+use Rattle.refusal.specs.Answer.{Answer, answer}
 use Rattle.receipt.specs.Attestation.{Attestation, readAttestation}
 use Rattle.receipt.specs.Verdict.{verdict, carried, answers}
 use Rattle.receipt.specs.declared.Question.{Question}

@@ -4,7 +4,7 @@ use native.Mathlib.Omega.{arith}
 use mathlib.Core.Path.{_≡_, ap}
 use mathlib.Core.List.{List, [], _∷_}
 use Rattle.refusal.proofs.NumberLaws.{numberOf-injective}
-use Rattle.receipt.specs.Answer.{Answer}
+use Rattle.refusal.specs.Answer.{Answer}
 use Rattle.quorum.specs.Certificate.{stationAnswer}
 use Rattle.quorum.specs.declared.Station.{Station}
 use Rattle.quorum.specs.declared.Station.the-variants.{Certified, Refused}

@@ -15,7 +15,7 @@ use borrow.Author.Tests.{eq-eqb, ne-eqb, le-leb, lt-leb, eqb-true, leb-true}
 use Rattle.octets.specs.Octets.{same}
 use Rattle.octets.proofs.Tests.{equal-or-not, and-left, and-right, and-both}
 use Rattle.refusal.specs.Order.{firstFault}
-use Rattle.receipt.specs.Answer.{Answer, answer, answerWith}
+use Rattle.refusal.specs.Answer.{Answer, answer, answerWith}
 use Rattle.receipt.specs.Attestation.{receiptSize}
 use Rattle.quorum.specs.Bits.{anyBelow, maskBelow}
 use Rattle.quorum.specs.Roster.{size, isRoster, distinct, majority}

@@ -11,7 +11,7 @@ use lib.Dec.{eqb, leb}
 use Rattle.octets.specs.Octets.{part, same}
 use Rattle.refusal.specs.Number.{numberOf}
 use Rattle.refusal.specs.Order.{fault, firstFault}
-use Rattle.receipt.specs.Answer.{Answer, answer, answerWith}
+use Rattle.refusal.specs.Answer.{Answer, answer, answerWith}
 use Rattle.receipt.specs.Attestation.{receiptSize, Attestation, readAttestation, pairIn}
 use Rattle.receipt.specs.Verdict.{verdict, Genuine}
 use Rattle.receipt.specs.declared.Ask.the-variants.{Lookup}

@@ -8,7 +8,7 @@ use lib.Dec.{eqb, leb}
 use lib.Bits.{bitOr}
 use lib.Count.{ones}
 use Rattle.octets.specs.Octets.{same}
-use Rattle.receipt.specs.Answer.{Answer, answer}
+use Rattle.refusal.specs.Answer.{Answer, answer}
 use Rattle.receipt.specs.Attestation.{readAttestation}
 use Rattle.quorum.specs.Bits.{maskBelow}
 use Rattle.quorum.specs.Roster.{size, keeperAt}

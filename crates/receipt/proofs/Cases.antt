@@ -8,7 +8,7 @@ use lib.Dec.{eqb, ltb}
 use borrow.Author.Tests.{eq-eqb, ne-eqb, le-leb, lt-leb}
 use Rattle.octets.specs.Octets.{same, zeros}
 use Rattle.refusal.specs.Order.{firstFault}
-use Rattle.receipt.specs.Answer.{answer, answerWith}
+use Rattle.refusal.specs.Answer.{answer, answerWith}
 use Rattle.receipt.specs.Attestation.{Attestation, LOOKUP, END, readAttestation}
 use Rattle.receipt.specs.Possible.{isName, referenceFits, isBlank, blankFits, possible}
 use Rattle.receipt.specs.Verdict.{carried, answers, asks, isTagged, verifyRefusal, verdict}

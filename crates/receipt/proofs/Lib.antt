@@ -1,4 +1,3 @@
-pub mod AnswerLaws
 pub mod Cases
 pub mod Fields
 pub mod PossibleLaws

@@ -14,12 +14,12 @@ use Rattle.octets.specs.Octets.{Bytes, part, same}
 use Rattle.octets.proofs.Tests.{and-left, and-right}
 use Rattle.octets.proofs.Same.{same-eq, eq-same}
 use Rattle.octets.proofs.Parts.{part-second, part-add}
-use Rattle.receipt.specs.Answer.{Answer, answer}
+use Rattle.refusal.specs.Answer.{Answer, answer}
 use Rattle.receipt.specs.Attestation.{Attestation, attestedBytes, receiptBytes, readAttestation}
 use Rattle.receipt.specs.Possible.{possible}
 use Rattle.receipt.specs.Verdict.{carried, answers, asks, isTagged, verifyRefusal, verdict, Genuine, AcceptsExactly}
 use Rattle.receipt.specs.declared.Question.{Question}
-use Rattle.receipt.proofs.AnswerLaws.{no-fault}
+use Rattle.refusal.proofs.AnswerLaws.{no-fault}
 use Rattle.receipt.proofs.Cases.{by-ask, accepts}
 use Rattle.receipt.proofs.Fields.{read-attested, read-sized, attested-read, length-attested}
 use Rattle.receipt.proofs.PossibleLaws.{possible-sound, possible-complete, asks-sound, asks-complete}

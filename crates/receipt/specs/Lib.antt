@@ -1,4 +1,3 @@
-pub mod Answer
 pub mod Attestation
 pub mod Possible
 pub mod Writer

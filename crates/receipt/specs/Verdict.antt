@@ -11,7 +11,7 @@ use Rattle.octets.specs.Octets.{same}
 use Rattle.refusal.specs.Number.{numberOf}
 use Rattle.refusal.specs.Order.{fault, firstFault}
 use Rattle.hmac.specs.Hmac.{hmac}
-use Rattle.receipt.specs.Answer.{Answer, answer, answerWith}
+use Rattle.refusal.specs.Answer.{Answer, answer, answerWith}
 use Rattle.receipt.specs.Attestation.{receiptSize, Attestation, LOOKUP, END, readAttestation, attestedIn, tagIn, receiptBytes, Sized}
 use Rattle.receipt.specs.Possible.{Possible, possible}
 use Rattle.receipt.specs.declared.Ask.{Ask}

@@ -4,7 +4,7 @@ mod possible;
 
 ghost use mathlib.Core.Path.{_≡_};
 ghost use lib.ListN.{length};
-ghost use Rattle.receipt.specs.Answer.{answer};
+ghost use Rattle.refusal.specs.Answer.{answer};
 ghost use Rattle.receipt.specs.Attestation.{receiptSize, readAttestation};
 ghost use Rattle.receipt.specs.Verdict.{carried, isTagged, verdict, verdictAnswer, AcceptsExactly};
 use crate::answers::is_answer;

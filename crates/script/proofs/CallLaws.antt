@@ -14,7 +14,7 @@ use Rattle.refusal.specs.Order.{Fault, fault, firstFault}
 use Rattle.layout.specs.Image.{Image}
 use Rattle.layout.specs.Layout.{logsOf, readTable}
 use Rattle.layout.specs.Fits.{Fits}
-use Rattle.layout.proofs.TableLaws.{length-rows, read-write, fits-read}
+use Rattle.layout.proofs.TableLaws.{length-rows, fits-read}
 use Rattle.table.specs.Whole.{whole}
 use Rattle.a2m.specs.Call.{Call, append, advance, truncate, logOf, Wide, refused, done, found}
 use Rattle.a2m.specs.ImageCalls.{rowIn, wrongLength, misplaced, spent, nothingHeld, full, faults, imageDone, imageAccept, imageRefusal, imageStep}
@@ -22,7 +22,7 @@ use Rattle.a2m.specs.TableCalls.{tableRefusal, tableStep}
 use Rattle.a2m.proofs.Clear.{clear}
 use Rattle.a2m.proofs.FitsAfter.{step-fits}
 use Rattle.a2m.proofs.Unchanged.{refused-unchanged}
-use Rattle.table.proofs.WholeLaws.{whole-formed, whole-image}
+use Rattle.table.proofs.WholeLaws.{whole-formed, whole-image, read-write}
 use Rattle.script.specs.Named.{Named}
 
 has-log : (b : List ℕ) (g : ℕ) → leb (length (readTable b .rows)) g ≡ false → g < logsOf b

@@ -15,7 +15,8 @@ use Rattle.octets.specs.Octets.{Bytes, splice, zeros}
 use Rattle.octets.proofs.Parts.{bytes-part}
 use Rattle.octets.proofs.Tests.{and-false}
 use Rattle.refusal.specs.Order.{firstFault, answerOf, afterwards}
-use Rattle.layout.specs.Layout.{tableSize, writeTable, largest}
+use Rattle.layout.specs.Layout.{tableSize, largest}
+use Rattle.table.specs.Free.{writeTable}
 use Rattle.layout.specs.Tests.{inRange}
 use Rattle.table.specs.Format.{formatted, formatRefusal, formatBytes}
 use Rattle.line.specs.declared.Command.{Command}

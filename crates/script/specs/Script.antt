@@ -7,7 +7,8 @@ use lib.ListN.{length, take}
 use Rattle.octets.specs.Octets.{splice, zeros}
 use Rattle.bigendian.specs.BigEndian.{placed}
 use Rattle.refusal.specs.Order.{answerOf, afterwards}
-use Rattle.layout.specs.Layout.{tableSize, writeTable, largest}
+use Rattle.layout.specs.Layout.{tableSize, largest}
+use Rattle.table.specs.Free.{writeTable}
 use Rattle.table.specs.Format.{formatted, formatRefusal}
 use Rattle.a2m.specs.Call.{append, advance, truncate, lookup, end}
 use Rattle.a2m.specs.TableCalls.{tableStep}

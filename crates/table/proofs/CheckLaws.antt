@@ -9,7 +9,7 @@ use borrow.Author.Tests.{eq-eqb, ne-eqb, not-true, not-false}
 use lib.ListN.{length, length-append}
 use Rattle.refusal.specs.Order.{fault, firstFault, answerOf}
 use Rattle.layout.specs.Image.{Image}
-use Rattle.layout.specs.Layout.{logsOf, slotsOf, readTable}
+use Rattle.layout.specs.Layout.{logsOf, slotsOf, readTable, stockOf}
 use Rattle.layout.specs.Fits.{Counted}
 use Rattle.table.specs.declared.Walk.the-variants as walked
 use Rattle.table.specs.declared.Held.the-variants as held
@@ -19,7 +19,7 @@ use Rattle.table.specs.Chains.{lastOf}
 use Rattle.table.specs.Free.{freeChain}
 use Rattle.table.specs.Walks.{walkOf, heldOf}
 use Rattle.table.specs.WholeImage.{freeOk, rowsOk, heldBy, meets, wholeImage}
-use Rattle.table.specs.Whole.{whole, wholeRefusal, checked, checkOf}
+use Rattle.table.specs.Whole.{whole, stockFits, wholeRefusal, checked, checkOf}
 use Rattle.layout.specs.Tests.{headerFits, padsFit}
 use Rattle.layout.proofs.TestLaws.{and-yes, and-no, and-not}
 use Rattle.table.proofs.WalkLaws.{len}
@@ -36,11 +36,11 @@ torn b e = sym (ap (λ (t : Bool). checked t (freeChain (readTable b))) e)
 
 torn-image : (b : List ℕ) → wholeImage (readTable b) ≡ false → check.Torn ≡ checkOf b
 unfolding whole
-torn-image b e = torn b (and-not (headerFits b && padsFit b (logsOf b) (slotsOf b)) e)
+torn-image b e = torn b (and-no _ (and-not (headerFits b && padsFit b (logsOf b) (slotsOf b)) e))
 
 pub torn-header : (b : List ℕ) (t : Bool) → t ≡ headerFits b → not t ≡ true → check.Torn ≡ checkOf b
 unfolding whole
-torn-header b t e h = torn b (and-no _ (and-no _ (sym e ∙ not-true t h)))
+torn-header b t e h = torn b (and-no _ (and-no _ (and-no _ (sym e ∙ not-true t h))))
 
 module _ (b : List ℕ) (logs slots : ℕ) (c : Counted b logs slots) where
   pads-as : padsFit b logs slots ≡ padsFit b (logsOf b) (slotsOf b)
@@ -48,7 +48,7 @@ module _ (b : List ℕ) (logs slots : ℕ) (c : Counted b logs slots) where
 
   pub torn-pads : (t : Bool) → t ≡ padsFit b logs slots → not t ≡ true → check.Torn ≡ checkOf b
   unfolding whole
-  torn-pads t e h = torn b (and-no _ (and-not (headerFits b) (sym (e ∙ pads-as) ∙ not-true t h)))
+  torn-pads t e h = torn b (and-no _ (and-no _ (and-not (headerFits b) (sym (e ∙ pads-as) ∙ not-true t h))))
 
   pub torn-free : walked.Broken ≡ walkOf (freeOk (readTable b)) (freeChain (readTable b)) → check.Torn ≡ checkOf b
   unfolding wholeImage
@@ -82,13 +82,18 @@ module _ (b : List ℕ) (logs slots : ℕ) (c : Counted b logs slots) where
     pub torn-total : n ≤ slots → count ≢ slots - n → check.Torn ≡ checkOf b
     torn-total k e = missed (λ q. e (omega arith))
 
-    pub is-whole : (t u : Bool) → t ≡ headerFits b → not t ≡ false → u ≡ padsFit b logs slots → not u ≡ false → n ≤ slots → count ≡ slots - n → check.Whole count last ≡ checkOf b
-    unfolding checkOf checked whole wholeImage
-    is-whole t u e p q r k z =
+    pub torn-number : (x : ℕ) → x ≡ stockOf b .count → x ≢ count → check.Torn ≡ checkOf b
+    unfolding whole stockFits
+    torn-number x e k = torn b (and-not (headerFits b && padsFit b (logsOf b) (slotsOf b) && wholeImage (readTable b)) (ne-eqb (stockOf b .count) (length (freeChain (readTable b))) (λ q. k (e ∙ q ∙ f .1))))
+
+    pub is-whole : (t u : Bool) (x : ℕ) → t ≡ headerFits b → not t ≡ false → u ≡ padsFit b logs slots → not u ≡ false → n ≤ slots → count ≡ slots - n → x ≡ stockOf b .count → x ≡ count → check.Whole count last ≡ checkOf b
+    unfolding checkOf checked whole wholeImage stockFits
+    is-whole t u x e p q r k z i j =
         let w : whole b ≡ true =
-        and-yes _ (and-yes _ (sym e ∙ not-false t p) ∙ (sym (q ∙ pads-as) ∙ not-false u r))
+        and-yes _ (and-yes _ (and-yes _ (sym e ∙ not-false t p) ∙ (sym (q ∙ pads-as) ∙ not-false u r))
         ∙ (and-yes _ (and-yes _ (f .0) ∙ h .0)
-        ∙ eq-eqb (length (meets (readTable b))) (length (readTable b .slots)) (total ∙ omega (arith, len b logs slots c))) in
+        ∙ eq-eqb (length (meets (readTable b))) (length (readTable b .slots)) (total ∙ omega (arith, len b logs slots c))))
+        ∙ eq-eqb (stockOf b .count) (length (freeChain (readTable b))) (sym i ∙ j ∙ sym (f .1)) in
         sym (ap (λ (x : Bool). checked x (freeChain (readTable b))) w ∙ ap₂ check.Whole (f .1) (f .2))
 
 -- the number of what the check finds

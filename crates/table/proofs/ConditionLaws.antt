@@ -12,13 +12,13 @@ use Rattle.octets.specs.Octets.{part, same, zeros}
 use Rattle.octets.proofs.Same.{same-eq, eq-same}
 use Rattle.layout.specs.declared.Row.{Row}
 use Rattle.layout.specs.Image.{Slot, Image, slotAt}
-use Rattle.layout.specs.Layout.{mark, zeroOffset, zerosOffset, padOffset, logsOf, slotsOf, tableSize, readTable}
+use Rattle.layout.specs.Layout.{mark, zeroOffset, padOffset, logsOf, slotsOf, tableSize, readTable, stockOf}
 use Rattle.layout.proofs.TableLaws.{length-slots}
 use Rattle.table.specs.Chains.{reaches, chain, lastOf, positionsOf}
 use Rattle.table.specs.Free.{freeChain}
 use Rattle.table.specs.WholeImage.{all, freeOk, fresh, risingFrom, started, rowOk, rowsOk, heldBy, meets, wholeImage}
 use Rattle.layout.specs.Tests.{blank}
-use Rattle.table.specs.Whole.{whole}
+use Rattle.table.specs.Whole.{whole, stockFits}
 use Rattle.layout.specs.Tests.{constantsFit, headerFits, allBelow, padsFit}
 use Rattle.table.specs.Conditions.{Blank, Each, Rising, Fresh, Started, Rows, totalOf, Whole}
 use Rattle.layout.specs.Fits.{Range}
@@ -172,16 +172,15 @@ pads-test b logs (suc n) h = and-yes _ (eq-same (part b (padOffset logs n) 1) (z
 
 -- the header
 
-pub constants-test : (b : List ℕ) → part b 0 4 ≡ mark → part b zeroOffset 1 ≡ zeros 1 → part b zerosOffset 2 ≡ zeros 2 → constantsFit b ≡ true
+pub constants-test : (b : List ℕ) → part b 0 4 ≡ mark → part b zeroOffset 1 ≡ zeros 1 → constantsFit b ≡ true
 unfolding constantsFit
-constants-test b m z zs = and-yes _ (and-yes _ (eq-same (part b 0 4) mark m) ∙ eq-same (part b zeroOffset 1) (zeros 1) z) ∙ eq-same (part b zerosOffset 2) (zeros 2) zs
+constants-test b m z = and-yes _ (eq-same (part b 0 4) mark m) ∙ eq-same (part b zeroOffset 1) (zeros 1) z
 
-constants-conditions : (b : List ℕ) → constantsFit b ≡ true → (part b 0 4 ≡ mark) × (part b zeroOffset 1 ≡ zeros 1) × (part b zerosOffset 2 ≡ zeros 2)
+constants-conditions : (b : List ℕ) → constantsFit b ≡ true → (part b 0 4 ≡ mark) × (part b zeroOffset 1 ≡ zeros 1)
 unfolding constantsFit
 constants-conditions b e =
-    let t = and-split (same (part b 0 4) mark && same (part b zeroOffset 1) (zeros 1)) (same (part b zerosOffset 2) (zeros 2)) e in
-    let u = and-split (same (part b 0 4) mark) (same (part b zeroOffset 1) (zeros 1)) (t .0) in
-    (same-eq (part b 0 4) mark (u .0), same-eq (part b zeroOffset 1) (zeros 1) (u .1), same-eq (part b zerosOffset 2) (zeros 2) (t .1))
+    let t = and-split (same (part b 0 4) mark) (same (part b zeroOffset 1) (zeros 1)) e in
+    (same-eq (part b 0 4) mark (t .0), same-eq (part b zeroOffset 1) (zeros 1) (t .1))
 
 pub header-test : (b : List ℕ) → constantsFit b ≡ true → Range (logsOf b) (slotsOf b) → length b ≡ tableSize (logsOf b) (slotsOf b) → headerFits b ≡ true
 unfolding headerFits
@@ -190,10 +189,11 @@ header-test b e r l = and-yes _ (and-yes _ e ∙ range-in (logsOf b) (slotsOf b)
 -- the test tells the conditions
 
 pub whole-conditions : (b : List ℕ) → whole b ≡ true → Whole b
-unfolding whole wholeImage freeOk
+unfolding whole wholeImage freeOk stockFits
 whole-conditions b e =
     let m : Image = readTable b in
-    let s = and-split (headerFits b && padsFit b (logsOf b) (slotsOf b)) (wholeImage m) e in
+    let a = and-split (headerFits b && padsFit b (logsOf b) (slotsOf b) && wholeImage m) (stockFits b) e in
+    let s = and-split (headerFits b && padsFit b (logsOf b) (slotsOf b)) (wholeImage m) (a .0) in
     let t = and-split (headerFits b) (padsFit b (logsOf b) (slotsOf b)) (s .0) in
     let p = header-parts b (t .0) in
     let k = constants-conditions b (p .0) in
@@ -205,12 +205,12 @@ whole-conditions b e =
       sized = p .2;
       marked = k .0;
       zero = k .1;
-      zeroes = k .2;
       pads = pads-conditions b (logsOf b) (slotsOf b) (t .1);
       counts = in-range (logsOf b) (slotsOf b) (p .1);
       freed = freeChain m;
       free = reach-links (m .slots) 0 (m .free) (f .0);
       blank = all-each (m .slots) (freeChain m) (f .1);
+      number = eqb-true (stockOf b .count) (length (freeChain m)) (a .1);
       chains = r .0;
       rows = r .1;
       total = ap (λ (n : ℕ). length (freeChain m) + n) (r .2) ∙ sym (length-meets m) ∙ eqb-true (length (meets m)) (length (m .slots)) (u .1) ∙ length-slots b;
@@ -219,13 +219,14 @@ whole-conditions b e =
 -- and the conditions the test
 
 pub conditions-whole : (b : List ℕ) → Whole b → whole b ≡ true
-unfolding whole wholeImage freeOk
+unfolding whole wholeImage freeOk stockFits
 conditions-whole b w =
     let m : Image = readTable b in
     let n : length (m .slots) ≡ slotsOf b = length-slots b in
     let t : length (w .freed) + totalOf (w .chains) ≡ slotsOf b = w .total in
     let f = links-reach (m .slots) 0 (m .free) (w .freed) (w .free) (omega arith) in
     let r = rows-test (m .slots) 0 (m .rows) (w .chains) (w .rows) (omega arith) in
-    and-yes _ (and-yes _ (header-test b (constants-test b (w .marked) (w .zero) (w .zeroes)) (w .counts) (w .sized)) ∙ pads-test b (logsOf b) (slotsOf b) (w .pads))
+    and-yes _ (and-yes _ (and-yes _ (header-test b (constants-test b (w .marked) (w .zero)) (w .counts) (w .sized)) ∙ pads-test b (logsOf b) (slotsOf b) (w .pads))
     ∙ (and-yes _ (and-yes _ (and-yes _ (f .0) ∙ (ap (all (λ (s : ℕ). blank (slotAt (m .slots) s))) (f .1) ∙ each-all (m .slots) (w .freed) (w .blank))) ∙ r .0)
-    ∙ eq-eqb (length (meets m)) (length (m .slots)) (length-meets m ∙ ap₂ _+_ (ap length (f .1)) (r .1) ∙ t ∙ sym n))
+    ∙ eq-eqb (length (meets m)) (length (m .slots)) (length-meets m ∙ ap₂ _+_ (ap length (f .1)) (r .1) ∙ t ∙ sym n)))
+    ∙ eq-eqb (stockOf b .count) (length (freeChain m)) (w .number ∙ sym (ap length (f .1)))

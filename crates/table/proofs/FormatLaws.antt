@@ -9,7 +9,8 @@ use borrow.Author.Tests.{eq-eqb, ne-eqb}
 use lib.Dec.{eqb}
 use lib.ListN.{length}
 use Rattle.refusal.specs.Order.{firstFault, answerOf, afterwards}
-use Rattle.layout.specs.Layout.{tableSize, writeTable}
+use Rattle.layout.specs.Layout.{tableSize}
+use Rattle.table.specs.Free.{writeTable}
 use Rattle.layout.specs.Tests.{inRange}
 use Rattle.table.specs.Format.{formatted, formatRefusal, formatBytes}
 use Rattle.layout.proofs.TestLaws.{and-yes, and-no, and-not}

@@ -14,22 +14,22 @@ use Rattle.octets.specs.Octets.{zeros}
 use Rattle.octets.proofs.Same.{same-refl}
 use Rattle.refusal.specs.Order.{afterwards}
 use Rattle.layout.specs.Image.{Slot, Image, slotAt, rowAt, freeSlot, freshRow}
-use Rattle.layout.specs.Layout.{readTable, writeTable}
+use Rattle.layout.specs.Layout.{Stock, stocked, readTable, writeWith}
 use Rattle.layout.specs.Fits.{RowFits, SlotFits, Fits}
 use Rattle.layout.proofs.ListLaws.{every-tabulate}
-use Rattle.layout.proofs.TableLaws.{read-write, fresh-fits, free-fits}
+use Rattle.layout.proofs.TableLaws.{fresh-fits, free-fits}
 use Rattle.table.specs.Chains.{walk, reaches, chain}
-use Rattle.table.specs.Free.{freeChain, countUp, queuedNext, queue}
+use Rattle.table.specs.Free.{freeChain, stockIn, writeTable, countUp, queuedNext, queue}
 use Rattle.table.specs.Format.{formatted, formatRefusal, formatBytes}
 use Rattle.table.specs.WholeImage.{all, freeOk, fresh, rowOk, rowsOk, heldBy, meets, wholeImage}
 use Rattle.layout.specs.Tests.{blank}
 use Rattle.table.specs.Whole.{whole}
 use Rattle.layout.specs.Fits.{Range}
 use Rattle.layout.proofs.TestLaws.{and-yes}
-use Rattle.table.proofs.WalkLaws.{reached, slotsMet, walk-end, go-on, chain-none}
+use Rattle.table.proofs.WalkLaws.{reached, slotsMet, walk-end, go-on, chain-short, chain-none}
 use Rattle.table.proofs.CheckLaws.{length-meets}
 use Rattle.table.proofs.FillLaws.{length-queue, getD-queue, next-queued, none-queued}
-use Rattle.table.proofs.WholeLaws.{written-whole}
+use Rattle.table.proofs.WholeLaws.{written-whole, read-write}
 
 -- the queue
 
@@ -108,6 +108,19 @@ module _ (logs slots keeper : ℕ) (key : List ℕ) where
   pub formatted-queue : 1 ≤ slots → freeChain (formatted logs slots keeper key) ≡ countUp 1 slots
   unfolding formatted chain
   formatted-queue h = ap slotsMet (queue-walk slots h)
+
+  -- so its number of free slots is S, also where S is 0
+  pub formatted-stock : stockIn (formatted logs slots keeper key) ≡ stocked slots
+  unfolding formatted
+  formatted-stock = ap stocked (go slots refl)
+    where
+      go : (n : ℕ) → slots ≡ n → length (freeChain (formatted logs slots keeper key)) ≡ slots
+      go zero e = omega (arith, chain-short (queue slots) 0 1, length-queue slots)
+      go (suc n) e = ap length (formatted-queue (omega arith)) ∙ length-count 1 slots
+
+  pub formatted-bytes : writeWith (stocked slots) (formatted logs slots keeper key) ≡ writeTable (formatted logs slots keeper key)
+  unfolding writeTable
+  formatted-bytes = ap (λ (k : Stock). writeWith k (formatted logs slots keeper key)) (sym formatted-stock)
 
   formatted-reaches : 1 ≤ slots → reaches (queue slots) 0 1 ≡ true
   unfolding reaches

@@ -10,3 +10,4 @@ pub mod LinkLaws
 pub mod ConditionLaws
 pub mod WholeLaws
 pub mod FormattedLaws
+pub mod ScreenLaws

@@ -1,44 +1,86 @@
--- What a whole table tells its callers: its bytes are its image's table; and whole bytes of an image are a whole image.
+-- What a whole table tells its callers: its bytes are its image's table, and its number is that of its free slots; and whole bytes of an image are a whole image.
 use Prim.Native.Nat.{ℕ}
-use mathlib.Core.Path.{_≡_, refl, ap, _∙_}
+use mathlib.Core.Path.{_≡_, refl, sym, ap, _∙_}
 use mathlib.Core.List.{List}
 use mathlib.Core.Bool.{Bool, true, false, _&&_}
 use native.Mathlib.Omega.{arith}
+use borrow.Author.Tests.{eq-eqb, eqb-true}
+use Rattle.octets.specs.Octets.{Bytes}
 use lib.ListN.{length}
 use Rattle.layout.specs.Image.{Image}
-use Rattle.layout.specs.Layout.{logsOf, slotsOf, readTable, writeTable}
-use Rattle.layout.specs.Fits.{Fits, Formed}
-use Rattle.layout.proofs.TableLaws.{logs-written, slots-written, read-write, formed-write}
+use Rattle.layout.specs.Layout.{Stock, stocked, logsOf, slotsOf, readTable, stockOf, writeWith}
+use Rattle.layout.specs.Fits.{Fits, StockFits, Formed}
+use Rattle.layout.proofs.TableLaws.{logs-written, slots-written, read-with, stock-with, formed-with, write-read as write-with}
 use Rattle.table.specs.declared.Check.the-variants as check
 use Rattle.table.specs.Chains.{lastOf}
-use Rattle.table.specs.Free.{freeChain}
+use Rattle.table.specs.Free.{freeChain, stockIn, writeTable}
 use Rattle.table.specs.WholeImage.{wholeImage}
-use Rattle.table.specs.Whole.{whole, checked, checkOf}
+use Rattle.table.specs.Whole.{whole, stockFits, checked, checkOf}
 use Rattle.layout.specs.Tests.{headerFits, padsFit}
 use Rattle.table.specs.Conditions.{Whole}
 use Rattle.layout.specs.Fits.{Range}
 use Rattle.layout.proofs.TestLaws.{and-yes, and-split}
+use Rattle.table.proofs.WalkLaws.{chain-short}
 use Rattle.table.proofs.ConditionLaws.{constants-test, header-test, pads-test, whole-conditions}
 
 pub whole-formed : (b : List ℕ) → whole b ≡ true → Formed b
-whole-formed b e = let w = whole-conditions b e in record { marked = w .marked; zero = w .zero; zeroes = w .zeroes; pads = w .pads; sized = w .sized }
+whole-formed b e = let w = whole-conditions b e in record { marked = w .marked; zero = w .zero; pads = w .pads; sized = w .sized }
 
 pub whole-range : (b : List ℕ) → whole b ≡ true → Range (logsOf b) (slotsOf b)
 whole-range b e = whole-conditions b e .counts
 
-pub whole-image : (b : List ℕ) → whole b ≡ true → wholeImage (readTable b) ≡ true
+whole-parts : (b : List ℕ) → whole b ≡ true → (wholeImage (readTable b) ≡ true) × (stockFits b ≡ true)
 unfolding whole
-whole-image b e = and-split (headerFits b && padsFit b (logsOf b) (slotsOf b)) (wholeImage (readTable b)) e .1
+whole-parts b e =
+    let s = and-split (headerFits b && padsFit b (logsOf b) (slotsOf b) && wholeImage (readTable b)) (stockFits b) e in
+    (and-split (headerFits b && padsFit b (logsOf b) (slotsOf b)) (wholeImage (readTable b)) (s .0) .1, s .1)
 
--- bytes of a table's length, constants and counts are whole when their image is
-pub formed-whole : (b : List ℕ) → Formed b → Range (logsOf b) (slotsOf b) → whole b ≡ wholeImage (readTable b)
-unfolding whole
-formed-whole b f r = and-yes _ (and-yes _ (header-test b (constants-test b (f .marked) (f .zero) (f .zeroes)) r (f .sized)) ∙ pads-test b (logsOf b) (slotsOf b) (f .pads))
+pub whole-image : (b : List ℕ) → whole b ≡ true → wholeImage (readTable b) ≡ true
+whole-image b e = whole-parts b e .0
+
+-- request [1]: "On a whole table it equals the length of the free chain."
+pub whole-count : (b : List ℕ) → whole b ≡ true → stockOf b .count ≡ length (freeChain (readTable b))
+unfolding stockFits
+whole-count b e = eqb-true (stockOf b .count) (length (freeChain (readTable b))) (whole-parts b e .1)
+
+whole-stock : (b : List ℕ) → whole b ≡ true → stockOf b ≡ stockIn (readTable b)
+whole-stock b e = λ i. record { count = whole-count b e i }
+
+-- what the bytes of an image say, whatever its free chain
+module _ (m : Image) (h : Fits m) where
+  -- a chain is no longer than the table
+  stock-fits : StockFits (stockIn m)
+  stock-fits = record { count = omega (arith, chain-short (m .slots) 0 (m .free), h .count) }
+
+  pub read-write : readTable (writeTable m) ≡ m
+  unfolding writeTable
+  read-write = read-with (stockIn m) m h
+
+  pub stock-write : stockOf (writeTable m) ≡ stockIn m
+  unfolding writeTable
+  stock-write = stock-with (stockIn m) m h stock-fits
+
+-- a whole table's bytes are those of its image
+pub write-read : (b : List ℕ) → Bytes b → whole b ≡ true → writeTable (readTable b) ≡ b
+unfolding writeTable
+write-read b h e = ap (λ (k : Stock). writeWith k (readTable b)) (sym (whole-stock b e)) ∙ write-with b h (whole-formed b e)
+
+-- bytes of a table's length, constants, counts and number of free slots are whole when their image is
+formed-whole : (b : List ℕ) → Formed b → Range (logsOf b) (slotsOf b) → stockOf b ≡ stockIn (readTable b) → whole b ≡ wholeImage (readTable b)
+unfolding whole stockFits
+formed-whole b f r k =
+    and-true _ (eq-eqb (stockOf b .count) (length (freeChain (readTable b))) (ap (λ (x : Stock). x .count) k))
+    ∙ and-yes _ (and-yes _ (header-test b (constants-test b (f .marked) (f .zero)) r (f .sized)) ∙ pads-test b (logsOf b) (slotsOf b) (f .pads))
+  where
+    and-true : (x : Bool) {y : Bool} → y ≡ true → x && y ≡ x
+    and-true true e = e
+    and-true false e = refl
 
 -- and so are the bytes of an image
 pub written-whole : (m : Image) → Fits m → Range (length (m .rows)) (length (m .slots)) → whole (writeTable m) ≡ wholeImage m
+unfolding writeTable
 written-whole m h r =
-    formed-whole (writeTable m) (formed-write m h) (range (logs-written m h) (slots-written m h)) ∙ ap wholeImage (read-write m h)
+    formed-whole (writeTable m) (formed-with (stockIn m) m h) (range (logs-written (stockIn m) m h) (slots-written (stockIn m) m h)) (stock-write m h ∙ ap stockIn (sym (read-write m h))) ∙ ap wholeImage (read-write m h)
   where
     range : logsOf (writeTable m) ≡ length (m .rows) → slotsOf (writeTable m) ≡ length (m .slots) → Range (logsOf (writeTable m)) (slotsOf (writeTable m))
     range l s =

@@ -1,4 +1,4 @@
--- Document 01, "A table is whole if ..", as conditions: a field for each clause of the sentence. `proofs/ConditionLaws` shows that they hold exactly when the test `whole` does.
+-- Document 01, "A table is whole if ..", as conditions: a field for each clause of the sentence, and request [1]'s. `proofs/ConditionLaws` shows that they hold exactly when the test `whole` does.
 use Prim.Native.Nat.{ℕ, suc, _+_, _≤_, _<_}
 use mathlib.Core.Path.{_≡_}
 use mathlib.Core.Logic.{_⊎_}
@@ -8,7 +8,7 @@ use Rattle.octets.specs.Octets.{part, zeros}
 use Rattle.layout.specs.declared.Row.{Row}
 use Rattle.layout.specs.Image.{Slot, slotAt}
 use Rattle.layout.specs.Fits.{Range}
-use Rattle.layout.specs.Layout.{mark, zeroOffset, zerosOffset, padOffset, logsOf, slotsOf, tableSize, readTable}
+use Rattle.layout.specs.Layout.{mark, zeroOffset, padOffset, logsOf, slotsOf, tableSize, readTable, stockOf}
 use Rattle.table.specs.Chains.{lastOf, positionsOf}
 
 -- a chain from slot s along the slots of c, each of owner o and in the table, to slot e
@@ -67,7 +67,6 @@ pub record Whole (b : List ℕ) : Type 0 where
   -- "constants"
   pub marked : part b 0 4 ≡ mark
   pub zero : part b zeroOffset 1 ≡ zeros 1
-  pub zeroes : part b zerosOffset 2 ≡ zeros 2
   pub pads : (i : ℕ) → i < slotsOf b → part b (padOffset (logsOf b) i) 1 ≡ zeros 1
   -- "and counts are as above"
   pub counts : Range (logsOf b) (slotsOf b)
@@ -76,6 +75,8 @@ pub record Whole (b : List ℕ) : Type 0 where
   pub free : Links (readTable b .slots) 0 (readTable b .free) freed 0
   -- "and bytes 4–75 zero"
   pub blank : Each (λ (s : ℕ). Blank (slotAt (readTable b .slots) s)) freed
+  -- request [1]: "A table whose number differs is torn."
+  pub number : stockOf b .count ≡ length freed
   -- "each row is fresh .. or has .. a chain"
   pub chains : List (List ℕ)
   pub rows : Rows (readTable b .slots) 0 (readTable b .rows) chains

@@ -7,8 +7,8 @@ use lib.Dec.{eqb}
 use lib.ListN.{length, replicate}
 use Rattle.refusal.specs.Order.{fault, firstFault, afterwards}
 use Rattle.layout.specs.Image.{Image, freshRow}
-use Rattle.layout.specs.Layout.{tableSize, writeTable}
-use Rattle.table.specs.Free.{queue}
+use Rattle.layout.specs.Layout.{tableSize}
+use Rattle.table.specs.Free.{queue, writeTable}
 use Rattle.layout.specs.Tests.{inRange}
 
 -- the table that is written: the free chain is the queue 1 to S

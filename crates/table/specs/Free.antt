@@ -2,14 +2,24 @@
 use Prim.Native.Nat.{ℕ, zero, suc}
 use mathlib.Core.List.{List, [], _∷_}
 use mathlib.Core.Bool.{cond}
+use lib.ListN.{length}
 use lib.Dec.{ltb}
 use Rattle.layout.specs.Image.{Image, Slot, slotAt, freeSlot}
+use Rattle.layout.specs.Layout.{Stock, stocked, writeWith}
 use Rattle.layout.specs.Lists.{tabulate}
 use Rattle.table.specs.Chains.{chain, lastOf}
 
 -- the free slots, the first to be taken in front
 abbrev pub freeChain : Image → List ℕ
 freeChain m = chain (m .slots) 0 (m .free)
+
+-- request [1], "On a whole table it equals the length of the free chain": the stock that an image has
+abbrev pub stockIn : Image → Stock
+stockIn m = stocked (length (freeChain m))
+
+-- the bytes of an image
+unfoldable pub writeTable : Image → List ℕ
+writeTable m = writeWith (stockIn m) m
 
 -- the slot that is taken, and the first free slot after that
 abbrev pub taken : Image → ℕ

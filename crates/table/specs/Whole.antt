@@ -1,11 +1,12 @@
--- Document 01, "A table is whole if ..", as a test on bytes.
+-- Document 01, "A table is whole if ..", and request [1]'s clause, as a test on bytes.
 use Prim.Native.Nat.{ℕ}
 use mathlib.Core.List.{List, [], _∷_}
 use mathlib.Core.Option.{Option}
 use mathlib.Core.Bool.{Bool, true, false, not, _&&_}
 use lib.ListN.{length}
+use lib.Dec.{eqb}
 use Rattle.refusal.specs.Order.{fault, firstFault}
-use Rattle.layout.specs.Layout.{logsOf, slotsOf, readTable}
+use Rattle.layout.specs.Layout.{logsOf, slotsOf, readTable, stockOf}
 use Rattle.layout.specs.Tests.{headerFits, padsFit}
 use Rattle.table.specs.declared.Check.{Check}
 use Rattle.table.specs.declared.Check.the-variants as variants
@@ -13,9 +14,13 @@ use Rattle.table.specs.Chains.{lastOf}
 use Rattle.table.specs.Free.{freeChain}
 use Rattle.table.specs.WholeImage.{wholeImage}
 
+-- request [1]: "A table whose number differs is torn."
+unfoldable pub stockFits : List ℕ → Bool
+stockFits b = eqb (stockOf b .count) (length (freeChain (readTable b)))
+
 -- "A table is whole if the length, constants and counts are as above, and: .. Anything else is torn."
 unfoldable pub whole : List ℕ → Bool
-whole b = headerFits b && padsFit b (logsOf b) (slotsOf b) && wholeImage (readTable b)
+whole b = headerFits b && padsFit b (logsOf b) (slotsOf b) && wholeImage (readTable b) && stockFits b
 
 -- number 1: "table not whole"
 unfoldable pub wholeRefusal : List ℕ → Option ℕ

@@ -1,4 +1,4 @@
-// Whole tables, the free slots, and what format writes (document 01, "Table bytes"). No code.
+// Whole tables, the free slots, what format writes (document 01, "Table bytes") and what the status screen reads. No code.
 
 // What the check finds: a torn table; or a whole one, how many slots are free, and the last of the free chain (0 if none).
 pub enum Check {
@@ -16,4 +16,10 @@ pub enum Walk {
 pub enum Held {
     Broken,
     Slots(usize),
+}
+
+// What the status screen reads: the number of free slots; or that the bytes are no header with the mark.
+pub enum Screen {
+    Free(u64),
+    Torn,
 }

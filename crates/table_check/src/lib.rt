@@ -1,8 +1,9 @@
-// Whether a table is whole (document 01, "A table is whole if ..").
+// Whether a table is whole (document 01, "A table is whole if ..", and request [1]'s number).
 mod walks;
 
 use crate::walks::free_walk;
 use crate::walks::held_walk;
+use layout_header::count_of;
 use layout_header::header_fits;
 use layout_header::logs_of;
 use layout_header::slots_of;
@@ -39,6 +40,9 @@ pub fn check(table: &[u8]) -> Check
         return Check::Torn;
     }
     if count != slots - held {
+        return Check::Torn;
+    }
+    if count_of(table) != count {
         return Check::Torn;
     }
     Check::Whole { free: count, last }

@@ -17,8 +17,8 @@ ghost use Rattle.refusal.specs.Number.{outcomeNumber};
 ghost use Rattle.refusal.specs.Order.{answerOf};
 ghost use Rattle.layout.specs.Lists.{flat};
 ghost use Rattle.layout.specs.Image.{freshRow, freeSlot};
-ghost use Rattle.layout.specs.Layout.{rowSize, slotSize, tableSize, rowBytes, slotBytes, writeTable};
-ghost use Rattle.table.specs.Free.{queuedNext, queue};
+ghost use Rattle.layout.specs.Layout.{rowSize, slotSize, tableSize, rowBytes, slotBytes};
+ghost use Rattle.table.specs.Free.{queuedNext, queue, writeTable};
 ghost use Rattle.table.specs.Format.{formatted, formatRefusal, formatBytes};
 
 // Fresh rows over the rows' part of a table.
@@ -83,7 +83,7 @@ fn fill(table: &mut [u8], logs: usize, slots: usize, keeper: u64, key: &[u8])
     let rows = HEADER;
     let start = rows + ROW * logs;
     let end = start + SLOT * slots;
-    write_header(&mut table[0..rows], logs, slots, keeper, 1, key);
+    write_header(&mut table[0..rows], logs, slots, keeper, 1, slots, key);
     fill_rows(&mut table[rows..start], logs);
     fill_slots(&mut table[start..end], slots);
 }

@@ -6,7 +6,8 @@ use mathlib.Core.List.{List}
 use Rattle.table.specs.Chains.{chain}
 use Rattle.layout.specs.Layout.{readTable}
 use Rattle.layout.proofs.HoldsLaws.{holds-counted}
-use Rattle.a2m.proofs.ReleaseLaws.{Releasing, Begins, begins, releasing-first, slot-within, last-most-free, freed-fits, releasing-on, falls, cut-held, cut-row, struck, struck-answer}
+use Rattle.a2m.proofs.ReleaseLaws.{Releasing, Begins, begins, releasing-first, slot-within, last-most-free, count-most-free, freed-fits, releasing-on, falls, cut-held, cut-row, row-held, struck, struck-answer}
+use Rattle.a2m.proofs.EnterLaws.{held-long}
 use Rattle.a2m.proofs.OpenedLaws.{opened-counted, opened-log, last-free-most, first-most}
 use native.Mathlib.Omega.{arith}
 use mathlib.Core.Path.{_≡_, refl, _∙_}
@@ -15,10 +16,10 @@ use Rattle.a2m_truncate.proofs.strike.Statement.{statement}
 use Rattle.a2m_truncate.proofs.strike.Tie as tie
 
 abbrev Inv-loop : tie.InvT-loop
-Inv-loop table₀ view n logs slots row none last₀ s₀ table last s = (length table ≡ length table₀) × ((b : List ℕ) → Begins b view n table₀ → Releasing b view n table last s)
+Inv-loop table₀ view n logs slots row none last₀ count₀ s₀ table last count s = (length table ≡ length table₀) × ((b : List ℕ) → Begins b view n table₀ → Releasing b view n table last count s)
 
 abbrev μ-loop : tie.MeasureT-loop
-μ-loop table₀ view n logs slots row none last₀ s₀ table last s = length (chain (readTable table .slots) (suc (view .log)) s)
+μ-loop table₀ view n logs slots row none last₀ count₀ s₀ table last count s = length (chain (readTable table .slots) (suc (view .log)) s)
 
 join-requires : tie.Need-join-requires Inv-loop μ-loop
 join-requires c κs = let a = c .before .before .before .args in let o = c .before .before .before .pre .0 in (opened-counted (a .table .now) (a .view) o, (last-free-most (a .table .now) (a .view) o, first-most (a .table .now) (a .view) o))
@@ -28,7 +29,7 @@ loop-holds c = let a = c .before .before .before .before .before .before .args i
 
 link-at-requires : tie.Need-link-at-requires Inv-loop μ-loop
 link-at-requires c κs = let p8 = c .before .before .before .before .before .before .before .before in
-    (holds-counted _ _ _ _ (c .before .loop .inv .1 (p8 .args .table .now) (begins (p8 .args .table .now) (p8 .args .view) (p8 .args .n) (c .before .before .before .before .join .last .0) (p8 .pre .0) (λ i. omega (arith, c .before .before .before .before .before .before .before .slice-known .given i)) (p8 .pre .1 .0) (p8 .pre .1 .1) (c .before .before .before .before .join .ensures)) .held), slot-within (p8 .args .table .now) (p8 .args .view) (p8 .args .n) (c .before .loop .table) (c .before .loop .last) (c .before .loop .s) (p8 .pre .0) (c .before .loop .inv .1 (p8 .args .table .now) (begins (p8 .args .table .now) (p8 .args .view) (p8 .args .n) (c .before .before .before .before .join .last .0) (p8 .pre .0) (λ i. omega (arith, c .before .before .before .before .before .before .before .slice-known .given i)) (p8 .pre .1 .0) (p8 .pre .1 .1) (c .before .before .before .before .join .ensures))))
+    (holds-counted _ _ _ _ _ (c .before .loop .inv .1 (p8 .args .table .now) (begins (p8 .args .table .now) (p8 .args .view) (p8 .args .n) (c .before .before .before .before .join .last .0) (p8 .pre .0) (λ i. omega (arith, c .before .before .before .before .before .before .before .slice-known .given i)) (p8 .pre .1 .0) (p8 .pre .1 .1) (c .before .before .before .before .join .ensures)) .held), slot-within (p8 .args .table .now) (p8 .args .view) (p8 .args .n) (c .before .loop .table) (c .before .loop .last) (c .before .loop .count) (c .before .loop .s) (p8 .pre .0) (c .before .loop .inv .1 (p8 .args .table .now) (begins (p8 .args .table .now) (p8 .args .view) (p8 .args .n) (c .before .before .before .before .join .last .0) (p8 .pre .0) (λ i. omega (arith, c .before .before .before .before .before .before .before .slice-known .given i)) (p8 .pre .1 .0) (p8 .pre .1 .1) (c .before .before .before .before .join .ensures))))
 
 slice-aggregate-put-slot : tie.Need-slice-aggregate-put-slot Inv-loop μ-loop
 slice-aggregate-put-slot c = search needs
@@ -41,7 +42,18 @@ unfolding zeros
 put-slot-requires c κs = let p10 = c .before .before .before .before .before .before .before .before .before .before in
     let p13 = p10 .before .before .before in
     let p14 = p13 .before in
-    (holds-counted _ _ _ _ (c .before .before .before .before .before .before .before .loop .inv .1 (p14 .args .table .now) (begins (p14 .args .table .now) (p14 .args .view) (p14 .args .n) (p10 .join .last .0) (p14 .pre .0) (λ i. omega (arith, p13 .slice-known .given i)) (p14 .pre .1 .0) (p14 .pre .1 .1) (p10 .join .ensures)) .held), (slot-within (p14 .args .table .now) (p14 .args .view) (p14 .args .n) (c .before .before .before .before .before .before .before .loop .table) (c .before .before .before .before .before .before .before .loop .last) (c .before .before .before .before .before .before .before .loop .s) (p14 .pre .0) (c .before .before .before .before .before .before .before .loop .inv .1 (p14 .args .table .now) (begins (p14 .args .table .now) (p14 .args .view) (p14 .args .n) (p10 .join .last .0) (p14 .pre .0) (λ i. omega (arith, p13 .slice-known .given i)) (p14 .pre .1 .0) (p14 .pre .1 .1) (p10 .join .ensures))), freed-fits (p14 .args .table .now) (p14 .args .view) (p14 .args .n) (c .before .before .before .before .before .before .before .loop .table) (c .before .before .before .before .before .before .before .loop .last) (c .before .before .before .before .before .before .before .loop .s) (p14 .pre .0) (c .before .before .before .before .before .before .before .loop .inv .1 (p14 .args .table .now) (begins (p14 .args .table .now) (p14 .args .view) (p14 .args .n) (p10 .join .last .0) (p14 .pre .0) (λ i. omega (arith, p13 .slice-known .given i)) (p14 .pre .1 .0) (p14 .pre .1 .1) (p10 .join .ensures))) (c .before .before .before .before .before .link-at .result) (c .before .before .before .before .before .link-at .ensures)))
+    (holds-counted _ _ _ _ _ (c .before .before .before .before .before .before .before .loop .inv .1 (p14 .args .table .now) (begins (p14 .args .table .now) (p14 .args .view) (p14 .args .n) (p10 .join .last .0) (p14 .pre .0) (λ i. omega (arith, p13 .slice-known .given i)) (p14 .pre .1 .0) (p14 .pre .1 .1) (p10 .join .ensures)) .held), (slot-within (p14 .args .table .now) (p14 .args .view) (p14 .args .n) (c .before .before .before .before .before .before .before .loop .table) (c .before .before .before .before .before .before .before .loop .last) (c .before .before .before .before .before .before .before .loop .count) (c .before .before .before .before .before .before .before .loop .s) (p14 .pre .0) (c .before .before .before .before .before .before .before .loop .inv .1 (p14 .args .table .now) (begins (p14 .args .table .now) (p14 .args .view) (p14 .args .n) (p10 .join .last .0) (p14 .pre .0) (λ i. omega (arith, p13 .slice-known .given i)) (p14 .pre .1 .0) (p14 .pre .1 .1) (p10 .join .ensures))), freed-fits (p14 .args .table .now) (p14 .args .view) (p14 .args .n) (c .before .before .before .before .before .before .before .loop .table) (c .before .before .before .before .before .before .before .loop .last) (c .before .before .before .before .before .before .before .loop .count) (c .before .before .before .before .before .before .before .loop .s) (p14 .pre .0) (c .before .before .before .before .before .before .before .loop .inv .1 (p14 .args .table .now) (begins (p14 .args .table .now) (p14 .args .view) (p14 .args .n) (p10 .join .last .0) (p14 .pre .0) (λ i. omega (arith, p13 .slice-known .given i)) (p14 .pre .1 .0) (p14 .pre .1 .1) (p10 .join .ensures))) (c .before .before .before .before .before .link-at .result) (c .before .before .before .before .before .link-at .ensures)))
+
+add-count : tie.Need-add-count Inv-loop μ-loop
+add-count c =
+    let q = c .before .before .before .before .before .before .before .before .before .before in
+    let l = q .loop in
+    let j = q .before .before .before in
+    let k = j .before .before .before in
+    let p = k .before in
+    let m = count-most-free (p .args .table .now) (p .args .view) (p .args .n) (l .table) (l .last) (l .count) (l .s) (p .pre .0) (l .inv .1 (p .args .table .now) (begins (p .args .table .now) (p .args .view) (p .args .n) (j .join .last .0) (p .pre .0) (λ i. omega (arith, k .slice-known .given i)) (p .pre .1 .0) (p .pre .1 .1) (j .join .ensures))) in
+    let n = opened-counted (p .args .table .now) (p .args .view) (p .pre .0) .slots-most in
+    omega arith
 
 loop-less : tie.Need-loop-less Inv-loop μ-loop
 unfolding zeros
@@ -49,18 +61,18 @@ loop-less c = let p8 = c .before .before .before .before .before .before .before
     let p10 = p8 .before .before in
     let p13 = p10 .before .before .before in
     let p17 = p13 .before .before .before .before in
-    falls (p17 .args .table .now) (p17 .args .view) (p17 .args .n) (p10 .loop .table) (p10 .loop .last) (p10 .loop .s) (p17 .pre .0) (p10 .loop .inv .1 (p17 .args .table .now) (begins (p17 .args .table .now) (p17 .args .view) (p17 .args .n) (p13 .join .last .0) (p17 .pre .0) (λ i. omega (arith, p13 .before .before .before .slice-known .given i)) (p17 .pre .1 .0) (p17 .pre .1 .1) (p13 .join .ensures))) (p8 .link-at .result) (p8 .link-at .ensures) (c .before .before .before .before .before .before .if1 .left) (c .before .before .put-slot .last .0) (c .before .before .put-slot .ensures)
+    falls (p17 .args .table .now) (p17 .args .view) (p17 .args .n) (p10 .loop .table) (p10 .loop .last) (p10 .loop .count) (p10 .loop .s) (p17 .pre .0) (p10 .loop .inv .1 (p17 .args .table .now) (begins (p17 .args .table .now) (p17 .args .view) (p17 .args .n) (p13 .join .last .0) (p17 .pre .0) (λ i. omega (arith, p13 .before .before .before .slice-known .given i)) (p17 .pre .1 .0) (p17 .pre .1 .1) (p13 .join .ensures))) (p8 .link-at .result) (p8 .link-at .ensures) (c .before .before .before .before .before .before .if1 .left) (c .before .before .put-slot .last .0) (c .before .before .put-slot .ensures)
 
 loop-again : tie.Need-loop-again Inv-loop μ-loop
 unfolding zeros
 loop-again c = let p8 = c .before .before .before .before .before .before .before .before in
-    let a = p8 .before .before .before .before .before .before .before .before .before .args in let l = p8 .before .before .loop in (c .before .before .put-slot .kept .0 ∙ l .inv .0, λ b B. releasing-on b (a .view) (a .n) (l .table) (l .last) (l .s) (B .opened) (l .inv .1 b B) (p8 .link-at .result) (p8 .link-at .ensures) (c .before .before .before .before .before .before .if1 .left) (c .before .before .put-slot .last .0) (c .before .before .put-slot .ensures) .0)
+    let a = p8 .before .before .before .before .before .before .before .before .before .args in let l = p8 .before .before .loop in (c .before .before .put-slot .kept .0 ∙ l .inv .0, λ b B. releasing-on b (a .view) (a .n) (l .table) (l .last) (l .count) (l .s) (B .opened) (l .inv .1 b B) (p8 .link-at .result) (p8 .link-at .ensures) (c .before .before .before .before .before .before .if1 .left) (c .before .before .put-slot .last .0) (c .before .before .put-slot .ensures) .0)
 
 join-requires-2 : tie.Need-join-requires-2 Inv-loop μ-loop
 join-requires-2 c κs = let p8 = c .before .before .before .before .before .before .before .before in
     let p11 = p8 .before .before .before in
     let p12 = p11 .before in
-    (holds-counted _ _ _ _ (c .before .before .before .before .before .loop .inv .1 (p12 .args .table .now) (begins (p12 .args .table .now) (p12 .args .view) (p12 .args .n) (p8 .join .last .0) (p12 .pre .0) (λ i. omega (arith, p11 .slice-known .given i)) (p12 .pre .1 .0) (p12 .pre .1 .1) (p8 .join .ensures)) .held), (last-most-free (p12 .args .table .now) (p12 .args .view) (p12 .args .n) (c .before .before .before .before .before .loop .table) (c .before .before .before .before .before .loop .last) (c .before .before .before .before .before .loop .s) (p12 .pre .0) (c .before .before .before .before .before .loop .inv .1 (p12 .args .table .now) (begins (p12 .args .table .now) (p12 .args .view) (p12 .args .n) (p8 .join .last .0) (p12 .pre .0) (λ i. omega (arith, p11 .slice-known .given i)) (p12 .pre .1 .0) (p12 .pre .1 .1) (p8 .join .ensures))), omega arith))
+    (holds-counted _ _ _ _ _ (c .before .before .before .before .before .loop .inv .1 (p12 .args .table .now) (begins (p12 .args .table .now) (p12 .args .view) (p12 .args .n) (p8 .join .last .0) (p12 .pre .0) (λ i. omega (arith, p11 .slice-known .given i)) (p12 .pre .1 .0) (p12 .pre .1 .1) (p8 .join .ensures)) .held), (last-most-free (p12 .args .table .now) (p12 .args .view) (p12 .args .n) (c .before .before .before .before .before .loop .table) (c .before .before .before .before .before .loop .last) (c .before .before .before .before .before .loop .count) (c .before .before .before .before .before .loop .s) (p12 .pre .0) (c .before .before .before .before .before .loop .inv .1 (p12 .args .table .now) (begins (p12 .args .table .now) (p12 .args .view) (p12 .args .n) (p8 .join .last .0) (p12 .pre .0) (λ i. omega (arith, p11 .slice-known .given i)) (p12 .pre .1 .0) (p12 .pre .1 .1) (p8 .join .ensures))), omega arith))
 
 truncate-requires : tie.Need-truncate-requires Inv-loop μ-loop
 truncate-requires c κs = search needs
@@ -70,18 +82,42 @@ put-row-requires c κs = let p10 = c .before .before .before .before .before .be
     let p13 = p10 .before .before .before in
     let p16 = p13 .before .before .before in
     let p17 = p16 .before in
-    (holds-counted _ _ _ _ (cut-held (p17 .args .table .now) (p17 .args .view) (p17 .args .n) (p10 .loop .table) (p10 .loop .last) (p10 .loop .s) (p17 .pre .0) (p10 .loop .inv .1 (p17 .args .table .now) (begins (p17 .args .table .now) (p17 .args .view) (p17 .args .n) (p13 .join .last .0) (p17 .pre .0) (λ i. omega (arith, p16 .slice-known .given i)) (p17 .pre .1 .0) (p17 .pre .1 .1) (p13 .join .ensures))) (c .before .before .before .before .join2 .last .0) (c .before .before .before .before .join2 .ensures)), (opened-log (p17 .args .table .now) (p17 .args .view) (p17 .pre .0), cut-row (p17 .args .table .now) (p17 .args .view) (p17 .args .n) (p10 .loop .table) (p10 .loop .last) (p10 .loop .s) (p17 .pre .0) (p10 .loop .inv .1 (p17 .args .table .now) (begins (p17 .args .table .now) (p17 .args .view) (p17 .args .n) (p13 .join .last .0) (p17 .pre .0) (λ i. omega (arith, p16 .slice-known .given i)) (p17 .pre .1 .0) (p17 .pre .1 .1) (p13 .join .ensures))) (λ i. omega (arith, p16 .slice-known .given i)) (omega (arith, p17 .fits .n)) (c .before .truncate .result) (c .before .truncate .ensures)))
+    (holds-counted _ _ _ _ _ (cut-held (p17 .args .table .now) (p17 .args .view) (p17 .args .n) (p10 .loop .table) (p10 .loop .last) (p10 .loop .count) (p10 .loop .s) (p17 .pre .0) (p10 .loop .inv .1 (p17 .args .table .now) (begins (p17 .args .table .now) (p17 .args .view) (p17 .args .n) (p13 .join .last .0) (p17 .pre .0) (λ i. omega (arith, p16 .slice-known .given i)) (p17 .pre .1 .0) (p17 .pre .1 .1) (p13 .join .ensures))) (c .before .before .before .before .join2 .last .0) (c .before .before .before .before .join2 .ensures)), (opened-log (p17 .args .table .now) (p17 .args .view) (p17 .pre .0), cut-row (p17 .args .table .now) (p17 .args .view) (p17 .args .n) (p10 .loop .table) (p10 .loop .last) (p10 .loop .count) (p10 .loop .s) (p17 .pre .0) (p10 .loop .inv .1 (p17 .args .table .now) (begins (p17 .args .table .now) (p17 .args .view) (p17 .args .n) (p13 .join .last .0) (p17 .pre .0) (λ i. omega (arith, p16 .slice-known .given i)) (p17 .pre .1 .0) (p17 .pre .1 .1) (p13 .join .ensures))) (λ i. omega (arith, p16 .slice-known .given i)) (omega (arith, p17 .fits .n)) (c .before .truncate .result) (c .before .truncate .ensures)))
+
+put-count-requires : tie.Need-put-count-requires Inv-loop μ-loop
+put-count-requires c κs =
+    let q = c .before .before .before .before .before .before .before .before .before .before .before .before .before .before in
+    let l = q .loop in
+    let j = q .before .before .before in
+    let k = j .before .before .before in
+    let p = k .before in
+    let r = c .before .before .before in
+    let t = r .before .before in
+    let d = t .before .before .before in
+    let m = count-most-free (p .args .table .now) (p .args .view) (p .args .n) (l .table) (l .last) (l .count) (l .s) (p .pre .0) (l .inv .1 (p .args .table .now) (begins (p .args .table .now) (p .args .view) (p .args .n) (j .join .last .0) (p .pre .0) (λ i. omega (arith, k .slice-known .given i)) (p .pre .1 .0) (p .pre .1 .1) (j .join .ensures))) in
+    let n = opened-counted (p .args .table .now) (p .args .view) (p .pre .0) .slots-most in
+    (held-long _ _ _ _ _ (row-held (p .args .table .now) (p .args .view) (p .args .n) (l .table) (l .last) (l .count) (l .s) (p .pre .0) (l .inv .1 (p .args .table .now) (begins (p .args .table .now) (p .args .view) (p .args .n) (j .join .last .0) (p .pre .0) (λ i. omega (arith, k .slice-known .given i)) (p .pre .1 .0) (p .pre .1 .1) (j .join .ensures))) (λ i. omega (arith, k .slice-known .given i)) (omega (arith, p .fits .n)) (d .join2 .last .0) (r .put-row .last .0) (t .truncate .result) (d .join2 .ensures) (t .truncate .ensures) (r .put-row .ensures)), omega arith)
 
 same-length : tie.Need-same-length Inv-loop μ-loop
-same-length c = c .before .before .put-row .kept .0 ∙ c .before .before .before .before .before .before .before .join2 .kept .0 ∙ c .before .before .before .before .before .before .before .before .before .before .before .before .before .loop .inv .0 ∙ c .before .before .before .before .before .before .before .before .before .before .before .before .before .before .before .before .join .kept .0
+same-length c =
+    let r = c .before .before .before .before .before .before in
+    let d = r .before .before .before .before .before in
+    let q = d .before .before .before .before .before .before in
+    c .before .before .put-count .kept .0 ∙ r .put-row .kept .0 ∙ d .join2 .kept .0 ∙ q .loop .inv .0 ∙ q .before .before .before .join .kept .0
 
 returns : tie.Need-returns Inv-loop μ-loop
-returns c = let p11 = c .before .before .before .before .before .before .before .before .before .before .before in
-    let p13 = p11 .before .before in
-    let p16 = p13 .before .before .before in
-    let p19 = p16 .before .before .before in
-    let p20 = p19 .before in
-    let a = p20 .args in (struck-answer (a .view) (a .n) (p13 .loop .s) (c .before .before .before .before .truncate .result) (c .before .before .before .before .truncate .ensures), struck (p20 .args .table .now) (p20 .args .view) (p20 .args .n) (p13 .loop .table) (p13 .loop .last) (p13 .loop .s) (p20 .pre .0) (p13 .loop .inv .1 (p20 .args .table .now) (begins (p20 .args .table .now) (p20 .args .view) (p20 .args .n) (p16 .join .last .0) (p20 .pre .0) (λ i. omega (arith, p19 .slice-known .given i)) (p20 .pre .1 .0) (p20 .pre .1 .1) (p16 .join .ensures))) (λ i. omega (arith, p19 .slice-known .given i)) (omega (arith, p20 .fits .n)) (p11 .link-at .result) (p11 .link-at .ensures) (c .before .before .before .before .before .before .before .before .before .if1 .taken) (c .before .before .before .before .before .before .before .join2 .last .0) (c .before .before .put-row .last .0) (c .before .before .before .before .truncate .result) (c .before .before .before .before .before .before .before .join2 .ensures) (c .before .before .before .before .truncate .ensures) (c .before .before .put-row .ensures))
+returns c =
+    let q = c .before .before .before .before .before .before .before .before .before .before .before .before .before .before .before .before .before in
+    let l = q .loop in
+    let j = q .before .before .before in
+    let k = j .before .before .before in
+    let p = k .before in
+    let r = c .before .before .before .before .before .before in
+    let t = r .before .before in
+    let d = t .before .before .before in
+    let i = d .before .before in
+    let h = i .before .before in
+    (struck-answer (p .args .view) (p .args .n) (l .s) (t .truncate .result) (t .truncate .ensures), struck (p .args .table .now) (p .args .view) (p .args .n) (l .table) (l .last) (l .count) (l .s) (p .pre .0) (l .inv .1 (p .args .table .now) (begins (p .args .table .now) (p .args .view) (p .args .n) (j .join .last .0) (p .pre .0) (λ i. omega (arith, k .slice-known .given i)) (p .pre .1 .0) (p .pre .1 .1) (j .join .ensures))) (λ i. omega (arith, k .slice-known .given i)) (omega (arith, p .fits .n)) (h .link-at .result) (h .link-at .ensures) (i .if1 .taken) (d .join2 .last .0) (r .put-row .last .0) (c .before .before .put-count .last .0) (t .truncate .result) (d .join2 .ensures) (t .truncate .ensures) (r .put-row .ensures) (c .before .before .put-count .ensures))
 
 pub strike-spec : {M : Type 1} → statement M
 strike-spec =
@@ -95,10 +131,12 @@ strike-spec =
     slice-aggregate-put-slot
     slice-aggregate-put-slot-2
     put-slot-requires
+    add-count
     loop-less
     loop-again
     join-requires-2
     truncate-requires
     put-row-requires
+    put-count-requires
     same-length
     returns)

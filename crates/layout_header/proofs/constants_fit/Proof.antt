@@ -1,29 +1,23 @@
 -- `layout_header::constants_fit` meets its contract.
 use native.Mathlib.Omega.{arith}
-use Rattle.layout.proofs.HeaderLaws.{no-mark, no-zero, by-zeros}
+use Rattle.layout.proofs.HeaderLaws.{no-mark, by-zero}
 use borrow.Author.Needs.{needs}
 use Rattle.layout_header.proofs.constants_fit.Statement.{statement}
 use Rattle.layout_header.proofs.constants_fit.Tie as tie
 
-get-u32-requires : tie.Need-get-u32-requires
-get-u32-requires c κs = search needs
+has-mark-requires : tie.Need-has-mark-requires
+has-mark-requires c κs = search needs
 
 returns : tie.Need-returns
-returns c = let x = c .before .before .before in no-mark (x .args .table .now) (λ i. omega (arith, c .before .before .shared-slice-known .given i)) (x .pre) (c .before .get-u32 .result) (c .before .get-u32 .ensures) (c .if1 .taken)
+returns c = let x = c .before .before .before in no-mark (x .args .table .now) (λ i. omega (arith, c .before .before .shared-slice-known .given i)) (x .pre) (c .before .has-mark .result) (c .before .has-mark .ensures) (c .if1 .taken)
 
 byte-at-requires : tie.Need-byte-at-requires
 byte-at-requires c κs = search needs
 
 returns-2 : tie.Need-returns-2
-returns-2 c = let x = c .before .before .before .before .before in no-zero (x .args .table .now) (λ i. omega (arith, c .before .before .before .before .shared-slice-known .given i)) (x .pre) (c .before .byte-at .result) (c .before .byte-at .ensures .0) (c .if2 .taken)
-
-pair-at-requires : tie.Need-pair-at-requires
-pair-at-requires c κs = search needs
-
-returns-3 : tie.Need-returns-3
-returns-3 c = let x = c .before .before .before .before .before .before in by-zeros (x .args .table .now) (λ i. omega (arith, c .before .before .before .before .before .shared-slice-known .given i)) (x .pre) (c .before .before .before .before .get-u32 .result) (c .before .before .byte-at .result) (c .pair-at .result) (c .before .before .before .before .get-u32 .ensures) (c .before .before .before .if1 .left) (c .before .before .byte-at .ensures .0) (c .before .if2 .left) (c .pair-at .ensures .0)
+returns-2 c = let x = c .before .before .before .before in by-zero (x .args .table .now) (λ i. omega (arith, c .before .before .before .shared-slice-known .given i)) (x .pre) (c .before .before .has-mark .result) (c .byte-at .result) (c .before .before .has-mark .ensures) (c .before .if1 .left) (c .byte-at .ensures .0)
 
 pub constants-fit-spec : {M : Type 1} → statement M
 constants-fit-spec =
     tie.close
-    (tie.spec get-u32-requires returns byte-at-requires returns-2 pair-at-requires returns-3)
+    (tie.spec has-mark-requires returns byte-at-requires returns-2)

@@ -1,4 +1,5 @@
 -- `layout_header::write_header` meets its contract.
+use Rattle.layout.specs.Layout.{stocked}
 use Rattle.layout.proofs.CodeLaws.{header-fields}
 use borrow.Author.Needs.{needs}
 use Rattle.layout_header.proofs.write_header.Statement.{statement}
@@ -23,7 +24,7 @@ same-length : tie.Need-same-length
 same-length c = search needs
 
 returns : tie.Need-returns
-returns c = let x = c .before .before .before .before .before .before .before .before .before .before .before .before .before .before .before .before .before .before .before .before .before .before in header-fields (x .args .part .now) (x .args .logs) (x .args .slots) (x .args .keeper) (x .args .free) (x .args .key .now) (x .pre .1 .1 .1 .1) (x .pre .0) (c .before .before .before .before .before .before .before .before .before .before .before .before .before .before .before .before .before .before .write-counts .ensures) (c .before .before .before .before .before .before .before .before .before .before .before .before .before .before .put-u64 .ensures) (c .before .before .before .before .before .before .before .before .before .before .put-pair .ensures) (c .before .before .before .before .before .before .put-pair2 .ensures) (c .before .before .put .ensures)
+returns c = let x = c .before .before .before .before .before .before .before .before .before .before .before .before .before .before .before .before .before .before .before .before .before .before in header-fields (x .args .part .now) (x .args .logs) (x .args .slots) (x .args .keeper) (x .args .free) (stocked (x .args .count)) (x .args .key .now) (x .pre .1 .1 .1 .1 .1) (x .pre .0) (c .before .before .before .before .before .before .before .before .before .before .before .before .before .before .before .before .before .before .write-counts .ensures) (c .before .before .before .before .before .before .before .before .before .before .before .before .before .before .put-u64 .ensures) (c .before .before .before .before .before .before .before .before .before .before .put-pair .ensures) (c .before .before .before .before .before .before .put-pair2 .ensures) (c .before .before .put .ensures)
 
 pub write-header-spec : {M : Type 1} → statement M
 write-header-spec =

@@ -2,7 +2,7 @@
 use borrow.Author.Tests.{not-false}
 use mathlib.Core.Path.{sym, _∙_}
 use Rattle.layout.proofs.HeaderLaws.{header-long, counted}
-use Rattle.table.proofs.CheckLaws.{torn-header, torn-pads, torn-free, torn-held, torn-over, torn-total, is-whole}
+use Rattle.table.proofs.CheckLaws.{torn-header, torn-pads, torn-free, torn-held, torn-over, torn-total, torn-number, is-whole}
 use borrow.Author.Needs.{needs}
 use Rattle.table_check.proofs.check.Statement.{statement}
 use Rattle.table_check.proofs.check.Tie as tie
@@ -70,14 +70,31 @@ returns-6 c = let p12 = c .before .before .before .before .before .before .befor
     let p17 = p15 .before .before in
     torn-total (p17 .args .table .now) (p13 .logs-of .result) (p12 .slots-of .result) (counted (p17 .args .table .now) (p13 .logs-of .result) (p12 .slots-of .result) (p15 .header-fits .result) (p15 .header-fits .ensures) (p13 .before .if1 .left) (p13 .logs-of .ensures .0) (p12 .slots-of .ensures .0)) (c .before .before .before .before .before .before .before .count .given .0 .0) _ (c .before .before .before .held .given .0 .0) (sym (c .before .before .before .before .before .before .before .count .given .1) ∙ c .before .before .before .before .before .before .before .before .before .free-walk .ensures) (sym (c .before .before .before .held .given .1) ∙ c .before .before .before .before .before .held-walk .ensures) (c .before .if3 .left) (c .if4 .taken)
 
+count-of-requires : tie.Need-count-of-requires
+count-of-requires c κs = let p15 = c .before .before .before .before .before .before .before .before .before .before .before .before .before .before .before in
+    header-long (p15 .before .before .args .table .now) (sym (p15 .header-fits .ensures) ∙ not-false _ (c .before .before .before .before .before .before .before .before .before .before .before .before .before .before .if1 .left))
+
 returns-7 : tie.Need-returns-7
-returns-7 c = let p11 = c .before .before .before .before .before .before .before .before .before .before .before in
+returns-7 c =
+    let d = c .before .before in
+    let p11 = d .before .before .before .before .before .before .before .before .before .before .before in
     let p12 = p11 .before in
     let p13 = p12 .before in
     let p14 = p13 .before in
     let p15 = p14 .before in
     let p17 = p15 .before .before in
-    is-whole (p17 .args .table .now) (p13 .logs-of .result) (p12 .slots-of .result) (counted (p17 .args .table .now) (p13 .logs-of .result) (p12 .slots-of .result) (p15 .header-fits .result) (p15 .header-fits .ensures) (p14 .if1 .left) (p13 .logs-of .ensures .0) (p12 .slots-of .ensures .0)) (c .before .before .before .before .before .before .before .count .given .0 .0) _ (c .before .before .before .held .given .0 .0) (sym (c .before .before .before .before .before .before .before .count .given .1) ∙ c .before .before .before .before .before .before .before .before .before .free-walk .ensures) (sym (c .before .before .before .held .given .1) ∙ c .before .before .before .before .before .held-walk .ensures) (p15 .header-fits .result) (p11 .pads-fit .result) (p15 .header-fits .ensures) (p14 .if1 .left) (p11 .pads-fit .ensures) (c .before .before .before .before .before .before .before .before .before .before .if2 .left) (c .before .if3 .left) (c .if4 .left)
+    torn-number (p17 .args .table .now) (p13 .logs-of .result) (p12 .slots-of .result) (counted (p17 .args .table .now) (p13 .logs-of .result) (p12 .slots-of .result) (p15 .header-fits .result) (p15 .header-fits .ensures) (p14 .if1 .left) (p13 .logs-of .ensures .0) (p12 .slots-of .ensures .0)) (d .before .before .before .before .before .before .before .count .given .0 .0) _ (d .before .before .before .held .given .0 .0) (sym (d .before .before .before .before .before .before .before .count .given .1) ∙ d .before .before .before .before .before .before .before .before .before .free-walk .ensures) (sym (d .before .before .before .held .given .1) ∙ d .before .before .before .before .before .held-walk .ensures) (c .before .count-of .result) (c .before .count-of .ensures .0) (c .if5 .taken)
+
+returns-8 : tie.Need-returns-8
+returns-8 c =
+    let d = c .before .before in
+    let p11 = d .before .before .before .before .before .before .before .before .before .before .before in
+    let p12 = p11 .before in
+    let p13 = p12 .before in
+    let p14 = p13 .before in
+    let p15 = p14 .before in
+    let p17 = p15 .before .before in
+    is-whole (p17 .args .table .now) (p13 .logs-of .result) (p12 .slots-of .result) (counted (p17 .args .table .now) (p13 .logs-of .result) (p12 .slots-of .result) (p15 .header-fits .result) (p15 .header-fits .ensures) (p14 .if1 .left) (p13 .logs-of .ensures .0) (p12 .slots-of .ensures .0)) (d .before .before .before .before .before .before .before .count .given .0 .0) _ (d .before .before .before .held .given .0 .0) (sym (d .before .before .before .before .before .before .before .count .given .1) ∙ d .before .before .before .before .before .before .before .before .before .free-walk .ensures) (sym (d .before .before .before .held .given .1) ∙ d .before .before .before .before .before .held-walk .ensures) (p15 .header-fits .result) (p11 .pads-fit .result) (c .before .count-of .result) (p15 .header-fits .ensures) (p14 .if1 .left) (p11 .pads-fit .ensures) (d .before .before .before .before .before .before .before .before .before .before .if2 .left) (d .before .if3 .left) (d .if4 .left) (c .before .count-of .ensures .0) (c .if5 .left)
 
 pub check-spec : {M : Type 1} → statement M
 check-spec =
@@ -99,4 +116,6 @@ check-spec =
     returns-4
     returns-5
     returns-6
-    returns-7)
+    count-of-requires
+    returns-7
+    returns-8)

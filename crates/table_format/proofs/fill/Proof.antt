@@ -1,5 +1,7 @@
 -- `table_format::fill` meets its contract.
+use mathlib.Core.Path.{_∙_}
 use Rattle.table.proofs.FillLaws.{three}
+use Rattle.table.proofs.FormattedLaws.{formatted-bytes}
 use borrow.Author.Needs.{needs}
 use Rattle.table_format.proofs.fill.Statement.{statement}
 use Rattle.table_format.proofs.fill.Tie as tie
@@ -57,7 +59,7 @@ same-length c = search needs
 
 returns : tie.Need-returns
 returns c = let p10 = c .before .before .before .before .before .before .before .before .before .before in
-    let x = p10 .before .before .before .before in let a = x .args in three (a .table .now) (p10 .write-header .last .0) (c .before .before .before .before .before .before .fill-rows .last .0) (c .before .before .fill-slots .last .0) (a .logs) (a .slots) (a .keeper) (a .key .now) (x .pre .1 .0) (x .pre .1 .1) (p10 .write-header .ensures) (c .before .before .before .before .before .before .fill-rows .ensures) (c .before .before .fill-slots .ensures)
+    let x = p10 .before .before .before .before in let a = x .args in three (a .table .now) (p10 .write-header .last .0) (c .before .before .before .before .before .before .fill-rows .last .0) (c .before .before .fill-slots .last .0) (a .logs) (a .slots) (a .keeper) (a .key .now) (x .pre .1 .0) (x .pre .1 .1) (p10 .write-header .ensures) (c .before .before .before .before .before .before .fill-rows .ensures) (c .before .before .fill-slots .ensures) ∙ formatted-bytes (a .logs) (a .slots) (a .keeper) (a .key .now)
 
 pub fill-spec : {M : Type 1} → statement M
 fill-spec =

@@ -1,7 +1,7 @@
 -- `a2m_put::entering::enter` meets its contract. Assumes nothing.
-use Rattle.a2m.proofs.EnterLaws.{slot-good, row-good, next-good, held-1, held-2, held-3, held-long, entered, enter-answer}
+use Rattle.a2m.proofs.EnterLaws.{slot-good, row-good, next-good, held-1, held-2, held-3, held-4, held-long, some-free, entered, enter-answer}
 use Rattle.layout.proofs.HoldsLaws.{holds-counted}
-use Rattle.a2m.proofs.OpenedLaws.{opened-counted, opened-log, free-most, last-most}
+use Rattle.a2m.proofs.OpenedLaws.{opened-counted, opened-log, free-most, count-most, last-most}
 use native.Mathlib.Omega.{arith}
 use borrow.Author.Needs.{needs}
 use Rattle.a2m_put.proofs.entering.enter.Statement.{statement}
@@ -18,29 +18,60 @@ put-slot-requires c κs = let a = c .before .before .before .before .before .bef
 
 hook-requires : tie.Need-hook-requires
 hook-requires c κs = let p11 = c .before .before .before .before .before .before .before .before .before .before .before in
-    let a = p11 .args in let p = p11 .pre in (holds-counted _ _ _ _ (held-1 (a .table .now) (a .view) (a .after) (a .value .now) (a .digest .now) (p .0) (λ i. omega (arith, c .before .before .before .before .before .before .before .before .before .before .slice-known .given i)) (p .1 .0) (p .1 .1 .0) (p .1 .1 .1 .0) (p .1 .1 .1 .1 .0) (p .1 .1 .1 .1 .1) (c .before .before .before .put-slot .last .0) (c .before .before .before .put-slot .ensures)), (last-most (a .table .now) (a .view) (p .0), free-most (a .table .now) (a .view) (p .0)))
+    let a = p11 .args in let p = p11 .pre in (holds-counted _ _ _ _ _ (held-1 (a .table .now) (a .view) (a .after) (a .value .now) (a .digest .now) (p .0) (λ i. omega (arith, c .before .before .before .before .before .before .before .before .before .before .slice-known .given i)) (p .1 .0) (p .1 .1 .0) (p .1 .1 .1 .0) (p .1 .1 .1 .1 .0) (p .1 .1 .1 .1 .1) (c .before .before .before .put-slot .last .0) (c .before .before .before .put-slot .ensures)), (last-most (a .table .now) (a .view) (p .0), free-most (a .table .now) (a .view) (p .0)))
 
 put-row-requires : tie.Need-put-row-requires
 put-row-requires c κs = let p14 = c .before .before .before .before .before .before .before .before .before .before .before .before .before .before in
     let p15 = p14 .before in
-    let a = p15 .args in let p = p15 .pre in (holds-counted _ _ _ _ (held-2 (a .table .now) (a .view) (a .after) (a .value .now) (a .digest .now) (p .0) (λ i. omega (arith, p14 .slice-known .given i)) (p .1 .0) (p .1 .1 .0) (p .1 .1 .1 .0) (p .1 .1 .1 .1 .0) (p .1 .1 .1 .1 .1) (c .before .before .before .before .before .before .before .put-slot .last .0) (c .before .before .before .hook .last .0) (c .before .before .before .before .before .before .before .put-slot .ensures) (c .before .before .before .hook .ensures)), (opened-log (a .table .now) (a .view) (p .0), row-good (a .table .now) (a .view) (a .after) (a .value .now) (a .digest .now) (p .0) (λ i. omega (arith, p14 .slice-known .given i)) (p .1 .0) (p .1 .1 .0) (p .1 .1 .1 .0) (p .1 .1 .1 .1 .0) (p .1 .1 .1 .1 .1)))
+    let a = p15 .args in let p = p15 .pre in (holds-counted _ _ _ _ _ (held-2 (a .table .now) (a .view) (a .after) (a .value .now) (a .digest .now) (p .0) (λ i. omega (arith, p14 .slice-known .given i)) (p .1 .0) (p .1 .1 .0) (p .1 .1 .1 .0) (p .1 .1 .1 .1 .0) (p .1 .1 .1 .1 .1) (c .before .before .before .before .before .before .before .put-slot .last .0) (c .before .before .before .hook .last .0) (c .before .before .before .before .before .before .before .put-slot .ensures) (c .before .before .before .hook .ensures)), (opened-log (a .table .now) (a .view) (p .0), row-good (a .table .now) (a .view) (a .after) (a .value .now) (a .digest .now) (p .0) (λ i. omega (arith, p14 .slice-known .given i)) (p .1 .0) (p .1 .1 .0) (p .1 .1 .1 .0) (p .1 .1 .1 .1 .0) (p .1 .1 .1 .1 .1)))
 
 put-free-requires : tie.Need-put-free-requires
 put-free-requires c κs = let p11 = c .before .before .before .before .before .before .before .before .before .before .before in
     let p13 = p11 .before .before in
     let p18 = p13 .before .before .before .before .before in
     let p19 = p18 .before in
-    let a = p19 .args in let p = p19 .pre in (held-long _ _ _ _ (held-3 (a .table .now) (a .view) (a .after) (a .value .now) (a .digest .now) (p .0) (λ i. omega (arith, p18 .slice-known .given i)) (p .1 .0) (p .1 .1 .0) (p .1 .1 .1 .0) (p .1 .1 .1 .1 .0) (p .1 .1 .1 .1 .1) (p11 .put-slot .last .0) (c .before .before .before .before .before .before .before .hook .last .0) (c .before .before .before .put-row .last .0) (p11 .put-slot .ensures) (c .before .before .before .before .before .before .before .hook .ensures) (c .before .before .before .put-row .ensures)), next-good (a .table .now) (a .view) (a .after) (a .value .now) (a .digest .now) (p .0) (λ i. omega (arith, p18 .slice-known .given i)) (p .1 .0) (p .1 .1 .0) (p .1 .1 .1 .0) (p .1 .1 .1 .1 .0) (p .1 .1 .1 .1 .1) (p13 .link-at .result) (p13 .link-at .ensures))
+    let a = p19 .args in let p = p19 .pre in (held-long _ _ _ _ _ (held-3 (a .table .now) (a .view) (a .after) (a .value .now) (a .digest .now) (p .0) (λ i. omega (arith, p18 .slice-known .given i)) (p .1 .0) (p .1 .1 .0) (p .1 .1 .1 .0) (p .1 .1 .1 .1 .0) (p .1 .1 .1 .1 .1) (p11 .put-slot .last .0) (c .before .before .before .before .before .before .before .hook .last .0) (c .before .before .before .put-row .last .0) (p11 .put-slot .ensures) (c .before .before .before .before .before .before .before .hook .ensures) (c .before .before .before .put-row .ensures)), next-good (a .table .now) (a .view) (a .after) (a .value .now) (a .digest .now) (p .0) (λ i. omega (arith, p18 .slice-known .given i)) (p .1 .0) (p .1 .1 .0) (p .1 .1 .1 .0) (p .1 .1 .1 .1 .0) (p .1 .1 .1 .1 .1) (p13 .link-at .result) (p13 .link-at .ensures))
+
+sub-put-count : tie.Need-sub-put-count
+sub-put-count c =
+    let f = c .before .before .before .before in
+    let r = f .before .before .before .before in
+    let h = r .before .before .before .before in
+    let s = h .before .before .before .before in
+    let k = s .before .before in
+    let y = k .before .before .before .before .before in
+    let p = y .before .pre in
+    let a = y .before .args in
+    some-free (a .table .now) (a .view) (a .after) (a .value .now) (a .digest .now) (p .0) (λ i. omega (arith, y .slice-known .given i)) (p .1 .0) (p .1 .1 .0) (p .1 .1 .1 .0) (p .1 .1 .1 .1 .0) (p .1 .1 .1 .1 .1)
+
+put-count-requires : tie.Need-put-count-requires
+put-count-requires c κs =
+    let f = c .before .before .before .before in
+    let r = f .before .before .before .before in
+    let h = r .before .before .before .before in
+    let s = h .before .before .before .before in
+    let k = s .before .before in
+    let y = k .before .before .before .before .before in
+    let p = y .before .pre in
+    let a = y .before .args in
+    let m = count-most (a .table .now) (a .view) (p .0) in
+    let n = opened-counted (a .table .now) (a .view) (p .0) .slots-most in
+    (held-long _ _ _ _ _ (held-4 (a .table .now) (a .view) (a .after) (a .value .now) (a .digest .now) (p .0) (λ i. omega (arith, y .slice-known .given i)) (p .1 .0) (p .1 .1 .0) (p .1 .1 .1 .0) (p .1 .1 .1 .1 .0) (p .1 .1 .1 .1 .1) (s .put-slot .last .0) (h .hook .last .0) (r .put-row .last .0) (f .put-free .last .0) (k .link-at .result) (k .link-at .ensures) (s .put-slot .ensures) (h .hook .ensures) (r .put-row .ensures) (f .put-free .ensures)), omega arith)
 
 same-length : tie.Need-same-length
 same-length c = search needs
 
 returns : tie.Need-returns
-returns c = let p10 = c .before .before .before .before .before .before .before .before .before .before in
-    let p14 = p10 .before .before .before .before in
-    let p16 = p14 .before .before in
-    let p22 = p16 .before .before .before .before .before .before in
-    let a = p22 .args in let p = p22 .pre in (enter-answer (a .view) (a .after) (p .1 .1 .0), entered (a .table .now) (a .view) (a .after) (a .value .now) (a .digest .now) (p .0) (λ i. omega (arith, p16 .before .before .before .before .before .slice-known .given i)) (p .1 .0) (p .1 .1 .0) (p .1 .1 .1 .0) (p .1 .1 .1 .1 .0) (p .1 .1 .1 .1 .1) (p14 .put-slot .last .0) (p10 .hook .last .0) (c .before .before .before .before .before .before .put-row .last .0) (c .before .before .put-free .last .0) (p16 .link-at .result) (p16 .link-at .ensures) (p14 .put-slot .ensures) (p10 .hook .ensures) (c .before .before .before .before .before .before .put-row .ensures) (c .before .before .put-free .ensures))
+returns c =
+    let f = c .before .before .before .before .before .before .before in
+    let r = f .before .before .before .before in
+    let h = r .before .before .before .before in
+    let s = h .before .before .before .before in
+    let k = s .before .before in
+    let y = k .before .before .before .before .before in
+    let p = y .before .pre in
+    let a = y .before .args in
+    (enter-answer (a .view) (a .after) (p .1 .1 .0), entered (a .table .now) (a .view) (a .after) (a .value .now) (a .digest .now) (p .0) (λ i. omega (arith, y .slice-known .given i)) (p .1 .0) (p .1 .1 .0) (p .1 .1 .1 .0) (p .1 .1 .1 .1 .0) (p .1 .1 .1 .1 .1) (s .put-slot .last .0) (h .hook .last .0) (r .put-row .last .0) (f .put-free .last .0) (c .before .before .put-count .last .0) (k .link-at .result) (k .link-at .ensures) (s .put-slot .ensures) (h .hook .ensures) (r .put-row .ensures) (f .put-free .ensures) (c .before .before .put-count .ensures))
 
 pub enter-spec : {M : Type 1} → statement M
 enter-spec =
@@ -52,5 +83,7 @@ enter-spec =
     hook-requires
     put-row-requires
     put-free-requires
+    sub-put-count
+    put-count-requires
     same-length
     returns)

@@ -1,0 +1,57 @@
+-- A whole table, whoever wrote it: calls on its bytes answer as the model that it says, and leave a whole table.
+use Prim.Native.Nat.{ℕ}
+use mathlib.Core.Path.{_≡_, sym, ap, _∙_}
+use mathlib.Core.List.{List, [], _∷_}
+use mathlib.Core.Bool.{true}
+use lib.ListN.{length}
+use Rattle.octets.specs.Octets.{Bytes}
+use Rattle.layout.specs.Image.{Image}
+use Rattle.layout.specs.Layout.{readTable}
+use Rattle.layout.specs.Fits.{Range}
+use Rattle.layout.proofs.TableLaws.{length-rows, length-slots, fits-read}
+use Rattle.table.specs.Whole.{whole}
+use Rattle.table.proofs.WholeLaws.{whole-formed, whole-range, whole-image, read-write, write-read}
+use Rattle.a2m.specs.Call.{Call, Wide, AllWide, Effect, after}
+use Rattle.a2m.specs.ImageCalls.{imageStep}
+use Rattle.a2m.specs.TableCalls.{written, tableStep}
+use Rattle.a2m.proofs.FitsAfter.{step-fits}
+use Rattle.a2m.proofs.Written.{step-written}
+use Rattle.model.specs.Model.{rules, modelStep}
+use Rattle.model.specs.ModelOf.{modelOf}
+use Rattle.model.proofs.OfWhole.{model-says, model-sound, whole-step}
+use Rattle.model.proofs.TableClaim.{Stands, in-range, table-whole}
+
+module _ (b : List ℕ) (h : Bytes b) (w : whole b ≡ true) where
+  stands : Stands (readTable b) (modelOf (readTable b))
+  stands =
+      let says = model-says (readTable b) (whole-image b w) in
+      record {
+        says = says;
+        sound = model-sound (readTable b) (whole-image b w);
+        fits = fits-read b h (whole-formed b w);
+        counts = rw (sym (says .count) ∙ length-rows b, sym (says .size) ∙ length-slots b) (whole-range b w);
+      }
+
+  -- every list of calls, the refused ones among them, leaves it whole
+  pub kept-whole : (cs : List Call) → AllWide cs → whole (after tableStep b cs) ≡ true
+  kept-whole cs wide = ap (λ (x : List ℕ). whole (after tableStep x cs)) (sym (write-read b h w)) ∙ table-whole (readTable b) (modelOf (readTable b)) stands cs wide
+
+  -- a call answers as the model, leaves a table that says the model after, and that is whole
+  pub record Follows (call : Call) : Type 0 where
+    pub reply : tableStep b call .reply ≡ modelStep rules (modelOf (readTable b)) call .reply
+    pub model : modelOf (readTable (tableStep b call .state)) ≡ modelStep rules (modelOf (readTable b)) call .state
+    pub whole : whole (tableStep b call .state) ≡ true
+
+  pub table-step : (call : Call) → Wide call → Follows call
+  unfolding after
+  table-step call wide =
+      let m = readTable b in
+      let s = stands in
+      let f = whole-step m (whole-image b w) call in
+      let e : tableStep b call ≡ written (imageStep m call) = ap (λ (x : List ℕ). tableStep x call) (sym (write-read b h w)) ∙ step-written m (s .fits) (in-range m (modelOf m) s) call in
+      let back : readTable (tableStep b call .state) ≡ imageStep m call .state = ap (λ (o : Effect (List ℕ)). readTable (o .state)) e ∙ read-write (imageStep m call .state) (step-fits m (s .fits) call wide) in
+      record {
+        reply = ap (λ (o : Effect (List ℕ)). o .reply) e ∙ f .reply;
+        model = ap modelOf back ∙ f .model;
+        whole = kept-whole (call ∷ []) (wide, tt);
+      }
