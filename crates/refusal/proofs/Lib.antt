@@ -1,2 +1,3 @@
 pub mod NumberLaws
 pub mod OrderLaws
+pub mod WorkLaws
