@@ -36,8 +36,9 @@ prefixed-digest-requires-2 c κs = let d = c .before .before .before .before .pr
 
 -- the tag, and the sum of the blocks
 total : (c : tie.After-struct-known2)
-    → (c .before .before .before .prefixed-digest2 .result .bytes ≡ hmac (c .before .before .before .before .before .before .before .before .before .before .before .before .before .before .before .args .key .now) (c .before .before .before .before .before .before .before .before .before .before .before .before .before .before .before .args .text .now))
-    × (c .before .before .before .before .before .before .before .before .before .before .before .before .key-block .result .blocks + c .before .before .before .before .before .before .before .before .prefixed-digest .result .blocks + c .before .before .before .prefixed-digest2 .result .blocks ≡ tagBlocks (c .before .before .before .before .before .before .before .before .before .before .before .before .before .before .before .args .key .now) (c .before .before .before .before .before .before .before .before .before .before .before .before .before .before .before .args .text .now))
+    → let p3 = c .before .before .before in let p8 = p3 .before .before .before .before .before in let p12 = p8 .before .before .before .before in let x = p12 .before .before .before .args in
+    (p3 .prefixed-digest2 .result .bytes ≡ hmac (x .key .now) (x .text .now))
+    × (p12 .key-block .result .blocks + p8 .prefixed-digest .result .blocks + p3 .prefixed-digest2 .result .blocks ≡ tagBlocks (x .key .now) (x .text .now))
 total c =
     let p6 = c .before .before .before .before .before .before in
     let p10 = p6 .before .before .before .before in
