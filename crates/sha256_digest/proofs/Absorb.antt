@@ -2,7 +2,7 @@
 -- Then what `absorb` computes: a part that does not fill the block, and one that does.
 --
 use mathlib.Core.Path.{_≡_, refl, sym, ap, ap₂, _∙_}
-use Prim.Native.Nat.{ℕ, zero, suc, _+_, _-_, _*_, _/_, _%_, _≤_, _<_}
+use Prim.Native.Nat.{ℕ, zero, suc, _+_, _-_, _*_, _/_, _%_, _^_, _≤_, _<_}
 use native.Mathlib.Nat.{add-zero, add-suc, add-assoc, zero-add}
 use native.Mathlib.Omega.{arith}
 use mathlib.Core.List.{List, [], _++_, append-assoc, append-nil}
@@ -170,6 +170,10 @@ absorb-within s t x h k =
     let n : t .count ≡ s .count + length x = ap (λ (u : State). u .size) h in
     let l : length (take (s .count % 64) (s .block) ++ x) ≤ s .count % 64 + length x = simp (length-append, length-take) (omega arith) in
     omega arith
+
+-- for a caller: what `absorb` asks of a state that is to take n bytes more
+abbrev pub Takes : Running → ℕ → Type 0
+Takes s n = (s .count + n < 2 ^ 64) × (s .blocks ≤ s .count)
 
 -- for a caller: what a running digest has absorbed since `new`
 
