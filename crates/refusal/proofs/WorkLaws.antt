@@ -1,6 +1,6 @@
 -- The number and the blocks of an answer determine it, and the two ways out of a call that counts blocks.
 use Prim.Native.Nat.{ℕ}
-use mathlib.Core.Path.{_≡_, refl, sym, ap, ap₂, _∙_}
+use mathlib.Core.Path.{_≡_, refl, sym, ap₂, _∙_}
 use mathlib.Core.Option.{Option, none, some}
 use Rattle.refusal.specs.Number.{outcomeNumber}
 use Rattle.refusal.specs.Order.{answerOf, afterwards}
