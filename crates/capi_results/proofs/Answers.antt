@@ -7,17 +7,18 @@ use native.Mathlib.Nat.{ne-of-gt}
 use borrow.Author.Tests.{ne-eqb}
 use lib.Dec.{eqb}
 use lib.ListN.{getD}
-use Rattle.refusal.specs.Number.{numberOf, outcomeNumber}
+use Rattle.refusal.specs.Number.{numberOf}
+use Rattle.refusal.specs.Work.{workedNumber}
 use Rattle.refusal.specs.declared.Refusal.{Refusal}
 use Rattle.refusal.proofs.NumberLaws.{numberOf-positive}
-use Rattle.refusal.specs.declared.Outcome.{Outcome}
-use Rattle.refusal.specs.declared.Outcome.the-variants.{Done, Refused}
+use Rattle.refusal.specs.declared.Worked.{Worked}
+use Rattle.refusal.specs.declared.Worked.the-variants.{Done, Refused}
 use Rattle.a2m.specs.Call.{Reply}
-use Rattle.a2m.specs.Opened.{changeReply, endReply}
+use Rattle.a2m.specs.Opened.{changeReply, changeBlocks, endReply}
 use Rattle.a2m.specs.declared.Change.{Change}
 use Rattle.a2m.specs.declared.Change.the-variants as change
 use Rattle.refusal.specs.Answer.{Answer, answer}
-use Rattle.receipt.specs.Verdict.{verdictAnswer}
+use Rattle.receipt.specs.Verdict.{verdictAnswer, verdictBlocks}
 use Rattle.receipt.specs.declared.Verdict.{Verdict}
 use Rattle.receipt.specs.declared.Verdict.the-variants as verdict
 use Rattle.capi_results.specs.Results.{replyNumber, lowAfter, highAfter, examinedAfter, freeAfter, verdictAfter, placeAfter, maskAfter}
@@ -28,23 +29,31 @@ not-done why = ne-eqb (numberOf why) 0 (λ (e : numberOf why ≡ 0). ne-of-gt (n
 
 -- ---- the calls on a table
 
-pub end-number : (o : Outcome) (receipt : List ℕ) → outcomeNumber o ≡ replyNumber (endReply o receipt)
+pub end-number : (w : Worked) (receipt : List ℕ) → workedNumber w ≡ replyNumber (endReply w receipt)
 unfolding replyNumber
-end-number Done receipt = refl
-end-number (Refused why) receipt = refl
+end-number (Done blocks) receipt = refl
+end-number (Refused why blocks) receipt = refl
 
--- what a change gives
-abbrev pub Changed : (n l h low high : ℕ) → Reply → Type 0
-Changed n l h low high r = (n ≡ replyNumber r) × ((l ≡ lowAfter r low) × (h ≡ highAfter r high))
+-- what a change gives: its number n, the blocks b, and the results l and h
+abbrev pub Changed : (n b l h low high : ℕ) → Reply → ℕ → Type 0
+Changed n b l h low high r k = (n ≡ replyNumber r) × ((b ≡ k) × ((l ≡ lowAfter r low) × (h ≡ highAfter r high)))
 
 module _ (v : Change) (low high : ℕ) where
-  pub done-changed : (l h : ℕ) → v ≡ change.Done l h → Changed 0 l h low high (changeReply v)
+  pub done-changed : (l h b : ℕ) → v ≡ change.Done l h b → Changed 0 b l h low high (changeReply v) (changeBlocks v)
   unfolding replyNumber lowAfter highAfter
-  done-changed l h e = subst (λ (x : Change). Changed 0 l h low high (changeReply x)) (sym e) (refl, (refl, refl))
+  done-changed l h b e = subst (λ (x : Change). Changed 0 b l h low high (changeReply x) (changeBlocks x)) (sym e) (refl, (refl, (refl, refl)))
 
-  pub refused-changed : {n : ℕ} (why : Refusal) → v ≡ change.Refused why → n ≡ numberOf why → Changed n low high low high (changeReply v)
+  pub refused-changed : {n : ℕ} (why : Refusal) (b : ℕ) → v ≡ change.Refused why b → n ≡ numberOf why → Changed n b low high low high (changeReply v) (changeBlocks v)
   unfolding replyNumber lowAfter highAfter
-  refused-changed {n} why e h = subst (λ (x : Change). Changed n low high low high (changeReply x)) (sym e) (h, (refl, refl))
+  refused-changed {n} why b e h = subst (λ (x : Change). Changed n b low high low high (changeReply x) (changeBlocks x)) (sym e) (h, (refl, (refl, refl)))
+
+-- the same of the reply and the blocks that the call's contract names, the table's bytes beside them
+pub passed-on : {n b l h j k : ℕ} {r s : Reply} {B : Type 0} (low high : ℕ) → Changed n b l h low high r j → (r ≡ s) × ((j ≡ k) × B)
+    → (n ≡ replyNumber s) × ((b ≡ k) × (B × ((l ≡ lowAfter s low) × (h ≡ highAfter s high))))
+passed-on low high e f = (
+  e .0 ∙ ap replyNumber (f .0),
+  (e .1 .0 ∙ f .1 .0, (f .1 .1, (e .1 .1 .0 ∙ ap (λ (x : Reply). lowAfter x low) (f .0), e .1 .1 .1 ∙ ap (λ (x : Reply). highAfter x high) (f .0)))),
+)
 
 -- what a lookup gives
 abbrev pub Looked : (n k examined : ℕ) → Reply → Type 0
@@ -67,20 +76,20 @@ shows-nothing free = (refl, refl)
 -- ---- the verifier and certificates
 
 module _ (v : Verdict) (old : List ℕ) where
-  pub accepted-verdict : {l d : ℕ} (keeper log position kind reference : ℕ) → v ≡ verdict.Accepted keeper log position kind reference → l ≡ log → d ≡ kind
-      → (0 ≡ verdictAnswer v .number) × ((keeper ∷ l ∷ position ∷ d ∷ reference ∷ []) ≡ verdictAfter (verdictAnswer v) old)
+  pub accepted-verdict : {l d : ℕ} (keeper log position kind reference blocks : ℕ) → v ≡ verdict.Accepted keeper log position kind reference blocks → l ≡ log → d ≡ kind
+      → (0 ≡ verdictAnswer v .number) × ((blocks ≡ verdictBlocks v) × ((keeper ∷ l ∷ position ∷ d ∷ reference ∷ []) ≡ verdictAfter (verdictAnswer v) old))
   unfolding verdictAfter
-  accepted-verdict keeper log position kind reference h e f = (
+  accepted-verdict keeper log position kind reference blocks h e f = (
     sym (ap (λ (x : Verdict). verdictAnswer x .number) h),
-    ap₂ (λ (a b : ℕ). keeper ∷ a ∷ position ∷ b ∷ reference ∷ []) e f ∙ sym (ap (λ (x : Verdict). verdictAfter (verdictAnswer x) old) h),
+    (sym (ap verdictBlocks h), ap₂ (λ (a b : ℕ). keeper ∷ a ∷ position ∷ b ∷ reference ∷ []) e f ∙ sym (ap (λ (x : Verdict). verdictAfter (verdictAnswer x) old) h)),
   )
 
-  pub refused-verdict : {n : ℕ} (why : Refusal) → v ≡ verdict.Refused why → n ≡ numberOf why
-      → (n ≡ verdictAnswer v .number) × (old ≡ verdictAfter (verdictAnswer v) old)
+  pub refused-verdict : {n : ℕ} (why : Refusal) (blocks : ℕ) → v ≡ verdict.Refused why blocks → n ≡ numberOf why
+      → (n ≡ verdictAnswer v .number) × ((blocks ≡ verdictBlocks v) × (old ≡ verdictAfter (verdictAnswer v) old))
   unfolding verdictAfter
-  refused-verdict why h e = (
+  refused-verdict why blocks h e = (
     e ∙ sym (ap (λ (x : Verdict). verdictAnswer x .number) h),
-    sym (ap (λ (x : Verdict). verdictAfter (verdictAnswer x) old) h ∙ ap (λ (t : Bool). cond t [] old) (not-done why)),
+    (sym (ap verdictBlocks h), sym (ap (λ (x : Verdict). verdictAfter (verdictAnswer x) old) h ∙ ap (λ (t : Bool). cond t [] old) (not-done why))),
   )
 
 -- what a certificate gives
