@@ -43,9 +43,9 @@ module _ (v : Change) (low high : ℕ) where
   unfolding replyNumber lowAfter highAfter
   done-changed l h b e = subst (λ (x : Change). Changed 0 b l h low high (changeReply x) (changeBlocks x)) (sym e) (refl, (refl, (refl, refl)))
 
-  pub refused-changed : {n : ℕ} (why : Refusal) (b : ℕ) → v ≡ change.Refused why b → n ≡ numberOf why → Changed n b low high low high (changeReply v) (changeBlocks v)
+  pub refused-changed : {n b : ℕ} (why : Refusal) (k : ℕ) → v ≡ change.Refused why k → (n ≡ numberOf why) × (b ≡ k) → Changed n b low high low high (changeReply v) (changeBlocks v)
   unfolding replyNumber lowAfter highAfter
-  refused-changed {n} why b e h = subst (λ (x : Change). Changed n b low high low high (changeReply x) (changeBlocks x)) (sym e) (h, (refl, (refl, refl)))
+  refused-changed {n} {b} why k e h = subst (λ (x : Change). Changed n b low high low high (changeReply x) (changeBlocks x)) (sym e) (h .0, (h .1, (refl, refl)))
 
 -- the same of the reply and the blocks that the call's contract names, the table's bytes beside them
 pub passed-on : {n b l h j k : ℕ} {r s : Reply} {B : Type 0} (low high : ℕ) → Changed n b l h low high r j → (r ≡ s) × ((j ≡ k) × B)
@@ -84,12 +84,12 @@ module _ (v : Verdict) (old : List ℕ) where
     (sym (ap verdictBlocks h), ap₂ (λ (a b : ℕ). keeper ∷ a ∷ position ∷ b ∷ reference ∷ []) e f ∙ sym (ap (λ (x : Verdict). verdictAfter (verdictAnswer x) old) h)),
   )
 
-  pub refused-verdict : {n : ℕ} (why : Refusal) (blocks : ℕ) → v ≡ verdict.Refused why blocks → n ≡ numberOf why
-      → (n ≡ verdictAnswer v .number) × ((blocks ≡ verdictBlocks v) × (old ≡ verdictAfter (verdictAnswer v) old))
+  pub refused-verdict : {n b : ℕ} (why : Refusal) (k : ℕ) → v ≡ verdict.Refused why k → (n ≡ numberOf why) × (b ≡ k)
+      → (n ≡ verdictAnswer v .number) × ((b ≡ verdictBlocks v) × (old ≡ verdictAfter (verdictAnswer v) old))
   unfolding verdictAfter
-  refused-verdict why blocks h e = (
-    e ∙ sym (ap (λ (x : Verdict). verdictAnswer x .number) h),
-    (sym (ap verdictBlocks h), sym (ap (λ (x : Verdict). verdictAfter (verdictAnswer x) old) h ∙ ap (λ (t : Bool). cond t [] old) (not-done why))),
+  refused-verdict why k h e = (
+    e .0 ∙ sym (ap (λ (x : Verdict). verdictAnswer x .number) h),
+    (e .1 ∙ sym (ap verdictBlocks h), sym (ap (λ (x : Verdict). verdictAfter (verdictAnswer x) old) h ∙ ap (λ (t : Bool). cond t [] old) (not-done why))),
   )
 
 -- what a certificate gives

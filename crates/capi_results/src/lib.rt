@@ -2,8 +2,10 @@
 use a2m::Change;
 use octets::wide;
 use receipt::Verdict;
+use refusal::Refusal;
 use refusal::Worked;
 ghost use mathlib.Core.Path.{_≡_};
+ghost use Rattle.refusal.specs.Number.{numberOf};
 ghost use Rattle.refusal.specs.Work.{workedNumber, workedBlocks};
 ghost use Rattle.a2m.specs.Opened.{changeReply, changeBlocks};
 ghost use Rattle.receipt.specs.Verdict.{verdictAnswer, verdictBlocks};
@@ -17,6 +19,16 @@ pub struct KeeperResult {
     pub blocks: u64,
 }
 
+// The result of a refusal.
+pub fn refused(why: Refusal, blocks: u64) -> KeeperResult
+    ensures { λ r. ⌜ (r .number ≡ numberOf why) × (r .blocks ≡ blocks) ⌝ }
+{
+    KeeperResult {
+        number: wide(why.number()),
+        blocks,
+    }
+}
+
 // The result of an answer that is a number and blocks alone.
 pub fn worked(answer: Worked) -> KeeperResult
     ensures answer { λ r. ⌜ r .number ≡ workedNumber answer ⌝ }
@@ -24,10 +36,7 @@ pub fn worked(answer: Worked) -> KeeperResult
 {
     match answer {
         Worked::Done { blocks } => KeeperResult { number: 0, blocks },
-        Worked::Refused { why, blocks } => {
-            let number = wide(why.number());
-            KeeperResult { number, blocks }
-        }
+        Worked::Refused { why, blocks } => refused(why, blocks),
     }
 }
 
@@ -48,10 +57,7 @@ pub fn changed(change: Change, low: &mut u64, high: &mut u64) -> KeeperResult
             *high = h;
             KeeperResult { number: 0, blocks }
         }
-        Change::Refused { why, blocks } => {
-            let number = wide(why.number());
-            KeeperResult { number, blocks }
-        }
+        Change::Refused { why, blocks } => refused(why, blocks),
     }
 }
 
@@ -73,9 +79,6 @@ pub fn judged(judgement: Verdict, verdict: &mut [u64; 5]) -> KeeperResult
             *verdict = [keeper, wide(log), position, wide(kind), reference];
             KeeperResult { number: 0, blocks }
         }
-        Verdict::Refused { why, blocks } => {
-            let number = wide(why.number());
-            KeeperResult { number, blocks }
-        }
+        Verdict::Refused { why, blocks } => refused(why, blocks),
     }
 }

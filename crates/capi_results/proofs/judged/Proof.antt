@@ -1,6 +1,5 @@
 -- `capi_results::judged` meets its contract.
 use Rattle.capi_results.proofs.Answers.{accepted-verdict, refused-verdict}
-use mathlib.Core.Path.{_∙_}
 use borrow.Author.Needs.{needs}
 use Rattle.capi_results.proofs.judged.Statement.{statement}
 use Rattle.capi_results.proofs.judged.Tie as tie
@@ -17,11 +16,8 @@ wide-requires-2 c κs = search needs
 enum-known-judgement-2 : tie.Need-enum-known-judgement-2
 enum-known-judgement-2 c = search needs
 
-number-requires : tie.Need-number-requires
-number-requires c κs = search needs
-
-wide-requires-3 : tie.Need-wide-requires-3
-wide-requires-3 c κs = search needs
+refused-requires : tie.Need-refused-requires
+refused-requires c κs = search needs
 
 returns : tie.Need-returns
 returns c = let a = c .before .before .before .before .before .before .args in
@@ -29,8 +25,8 @@ returns c = let a = c .before .before .before .before .before .before .args in
     accepted-verdict (a .judgement) (a .verdict .now) _ _ _ _ _ _ (j .1) (c .before .before .wide .ensures .0) (c .before .wide2 .ensures .0)
 
 returns-2 : tie.Need-returns-2
-returns-2 c = let a = c .before .before .before .before .before .args in
-    refused-verdict (a .judgement) (a .verdict .now) _ _ (c .before .before .before .judgement2 .given .1) (c .wide3 .ensures .0 ∙ c .before .number .ensures)
+returns-2 c = let a = c .before .before .before .before .args in
+    refused-verdict (a .judgement) (a .verdict .now) _ _ (c .before .before .judgement2 .given .1) (c .refused .ensures)
 
 pub judged-spec : {M : Type 1} → statement M
 judged-spec =
@@ -40,7 +36,6 @@ judged-spec =
     wide-requires
     wide-requires-2
     enum-known-judgement-2
-    number-requires
-    wide-requires-3
+    refused-requires
     returns
     returns-2)
