@@ -14,18 +14,25 @@ use Rattle.refusal.proofs.NumberLaws.{numberOf-positive}
 use Rattle.refusal.specs.declared.Worked.{Worked}
 use Rattle.refusal.specs.declared.Worked.the-variants.{Done, Refused}
 use Rattle.a2m.specs.Call.{Reply}
-use Rattle.a2m.specs.Opened.{changeReply, changeBlocks, endReply}
+use Rattle.a2m.specs.Opened.{changeReply, changeBlocks, findingReply, findingBlocks, endReply}
 use Rattle.a2m.specs.declared.Change.{Change}
 use Rattle.a2m.specs.declared.Change.the-variants as change
+use Rattle.a2m.specs.declared.Finding.{Finding}
 use Rattle.refusal.specs.Answer.{Answer, answer}
 use Rattle.receipt.specs.Verdict.{verdictAnswer, verdictBlocks}
 use Rattle.receipt.specs.declared.Verdict.{Verdict}
 use Rattle.receipt.specs.declared.Verdict.the-variants as verdict
-use Rattle.capi_results.specs.Results.{replyNumber, lowAfter, highAfter, examinedAfter, freeAfter, verdictAfter, placeAfter, maskAfter}
+use Rattle.runs.specs.Call.{comparisonAnswer, comparisonBlocks, Answer as Compared}
+use Rattle.runs.specs.declared.Comparison.{Comparison}
+use Rattle.capi_results.specs.Results.{replyNumber, lowAfter, highAfter, examinedAfter, freeAfter, verdictAfter, placeAfter, maskAfter, codeAfter}
 
 -- no refusal has the number 0
 not-done : (why : Refusal) → eqb (numberOf why) 0 ≡ false
 not-done why = ne-eqb (numberOf why) 0 (λ (e : numberOf why ≡ 0). ne-of-gt (numberOf-positive why) e)
+
+-- a result of the number m and the blocks j is one of what a call's contract says them to be, what else it says beside them
+pub joined : {n b m j a k : ℕ} {B : Type 0} → (n ≡ m) × (b ≡ j) → (m ≡ a) × ((j ≡ k) × B) → (n ≡ a) × ((b ≡ k) × B)
+joined e f = (e .0 ∙ f .0, (e .1 ∙ f .1 .0, f .1 .1))
 
 -- ---- the calls on a table
 
@@ -55,9 +62,12 @@ passed-on low high e f = (
   (e .1 .0 ∙ f .1 .0, (f .1 .1, (e .1 .1 .0 ∙ ap (λ (x : Reply). lowAfter x low) (f .0), e .1 .1 .1 ∙ ap (λ (x : Reply). highAfter x high) (f .0)))),
 )
 
--- what a lookup gives
-abbrev pub Looked : (n k examined : ℕ) → Reply → Type 0
-Looked n k examined r = (n ≡ replyNumber r) × (k ≡ examinedAfter r examined)
+-- what a lookup gives where it was found to be v, the receipt's bytes beside it
+pub looked : {x v : Finding} {r : Reply} {k : ℕ} {B : Type 0} (receipt : List ℕ) (old : ℕ) → x ≡ v → (findingReply x receipt ≡ r) × ((findingBlocks x ≡ k) × B)
+    → (replyNumber (findingReply v receipt) ≡ replyNumber r) × ((findingBlocks v ≡ k) × (B × (examinedAfter (findingReply v receipt) old ≡ examinedAfter r old)))
+looked receipt old h e =
+    let f = ap (λ (y : Finding). findingReply y receipt) (sym h) ∙ e .0 in
+    (ap replyNumber f, (ap findingBlocks (sym h) ∙ e .1 .0, (e .1 .1, ap (λ (y : Reply). examinedAfter y old) f)))
 
 -- ---- the status screen
 
@@ -103,3 +113,12 @@ certified p m place mask = (refl, (refl, refl))
 pub not-certified : (why : Refusal) (place mask : ℕ) → Certifies (numberOf why) place mask place mask (answer (numberOf why) [])
 unfolding placeAfter maskAfter
 not-certified why place mask = (refl, (sym (ap (λ (t : Bool). cond t (getD {A = ℕ} [] 0 0) place) (not-done why)), sym (ap (λ (t : Bool). cond t (getD {A = ℕ} [] 1 0) mask) (not-done why))))
+
+-- ---- runs
+
+-- what a comparison gives where it was found to be v, the buffer's bytes beside it
+pub compared : {x v : Comparison} {a : Compared} {k : ℕ} {B : Type 0} (old : ℕ) → x ≡ v → (comparisonAnswer x ≡ a) × ((comparisonBlocks x ≡ k) × B)
+    → (comparisonAnswer v .number ≡ a .number) × ((comparisonBlocks v ≡ k) × (B × (codeAfter (comparisonAnswer v .verdict) old ≡ codeAfter (a .verdict) old)))
+compared old h e =
+    let f = ap comparisonAnswer (sym h) ∙ e .0 in
+    (ap (λ (y : Compared). y .number) f, (ap comparisonBlocks (sym h) ∙ e .1 .0, (e .1 .1, ap (λ (y : Compared). codeAfter (y .verdict) old) f)))
