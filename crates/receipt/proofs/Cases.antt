@@ -1,8 +1,9 @@
 -- The tests of a receipt, case by case: one law for each `return` of the code.
 use mathlib.Core.Path.{_≡_, refl}
 use Prim.Native.Nat.{ℕ, _≤_, _<_}
-use mathlib.Core.Bool.{true, false}
+use mathlib.Core.Bool.{Bool, true, false, not, cond}
 use mathlib.Core.List.{List, []}
+use mathlib.Core.Option.{none, some}
 use lib.ListN.{length}
 use lib.Dec.{eqb, ltb}
 use borrow.Author.Tests.{eq-eqb, ne-eqb, le-leb, lt-leb}
@@ -147,3 +148,12 @@ module _ (key r nonce : List ℕ) (q : Question) where
           → Judged (answer 0 (carried (readAttestation r))) 6
       unfolding verdict verifyRefusal verifyBlocks unread firstFault answerWith afterwards
       accepts p t a = simp (eq-eqb (length key) 32 k, eq-eqb (length nonce) 32 n, eq-eqb (length r) 160 h, p, t, a) (refl, refl)
+
+-- where the lengths are right, the tag is reached exactly if the entry is possible
+pub blocks-by : (key r nonce : List ℕ) → length key ≡ 32 → length nonce ≡ 32 → length r ≡ 160 → verifyBlocks key r nonce ≡ cond (possible (readAttestation r)) 6 0
+unfolding verifyBlocks unread firstFault afterwards
+blocks-by key r nonce k n h = simp (eq-eqb (length key) 32 k, eq-eqb (length nonce) 32 n, eq-eqb (length r) 160 h) (go (possible (readAttestation r)))
+  where
+    go : (b : Bool) → _≡_ {A = ℕ} (afterwards (cond (not b) (some 9) none) 6 0) (cond b 6 0)
+    go true = refl
+    go false = refl
