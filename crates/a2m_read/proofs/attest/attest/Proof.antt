@@ -26,7 +26,7 @@ same-length c = search needs
 
 returns : tie.Need-returns
 unfolding zeros
-returns c = let a = c .before .before .before .before .before .before .before .before .before .before .before .args in attest-none (a .table .now) (a .s) (a .f) (a .nonce .now) (c .before .before .before .before .before .before .before .key-of .result .now) _ _ (c .before .before .put-receipt .last .0) (c .before .before .before .before .before .before .before .key-of .ensures) (c .before .before .put-receipt .ensures) (c .before .before .before .before .before .before .if1 .taken) refl refl
+returns c = let a = c .before .before .before .before .before .before .before .before .before .before .before .args in let r = c .before .before .put-receipt in (r .ensures .0, attest-none (a .table .now) (a .s) (a .f) (a .nonce .now) (c .before .before .before .before .before .before .before .key-of .result .now) _ _ (r .last .0) (c .before .before .before .before .before .before .before .key-of .ensures) (r .ensures .1) (c .before .before .before .before .before .before .if1 .taken) refl refl)
 
 value-at-requires : tie.Need-value-at-requires
 value-at-requires c κs = search needs
@@ -42,7 +42,7 @@ same-length-2 : tie.Need-same-length-2
 same-length-2 c = search needs
 
 returns-2 : tie.Need-returns-2
-returns-2 c = let a = c .before .before .before .before .before .before .before .before .before .before .before .args in attest-slot (a .table .now) (a .s) (a .f) (a .nonce .now) (c .before .before .before .before .before .before .before .key-of .result .now) (c .before .before .before .before .before .value-at .result .now) (c .before .before .before .before .digest-at .result .now) (c .before .before .put-receipt2 .last .0) (c .before .before .before .before .before .before .before .key-of .ensures) (c .before .before .put-receipt2 .ensures) (c .before .before .before .before .before .value-at .ensures) (c .before .before .before .before .digest-at .ensures)
+returns-2 c = let a = c .before .before .before .before .before .before .before .before .before .before .before .args in let r = c .before .before .put-receipt2 in (r .ensures .0, attest-slot (a .table .now) (a .s) (a .f) (a .nonce .now) (c .before .before .before .before .before .before .before .key-of .result .now) (c .before .before .before .before .before .value-at .result .now) (c .before .before .before .before .digest-at .result .now) (r .last .0) (c .before .before .before .before .before .before .before .key-of .ensures) (r .ensures .1) (c .before .before .before .before .before .value-at .ensures) (c .before .before .before .before .digest-at .ensures))
 
 pub attest-spec : {M : Type 1} → statement M
 attest-spec =
