@@ -1,5 +1,6 @@
 -- `receipt_verify::accepted` meets its contract.
 use Rattle.receipt.specs.Verdict.{carried}
+use mathlib.Core.Path.{refl}
 use borrow.Author.Needs.{needs}
 use Rattle.receipt_verify.proofs.accepted.Statement.{statement}
 use Rattle.receipt_verify.proofs.accepted.Tie as tie
@@ -21,7 +22,7 @@ kind-of-requires c κs = search needs
 
 returns : tie.Need-returns
 unfolding carried
-returns c = cc (c .before .before .before .before .keeper-of .ensures, c .before .before .before .position-of .ensures, c .before .before .reference-of .ensures, c .before .log-of .ensures, c .kind-of .ensures)
+returns c = (cc (c .before .before .before .before .keeper-of .ensures, c .before .before .before .position-of .ensures, c .before .before .reference-of .ensures, c .before .log-of .ensures, c .kind-of .ensures), refl)
 
 pub accepted-spec : {M : Type 1} → statement M
 accepted-spec =
