@@ -2,7 +2,7 @@
 -- A contract that says `r ≡ 6` holds of a body that writes 6 as well as of one that passes the hash's count on. A body that is
 -- `unwritten` has no literal of these values, so none that could become the count. Not shut out: a count computed from larger
 -- literals, or had from another function; so each function that passes a count on has a fact `counted` of its own.
-use Prim.Native.Nat.{ℕ}
+use Prim.Native.Nat.{ℕ, _-_, _^_}
 use mathlib.Core.Bool.{Bool, true, false, not, _&&_, _||_}
 use mathlib.Core.List.{List, [], _∷_}
 use lib.Dec.{eqb}
@@ -24,11 +24,11 @@ countWide w32 = false
 countWide w64 = true
 countWide w128 = false
 
--- no literal u64 of these values, and no negative one or literal pointer at all
+-- no literal u64 of these values, also none written as 2 ^ 64 - k, and no literal pointer at all
 abbrev pub unwrittenOpd : List ℕ → Opd → Bool
 unwrittenOpd ns (copy p) = true
 unwrittenOpd ns (int w n) = not (countWide w && among ns n)
-unwrittenOpd ns (intNeg w k) = not (countWide w)
+unwrittenOpd ns (intNeg w k) = not (countWide w && among ns (2 ^ 64 - k))
 unwrittenOpd ns (intBig w n) = not (countWide w && among ns n)
 unwrittenOpd ns (float f n) = true
 unwrittenOpd ns opdTrue = true
