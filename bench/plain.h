@@ -1,5 +1,6 @@
-/* The keeper in plain C, written for the bench from document 01 and requests [1] and [2] alone: the same calls as in keeper.h, with
- * the same arguments, numbers and orders of refusal. The constants and the types of result and verdict are keeper.h's. */
+/* The keeper in plain C, written for the bench from document 01 and requests [1] and [2] alone: the same calls as in
+ * keeper.h, with the same arguments, numbers and orders of refusal. The constants and the types of result and verdict are
+ * keeper.h's. */
 #ifndef PLAIN_H
 #define PLAIN_H
 

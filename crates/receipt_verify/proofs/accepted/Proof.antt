@@ -1,9 +1,12 @@
 -- `receipt_verify::accepted` meets its contract.
 use Rattle.receipt.specs.Verdict.{carried}
-use mathlib.Core.Path.{refl}
+use mathlib.Core.Path.{refl, _≡_}
 use borrow.Author.Needs.{needs}
+use mathlib.Core.Bool.{true}
 use Rattle.receipt_verify.proofs.accepted.Statement.{statement}
 use Rattle.receipt_verify.proofs.accepted.Tie as tie
+use Rattle.refusal.specs.Unwritten.{unwritten, counts}
+use Rattle.receipt_verify.proofs.accepted.Code.Mir.{function}
 
 keeper-of-requires : tie.Need-keeper-of-requires
 keeper-of-requires c κs = search needs
@@ -34,3 +37,7 @@ accepted-spec =
     log-of-requires
     kind-of-requires
     returns)
+
+-- no literal of the body becomes the count
+pub counted : unwritten counts (function .body) ≡ true
+counted = refl

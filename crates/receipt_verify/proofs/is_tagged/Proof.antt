@@ -1,12 +1,15 @@
 -- `receipt_verify::is_tagged` meets its contract.
-use mathlib.Core.Path.{ap, ap₂, _∙_}
+use mathlib.Core.Path.{ap, ap₂, _∙_, _≡_, refl}
 use Rattle.hmac.specs.Hmac.{hmac}
 use Rattle.hmac.proofs.BlockLaws.{tag-six}
 use Rattle.octets.specs.Octets.{same}
 use Rattle.receipt.specs.Verdict.{isTagged}
 use borrow.Author.Needs.{needs}
+use mathlib.Core.Bool.{true}
 use Rattle.receipt_verify.proofs.is_tagged.Statement.{statement}
 use Rattle.receipt_verify.proofs.is_tagged.Tie as tie
+use Rattle.refusal.specs.Unwritten.{unwritten, counts}
+use Rattle.receipt_verify.proofs.is_tagged.Code.Mir.{function}
 
 attested-of-requires : tie.Need-attested-of-requires
 attested-of-requires c κs = search needs
@@ -45,3 +48,7 @@ is-tagged-spec =
     slice-aggregate-equal
     equal-requires
     returns)
+
+-- no literal of the body becomes the count
+pub counted : unwritten counts (function .body) ≡ true
+counted = refl

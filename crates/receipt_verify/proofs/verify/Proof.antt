@@ -3,10 +3,13 @@ use Rattle.receipt.proofs.Cases.{key-length, nonce-length, receipt-length, impo
 use Rattle.receipt.proofs.Verifier.{verdict-exactly}
 use native.Mathlib.Omega.{arith}
 use borrow.Author.Tests.{not-true, not-false}
-use mathlib.Core.Path.{sym, _∙_}
+use mathlib.Core.Path.{sym, _∙_, _≡_, refl}
 use borrow.Author.Needs.{needs}
+use mathlib.Core.Bool.{true}
 use Rattle.receipt_verify.proofs.verify.Statement.{statement}
 use Rattle.receipt_verify.proofs.verify.Tie as tie
+use Rattle.refusal.specs.Unwritten.{unwritten, counts}
+use Rattle.receipt_verify.proofs.verify.Code.Mir.{function}
 
 returns : tie.Need-returns
 returns c =
@@ -86,3 +89,7 @@ verify-spec =
     returns-6
     accepted-requires
     returns-7)
+
+-- no literal of the body becomes the count
+pub counted : unwritten counts (function .body) ≡ true
+counted = refl
