@@ -2,8 +2,12 @@
 use Rattle.capi_results.proofs.Answers.{joined, looked}
 use Rattle.capi_results.specs.Results.{replyNumber, examinedAfter}
 use borrow.Author.Needs.{needs}
+use mathlib.Core.Path.{_≡_, refl}
+use mathlib.Core.Bool.{true}
 use Rattle.capi.proofs.calls.keeper_lookup.Statement.{statement}
 use Rattle.capi.proofs.calls.keeper_lookup.Tie as tie
+use Rattle.refusal.specs.Unwritten.{unwritten, counts}
+use Rattle.capi.proofs.calls.keeper_lookup.Code.Mir.{function}
 
 lookup-requires : tie.Need-lookup-requires
 lookup-requires c κs = search needs
@@ -45,3 +49,7 @@ keeper-lookup-spec =
     returns
     same-length-2
     returns-2)
+
+-- no literal of the body becomes the count
+pub counted : unwritten counts (function .body) ≡ true
+counted = refl
