@@ -34,6 +34,8 @@ fn now() -> f64 {
     time[0] as f64 * 1e9 + time[1] as f64
 }
 
+/// Not inlined, so that two calls of one type are timed by the same code.
+#[inline(never)]
 fn batch(n: u64, call: &mut impl FnMut()) -> f64 {
     let start = now();
     for _ in 0..n {
@@ -315,10 +317,11 @@ impl Table {
             self.row(label, &times, None, "");
         }
         self.head("The status screen's read, by size of table", "keeper (1,1)");
-        let times = self.timer.pair(
-            || assert_eq!((KEEPER.free(black_box(&large), &mut n1), n1), (0, 400)),
-            || assert_eq!((KEEPER.free(black_box(&small), &mut n2), n2), (0, 1)),
-        );
+        fn read(t: &[u8], n: u64) -> impl FnMut() + '_ {
+            let mut found = 0;
+            move || assert_eq!((KEEPER.free(black_box(t), &mut found), found), (0, n))
+        }
+        let times = self.timer.pair(read(&large, 400), read(&small, 1));
         self.row("free slots (16,800) half / (1,1) empty", &times, Some(1.0), "");
     }
 
