@@ -29,16 +29,16 @@ use Rattle.a2m.proofs.Cases.{refused-step, accepted-step, wrong-length,
 use Rattle.a2m.proofs.ReleaseLaws.{releases-keep}
 use Rattle.a2m.proofs.OpenedLaws.{not-opened, view-row, view-free, slots-length, opened-known}
 
--- the answer r and the table a after the call
-abbrev pub Steps : List ℕ → Call → Reply → List ℕ → Type 0
-Steps b call r a = (r ≡ tableStep b call .reply) × (a ≡ tableStep b call .state)
+-- the answer r, the blocks k and the table a after the call
+abbrev pub Steps : List ℕ → Call → Reply → ℕ → List ℕ → Type 0
+Steps b call r k a = (r ≡ tableStep b call .reply) × ((k ≡ tableStep b call .blocks) × (a ≡ tableStep b call .state))
 
 -- the log's number by the caller, and by the view
-pub at-log : (b : List ℕ) (call : ℕ → Call) (r : Reply) (a : List ℕ) {g h : ℕ} → g ≡ h → Steps b (call g) r a → Steps b (call h) r a
-at-log b call r a e s = subst (λ (k : ℕ). Steps b (call k) r a) e s
+pub at-log : (b : List ℕ) (call : ℕ → Call) (r : Reply) (w : ℕ) (a : List ℕ) {g h : ℕ} → g ≡ h → Steps b (call g) r w a → Steps b (call h) r w a
+at-log b call r w a e s = subst (λ (k : ℕ). Steps b (call k) r w a) e s
 
 -- a table that is not opened
-pub unopened : (b : List ℕ) (g : ℕ) (w : Refusal) (call : Call) → opening.Refused w ≡ openingOf b g → logOf call ≡ g → wrongLength call ≡ false → Steps b call (refused (numberOf w)) b
+pub unopened : (b : List ℕ) (g : ℕ) (w : Refusal) (call : Call) → opening.Refused w ≡ openingOf b g → logOf call ≡ g → wrongLength call ≡ false → Steps b call (refused (numberOf w)) 0 b
 unopened b g w call e l s = refused-step b call (numberOf w) (not-opened b g w e call l s)
 
 not-32 : (x : List ℕ) → length x ≢ 32 → not (eqb (length x) 32) ≡ true
@@ -63,7 +63,7 @@ module _ (b x : List ℕ) where
   unfolding wrongLength
   append-sized g h = is-32 x h
 
-  pub append-length : (g : ℕ) → length x ≢ 32 → Steps b (append g x) (refused 7) b
+  pub append-length : (g : ℕ) → length x ≢ 32 → Steps b (append g x) (refused 7) 0 b
   unfolding wrongLength
   append-length g h = refused-step b (append g x) 7 (wrong-length b (append g x) (not-32 x h))
 
@@ -71,7 +71,7 @@ module _ (b x : List ℕ) where
     high-is : v .row .high ≡ rowIn (readTable b) (v .log) .high
     high-is = ap (λ (r : Row). r .high) (view-row b v o)
 
-    pub append-spent : v .row .high ≡ 2 ^ 64 - 1 → Steps b (append (v .log) x) (refused 4) b
+    pub append-spent : v .row .high ≡ 2 ^ 64 - 1 → Steps b (append (v .log) x) (refused 4) 0 b
     unfolding misplaced spent
     append-spent e =
         let call = append (v .log) x in
@@ -80,16 +80,16 @@ module _ (b x : List ℕ) where
     not-spent : v .row .high ≢ 2 ^ 64 - 1 → eqb (rowIn (readTable b) (v .log) .high) (2 ^ 64 - 1) ≡ false
     not-spent n = ne-eqb _ _ (λ (q : rowIn (readTable b) (v .log) .high ≡ 2 ^ 64 - 1). n (high-is ∙ q))
 
-    pub append-full : v .row .high ≢ 2 ^ 64 - 1 → v .free ≡ 0 → Steps b (append (v .log) x) (refused 5) b
+    pub append-full : v .row .high ≢ 2 ^ 64 - 1 → v .free ≡ 0 → Steps b (append (v .log) x) (refused 5) 0 b
     unfolding misplaced spent nothingHeld full
     append-full n e =
         let call = append (v .log) x in
         refused-step b call 5 (is-full b call (append-sized (v .log) h) (o .whole) (opened-known b v o) refl (not-spent n) refl (eq-eqb _ _ (sym (view-free b v o) ∙ e)))
 
     pub append-done : v .row .high ≢ 2 ^ 64 - 1 → v .free ≢ 0 → (after : Row) (d : List ℕ) → after ≡ appendedRow (v .row) (v .free) → d ≡ entryDigest (after .high) x (slotAt (readTable b .slots) (v .row .last) .digest)
-        → (r : Reply) (a : List ℕ) → r ≡ done (v .row .low) (after .high) → a ≡ writeTable (put (readTable b) (v .log) (entryAt (after .high) x d)) → Steps b (append (v .log) x) r a
+        → (r : Reply) (w : ℕ) (a : List ℕ) → r ≡ done (v .row .low) (after .high) → w ≡ 2 → a ≡ writeTable (put (readTable b) (v .log) (entryAt (after .high) x d)) → Steps b (append (v .log) x) r w a
     unfolding misplaced spent nothingHeld full imageAccept imageDone appendedRow advancedRow
-    append-done n f after d ea ed r a er es =
+    append-done n f after d ea ed r w a er ew es =
         let call = append (v .log) x in
         let m = readTable b in
         let g = v .log in
@@ -97,9 +97,10 @@ module _ (b x : List ℕ) where
         let entry : entryAt (after .high) x d ≡ newEntry (rowIn m g .high + 1) x (previousIn m g) =
         ap (entryAt (after .high) x) (ed ∙ ap (λ (w : Row). entryDigest (after .high) x (slotAt (m .slots) (w .last) .digest)) (view-row b v o))
         ∙ ap (λ (k : ℕ). newEntry k x (previousIn m g)) top in
-        accepted-step b call r a
+        accepted-step b call r w a
         (no-refusal b call (append-sized g h) (o .whole) (opened-known b v o) refl (not-spent n) refl (ne-eqb _ _ (λ (q : m .free ≡ 0). f (view-free b v o ∙ q))))
         (er ∙ ap₂ done (ap (λ (w : Row). w .low) (view-row b v o)) top ∙ sym (put-answer m g (newEntry (rowIn m g .high + 1) x (previousIn m g)) (omega (arith, o .log, length-rows b))))
+        ew
         (es ∙ ap (λ (e : Entry). writeTable (put m g e)) entry)
 
 -- ---- advance
@@ -109,11 +110,11 @@ module _ (b : List ℕ) (n : ℕ) (d x : List ℕ) where
   unfolding wrongLength
   advance-sized g h k = ap₂ _||_ (is-32 d h) (is-32 x k)
 
-  pub advance-digest : (g : ℕ) → length d ≢ 32 → Steps b (advance g n d x) (refused 7) b
+  pub advance-digest : (g : ℕ) → length d ≢ 32 → Steps b (advance g n d x) (refused 7) 0 b
   unfolding wrongLength
   advance-digest g h = refused-step b (advance g n d x) 7 (wrong-length b (advance g n d x) (ap (λ (t : Bool). t || not (eqb (length x) 32)) (not-32 d h)))
 
-  pub advance-value : (g : ℕ) → length d ≡ 32 → length x ≢ 32 → Steps b (advance g n d x) (refused 7) b
+  pub advance-value : (g : ℕ) → length d ≡ 32 → length x ≢ 32 → Steps b (advance g n d x) (refused 7) 0 b
   unfolding wrongLength
   advance-value g h k = refused-step b (advance g n d x) 7 (wrong-length b (advance g n d x) (ap₂ _||_ (is-32 d h) (not-32 x k)))
 
@@ -121,29 +122,30 @@ module _ (b : List ℕ) (n : ℕ) (d x : List ℕ) where
     top-is : v .row .high ≡ rowIn (readTable b) (v .log) .high
     top-is = ap (λ (r : Row). r .high) (view-row b v o)
 
-    pub advance-position : n ≤ v .row .high → Steps b (advance (v .log) n d x) (refused 3) b
+    pub advance-position : n ≤ v .row .high → Steps b (advance (v .log) n d x) (refused 3) 0 b
     unfolding misplaced
     advance-position e =
         let call = advance (v .log) n d x in
         refused-step b call 3 (wrong-position b call (advance-sized (v .log) h k) (o .whole) (opened-known b v o) (le-leb n _ (omega (arith, top-is))))
 
-    pub advance-full : v .row .high < n → v .free ≡ 0 → Steps b (advance (v .log) n d x) (refused 5) b
+    pub advance-full : v .row .high < n → v .free ≡ 0 → Steps b (advance (v .log) n d x) (refused 5) 0 b
     unfolding misplaced spent nothingHeld full
     advance-full p e =
         let call = advance (v .log) n d x in
         refused-step b call 5 (is-full b call (advance-sized (v .log) h k) (o .whole) (opened-known b v o) (lt-leb n _ (omega (arith, top-is))) refl refl (eq-eqb _ _ (sym (view-free b v o) ∙ e)))
 
     pub advance-done : v .row .high < n → v .free ≢ 0 → (after : Row) (y : List ℕ) → after ≡ advancedRow (v .row) n (v .free) → y ≡ entryDigest n x d
-        → (r : Reply) (a : List ℕ) → r ≡ done (v .row .low) (after .high) → a ≡ writeTable (put (readTable b) (v .log) (entryAt (after .high) x y)) → Steps b (advance (v .log) n d x) r a
+        → (r : Reply) (w : ℕ) (a : List ℕ) → r ≡ done (v .row .low) (after .high) → w ≡ 2 → a ≡ writeTable (put (readTable b) (v .log) (entryAt (after .high) x y)) → Steps b (advance (v .log) n d x) r w a
     unfolding misplaced spent nothingHeld full imageAccept imageDone advancedRow
-    advance-done p f after y ea ey r a er es =
+    advance-done p f after y ea ey r w a er ew es =
         let call = advance (v .log) n d x in
         let m = readTable b in
         let g = v .log in
         let top : after .high ≡ n = ap (λ (w : Row). w .high) ea in
-        accepted-step b call r a
+        accepted-step b call r w a
         (no-refusal b call (advance-sized g h k) (o .whole) (opened-known b v o) (lt-leb n _ (omega (arith, top-is))) refl refl (ne-eqb _ _ (λ (q : m .free ≡ 0). f (view-free b v o ∙ q))))
         (er ∙ ap₂ done (ap (λ (w : Row). w .low) (view-row b v o)) top ∙ sym (put-answer m g (newEntry n x d) (omega (arith, o .log, length-rows b))))
+        ew
         (es ∙ ap₂ (λ (k : ℕ) (l : List ℕ). writeTable (put m g (entryAt k x l))) top ey)
 
 -- ---- rows
@@ -174,20 +176,20 @@ module _ (b : List ℕ) (n : ℕ) where
     high-at : v .row .high ≡ rowIn (readTable b) (v .log) .high
     high-at = ap (λ (r : Row). r .high) (view-row b v o)
 
-    outside : not (ltb (rowIn (readTable b) (v .log) .low) n && leb n (rowIn (readTable b) (v .log) .high)) ≡ true → Steps b (truncate (v .log) n) (refused 3) b
+    outside : not (ltb (rowIn (readTable b) (v .log) .low) n && leb n (rowIn (readTable b) (v .log) .high)) ≡ true → Steps b (truncate (v .log) n) (refused 3) 0 b
     unfolding misplaced
     outside e = let call = truncate (v .log) n in refused-step b call 3 (wrong-position b call (truncate-sized (v .log)) (o .whole) (opened-known b v o) e)
 
-    pub truncate-low : n ≤ v .row .low → Steps b (truncate (v .log) n) (refused 3) b
+    pub truncate-low : n ≤ v .row .low → Steps b (truncate (v .log) n) (refused 3) 0 b
     truncate-low h = outside (ap (λ (t : Bool). not (t && leb n (rowIn (readTable b) (v .log) .high))) (le-ltb (rowIn (readTable b) (v .log) .low) n (omega (arith, low-at))))
 
-    pub truncate-high : v .row .low < n → v .row .high < n → Steps b (truncate (v .log) n) (refused 3) b
+    pub truncate-high : v .row .low < n → v .row .high < n → Steps b (truncate (v .log) n) (refused 3) 0 b
     truncate-high k h =
         outside (ap₂ (λ (t u : Bool). not (t && u)) (lt-ltb (rowIn (readTable b) (v .log) .low) n (omega (arith, low-at))) (lt-leb n (rowIn (readTable b) (v .log) .high) (omega (arith, high-at))))
 
-    pub truncate-done : v .row .low < n → n ≤ v .row .high → (r : Reply) (a : List ℕ) → r ≡ done n (v .row .high) → a ≡ writeTable (lowered (releases (v .slots) n (readTable b) (v .log)) (v .log) n) → Steps b (truncate (v .log) n) r a
+    pub truncate-done : v .row .low < n → n ≤ v .row .high → (r : Reply) (w : ℕ) (a : List ℕ) → r ≡ done n (v .row .high) → w ≡ 0 → a ≡ writeTable (lowered (releases (v .slots) n (readTable b) (v .log)) (v .log) n) → Steps b (truncate (v .log) n) r w a
     unfolding misplaced spent nothingHeld full imageAccept imageDone lowered truncatedRow
-    truncate-done k h r a er es =
+    truncate-done k h r w a er ew es =
         let call = truncate (v .log) n in
         let m = readTable b in
         let g = v .log in
@@ -195,8 +197,9 @@ module _ (b : List ℕ) (n : ℕ) where
         let R : Image = releases (v .slots) n m g in
         let row : rowIn (lowered R g n) g ≡ truncatedRow (rowIn R g) n (rowIn R g .first) = row-set R g (truncatedRow (rowIn R g) n (rowIn R g .first)) (q .0) in
         let count : v .slots ≡ length (m .slots) = sym (slots-length b v o) in
-        accepted-step b call r a
+        accepted-step b call r w a
         (no-refusal b call (truncate-sized g) (o .whole) (opened-known b v o)
         (ap₂ (λ (t u : Bool). not (t && u)) (lt-ltb (rowIn m g .low) n (omega (arith, low-at))) (le-leb n (rowIn m g .high) (omega (arith, high-at)))) refl refl refl)
         (er ∙ ap (done n) (high-at ∙ sym (q .1)) ∙ sym (ap (λ (w : Row). done (w .low) (w .high)) row) ∙ ap (λ (f : ℕ). done (rowIn (lowered (releases f n m g) g n) g .low) (rowIn (lowered (releases f n m g) g n) g .high)) count)
+        ew
         (es ∙ ap (λ (f : ℕ). writeTable (lowered (releases f n m g) g n)) count)

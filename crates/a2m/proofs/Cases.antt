@@ -52,14 +52,14 @@ module _ (a t g p s h f : Bool) where
   is-none ea et eg ep es eh e = rw (ea, et, eg, ep, es, eh, e)
 
 module _ (b : List ℕ) (call : Call) where
-  pub refused-step : (k : ℕ) → tableRefusal b call ≡ some k → (refused k ≡ tableStep b call .reply) × (b ≡ tableStep b call .state)
+  pub refused-step : (k : ℕ) → tableRefusal b call ≡ some k → (refused k ≡ tableStep b call .reply) × ((0 ≡ tableStep b call .blocks) × (b ≡ tableStep b call .state))
   unfolding tableStep
-  refused-step k e = (rw (tableStep, e), rw (tableStep, e))
+  refused-step k e = (rw (tableStep, e), (rw (tableStep, e), rw (tableStep, e)))
 
-  pub accepted-step : (r : Reply) (a : List ℕ) → tableRefusal b call ≡ none → r ≡ imageAccept (readTable b) call .reply → a ≡ writeTable (imageAccept (readTable b) call .state)
-      → (r ≡ tableStep b call .reply) × (a ≡ tableStep b call .state)
+  pub accepted-step : (r : Reply) (k : ℕ) (a : List ℕ) → tableRefusal b call ≡ none → r ≡ imageAccept (readTable b) call .reply → k ≡ imageAccept (readTable b) call .blocks → a ≡ writeTable (imageAccept (readTable b) call .state)
+      → (r ≡ tableStep b call .reply) × ((k ≡ tableStep b call .blocks) × (a ≡ tableStep b call .state))
   unfolding tableStep
-  accepted-step r a e p q = (rw (tableStep, e) p, rw (tableStep, e) q)
+  accepted-step r k a e p w q = (rw (tableStep, e) p, (rw (tableStep, e) w, rw (tableStep, e) q))
 
   pub wrong-length : wrongLength call ≡ true → tableRefusal b call ≡ some 7
   unfolding tableRefusal faults

@@ -33,22 +33,25 @@ use Rattle.a2m.specs.Opened.{openingOf, Opened, foundOf, receiptAfter}
 use Rattle.a2m.proofs.Cases.{refused-step, accepted-step, wrong-length, wrong-position, holds-nothing, no-refusal}
 use Rattle.a2m.proofs.OpenedLaws.{not-opened, view-row, opened-known}
 
--- the answer r and the receipt out after the call
-abbrev pub Reads : List ℕ → Call → Reply → List ℕ → List ℕ → Type 0
-Reads b call r out old = (r ≡ tableStep b call .reply) × (out ≡ receiptAfter (tableStep b call .reply) old)
+-- the answer r, the blocks k and the receipt out after the call
+abbrev pub Reads : List ℕ → Call → Reply → ℕ → List ℕ → List ℕ → Type 0
+Reads b call r k out old = (r ≡ tableStep b call .reply) × ((k ≡ tableStep b call .blocks) × (out ≡ receiptAfter (tableStep b call .reply) old))
 
-pub read-at-log : (b : List ℕ) (call : ℕ → Call) (r : Reply) (out old : List ℕ) {g h : ℕ} → g ≡ h → Reads b (call g) r out old → Reads b (call h) r out old
-read-at-log b call r out old e s = subst (λ (k : ℕ). Reads b (call k) r out old) e s
+pub read-at-log : (b : List ℕ) (call : ℕ → Call) (r : Reply) (w : ℕ) (out old : List ℕ) {g h : ℕ} → g ≡ h → Reads b (call g) r w out old → Reads b (call h) r w out old
+read-at-log b call r w out old e s = subst (λ (k : ℕ). Reads b (call k) r w out old) e s
 
-read-refused : (b : List ℕ) (call : Call) (old : List ℕ) (k : ℕ) → tableRefusal b call ≡ some k → Reads b call (refused k) old old
+read-refused : (b : List ℕ) (call : Call) (old : List ℕ) (k : ℕ) → tableRefusal b call ≡ some k → Reads b call (refused k) 0 old old
 unfolding receiptAfter
-read-refused b call old k e = let p = refused-step b call k e .0 in (p, ap (λ (r : Reply). receiptAfter r old) p)
+read-refused b call old k e = let p = refused-step b call k e in (p .0, (p .1 .0, ap (λ (r : Reply). receiptAfter r old) (p .0)))
 
-pub read-unopened : (b : List ℕ) (g : ℕ) (w : Refusal) (call : Call) (old : List ℕ) → opening.Refused w ≡ openingOf b g → logOf call ≡ g → wrongLength call ≡ false → Reads b call (refused (numberOf w)) old old
+pub read-unopened : (b : List ℕ) (g : ℕ) (w : Refusal) (call : Call) (old : List ℕ) → opening.Refused w ≡ openingOf b g → logOf call ≡ g → wrongLength call ≡ false → Reads b call (refused (numberOf w)) 0 old old
 read-unopened b g w call old e l s = read-refused b call old (numberOf w) (not-opened b g w e call l s)
 
-accepted-reply : (b : List ℕ) (call : Call) (r : Reply) → tableRefusal b call ≡ none → r ≡ imageAccept (readTable b) call .reply → r ≡ tableStep b call .reply
-accepted-reply b call r e p = accepted-step b call r _ e p refl .0
+read-accepted : (b : List ℕ) (call : Call) (r : Reply) (k : ℕ) (out old : List ℕ) → tableRefusal b call ≡ none → r ≡ imageAccept (readTable b) call .reply → k ≡ imageAccept (readTable b) call .blocks
+    → receiptAfter r old ≡ out → Reads b call r k out old
+read-accepted b call r k out old e p w q =
+    let s = accepted-step b call r k _ e p w refl in
+    (s .0, (s .1 .0, sym q ∙ ap (λ (x : Reply). receiptAfter x old) (s .0)))
 
 -- 7: the nonce, or the lent receipt
 wrong-nonce : (c : List ℕ) (k : ℕ) → length c ≢ 32 → not (eqb (length c) 32) || not (eqb k 160) ≡ true
@@ -99,11 +102,11 @@ module _ (b c old : List ℕ) where
   unfolding wrongLength
   end-sized g k h e = both-right c k h e
 
-  pub end-nonce : (g : ℕ) → length c ≢ 32 → Reads b (end g c (length old)) (refused 7) old old
+  pub end-nonce : (g : ℕ) → length c ≢ 32 → Reads b (end g c (length old)) (refused 7) 0 old old
   unfolding wrongLength
   end-nonce g h = read-refused b (end g c (length old)) old 7 (wrong-length b (end g c (length old)) (wrong-nonce c (length old) h))
 
-  pub end-receipt : (g : ℕ) → length c ≡ 32 → length old ≢ 160 → Reads b (end g c (length old)) (refused 7) old old
+  pub end-receipt : (g : ℕ) → length c ≡ 32 → length old ≢ 160 → Reads b (end g c (length old)) (refused 7) 0 old old
   unfolding wrongLength
   end-receipt g h n = read-refused b (end g c (length old)) old 7 (wrong-length b (end g c (length old)) (wrong-receipt c (length old) h n))
 
@@ -111,24 +114,24 @@ module _ (b c old : List ℕ) where
     last-is : v .row .last ≡ rowIn (readTable b) (v .log) .last
     last-is = ap (λ (r : Row). r .last) (view-row b v o)
 
-    pub end-fresh : v .row .last ≡ 0 → Reads b (end (v .log) c (length old)) (refused 6) old old
+    pub end-fresh : v .row .last ≡ 0 → Reads b (end (v .log) c (length old)) (refused 6) 0 old old
     unfolding misplaced spent nothingHeld
     end-fresh e =
         let call = end (v .log) c (length old) in
         read-refused b call old 6 (holds-nothing b call (end-sized (v .log) (length old) h k) (o .whole) (opened-known b v o) refl refl (eq-eqb _ _ (sym last-is ∙ e)))
 
-    pub end-done : v .row .last ≢ 0 → (keeper : ℕ) (out : List ℕ) → keeper ≡ keeperOf b
+    pub end-done : v .row .last ≢ 0 → (keeper w : ℕ) (out : List ℕ) → keeper ≡ keeperOf b → w ≡ 6
         → out ≡ receiptBytes (readTable b .key) (attestationOf (facts name.End 1 (v .log) keeper (v .row .high) (v .row .high)) c (slotAt (readTable b .slots) (v .row .last) .value) (slotAt (readTable b .slots) (v .row .last) .digest))
-        → Reads b (end (v .log) c (length old)) (ended out) out old
+        → Reads b (end (v .log) c (length old)) (ended out) w out old
     unfolding misplaced spent nothingHeld full imageAccept receiptAfter
-    end-done n keeper out ek e =
+    end-done n keeper w out ek ew e =
         let call = end (v .log) c (length old) in
         let m = readTable b in
-        let p : ended out ≡ tableStep b call .reply =
-        accepted-reply b call (ended out)
+        read-accepted b call (ended out) w out old
         (no-refusal b call (end-sized (v .log) (length old) h k) (o .whole) (opened-known b v o) refl refl (ne-eqb _ _ (λ (q : rowIn m (v .log) .last ≡ 0). n (last-is ∙ q))) refl)
-        (ap ended (e ∙ ap (receiptBytes (m .key)) (of-end b c v keeper (view-row b v o) ek))) in
-        (p, ap (λ (r : Reply). receiptAfter r old) p)
+        (ap ended (e ∙ ap (receiptBytes (m .key)) (of-end b c v keeper (view-row b v o) ek)))
+        ew
+        refl
 
 -- ---- lookup
 
@@ -137,31 +140,31 @@ module _ (b c old : List ℕ) (n : ℕ) where
   unfolding wrongLength
   lookup-sized g k h e = both-right c k h e
 
-  pub lookup-nonce : (g : ℕ) → length c ≢ 32 → Reads b (lookup g n c (length old)) (refused 7) old old
+  pub lookup-nonce : (g : ℕ) → length c ≢ 32 → Reads b (lookup g n c (length old)) (refused 7) 0 old old
   unfolding wrongLength
   lookup-nonce g h = read-refused b (lookup g n c (length old)) old 7 (wrong-length b (lookup g n c (length old)) (wrong-nonce c (length old) h))
 
-  pub lookup-receipt : (g : ℕ) → length c ≡ 32 → length old ≢ 160 → Reads b (lookup g n c (length old)) (refused 7) old old
+  pub lookup-receipt : (g : ℕ) → length c ≡ 32 → length old ≢ 160 → Reads b (lookup g n c (length old)) (refused 7) 0 old old
   unfolding wrongLength
   lookup-receipt g h k = read-refused b (lookup g n c (length old)) old 7 (wrong-length b (lookup g n c (length old)) (wrong-receipt c (length old) h k))
 
   module _ (v : View) (o : Opened b v) (h : length c ≡ 32) (k : length old ≡ 160) where
-    pub lookup-zero : n ≡ 0 → Reads b (lookup (v .log) n c (length old)) (refused 3) old old
+    pub lookup-zero : n ≡ 0 → Reads b (lookup (v .log) n c (length old)) (refused 3) 0 old old
     unfolding misplaced
     lookup-zero e =
         let call = lookup (v .log) n c (length old) in
         read-refused b call old 3 (wrong-position b call (lookup-sized (v .log) (length old) h k) (o .whole) (opened-known b v o) (eq-eqb n 0 e))
 
-    pub lookup-done : n ≢ 0 → (hit : Hit) (keeper : ℕ) (out : List ℕ) → foundOf (readTable b .slots) hit ≡ lookedUp (v .row) (entriesIn (readTable b) (v .log)) n → keeper ≡ keeperOf b
+    pub lookup-done : n ≢ 0 → (hit : Hit) (keeper w : ℕ) (out : List ℕ) → foundOf (readTable b .slots) hit ≡ lookedUp (v .row) (entriesIn (readTable b) (v .log)) n → keeper ≡ keeperOf b → w ≡ 6
         → out ≡ receiptBytes (readTable b .key) (attestationOf (facts name.Lookup (hit .kind) (v .log) keeper n (hit .reference)) c (slotAt (readTable b .slots) (hit .slot) .value) (slotAt (readTable b .slots) (hit .slot) .digest))
-        → Reads b (lookup (v .log) n c (length old)) (found out (hit .examined)) out old
+        → Reads b (lookup (v .log) n c (length old)) (found out (hit .examined)) w out old
     unfolding misplaced spent nothingHeld full imageAccept receiptAfter
-    lookup-done z hit keeper out eh ek e =
+    lookup-done z hit keeper w out eh ek ew e =
         let call = lookup (v .log) n c (length old) in
         let m = readTable b in
         let f : foundOf (m .slots) hit ≡ lookedUp (rowIn m (v .log)) (entriesIn m (v .log)) n = eh ∙ ap (λ (r : Row). lookedUp r (entriesIn m (v .log)) n) (view-row b v o) in
-        let p : found out (hit .examined) ≡ tableStep b call .reply =
-        accepted-reply b call (found out (hit .examined))
+        read-accepted b call (found out (hit .examined)) w out old
         (no-refusal b call (lookup-sized (v .log) (length old) h k) (o .whole) (opened-known b v o) (ne-eqb n 0 z) refl refl refl)
-        (ap (λ (x : List ℕ). found x (hit .examined)) (e ∙ ap (receiptBytes (m .key)) (of-lookup b c v n hit keeper ek)) ∙ ap (λ (y : Found). found (receiptBytes (m .key) (lookupAttested m (v .log) n c y)) (y .examined)) f) in
-        (p, ap (λ (r : Reply). receiptAfter r old) p)
+        (ap (λ (x : List ℕ). found x (hit .examined)) (e ∙ ap (receiptBytes (m .key)) (of-lookup b c v n hit keeper ek)) ∙ ap (λ (y : Found). found (receiptBytes (m .key) (lookupAttested m (v .log) n c y)) (y .examined)) f)
+        ew
+        refl

@@ -53,18 +53,24 @@ receiptIn (done low high) = none
 receiptIn (found receipt examined) = some receipt
 receiptIn (ended receipt) = some receipt
 
--- an answer, and what stands after the call
+-- an answer, the blocks hashed for it (request [2]), and what stands after the call
 pub record Effect (S : Type 0) : Type 0 where
   pub reply : Reply
+  pub blocks : ℕ
   pub state : S
 
-abbrev pub effect : {S : Type 0} → Reply → S → Effect S
-effect r s = record { reply = r; state = s }
+abbrev pub effect : {S : Type 0} → Reply → ℕ → S → Effect S
+effect r k s = record { reply = r; blocks = k; state = s }
 
 -- the answers to a list of calls, and what stands after it: each call gets what the last one left. An item of the list is a call, or a call with more
 unfoldable pub replies : {C S : Type 0} → (S → C → Effect S) → S → List C → List Reply
 replies step s [] = []
 replies step s (c ∷ cs) = step s c .reply ∷ replies step (step s c .state) cs
+
+-- the blocks of each
+unfoldable pub works : {C S : Type 0} → (S → C → Effect S) → S → List C → List ℕ
+works step s [] = []
+works step s (c ∷ cs) = step s c .blocks ∷ works step (step s c .state) cs
 
 unfoldable pub after : {C S : Type 0} → (S → C → Effect S) → S → List C → S
 after step s [] = s

@@ -154,20 +154,20 @@ endAttested m g nonce = record {
 
 -- ---- the calls
 
--- "An accepted append, advance or truncate answers 0 with the L and H of that row", as it is after
-unfoldable pub imageDone : Image → ℕ → Effect Image
-imageDone m g = effect (done (rowIn m g .low) (rowIn m g .high)) m
+-- "An accepted append, advance or truncate answers 0 with the L and H of that row", as it is after; k blocks were hashed
+unfoldable pub imageDone : ℕ → Image → ℕ → Effect Image
+imageDone k m g = effect (done (rowIn m g .low) (rowIn m g .high)) k m
 
--- what an accepted call answers, and the table after
+-- what an accepted call answers, and the table after. Request [2]: "An accepted append or advance reports 2, a format or truncate 0, a lookup or end 6"
 unfoldable pub imageAccept : Image → Call → Effect Image
-imageAccept m (append g x) = imageDone (put m g (newEntry (rowIn m g .high + 1) x (previousIn m g))) g
-imageAccept m (advance g n d x) = imageDone (put m g (newEntry n x d)) g
-imageAccept m (truncate g n) = imageDone (lowered (releases (length (m .slots)) n m g) g n) g
+imageAccept m (append g x) = imageDone 2 (put m g (newEntry (rowIn m g .high + 1) x (previousIn m g))) g
+imageAccept m (advance g n d x) = imageDone 2 (put m g (newEntry n x d)) g
+imageAccept m (truncate g n) = imageDone 0 (lowered (releases (length (m .slots)) n m g) g n) g
 imageAccept m (lookup g n c k) =
     let f = lookedUp (rowIn m g) (entriesIn m g) n in
-    effect (found (receiptBytes (m .key) (lookupAttested m g n c f)) (f .examined)) m
-imageAccept m (end g c k) = effect (ended (receiptBytes (m .key) (endAttested m g c))) m
+    effect (found (receiptBytes (m .key) (lookupAttested m g n c f)) (f .examined)) 6 m
+imageAccept m (end g c k) = effect (ended (receiptBytes (m .key) (endAttested m g c))) 6 m
 
--- "A refusal changes no lent byte and returns its number alone."
+-- "A refusal changes no lent byte and returns its number alone", with 0 blocks
 unfoldable pub imageStep : Image → Call → Effect Image
-imageStep m call = elim (imageRefusal m call) [ none ↦ imageAccept m call | some k ↦ effect (refused k) m ]
+imageStep m call = elim (imageRefusal m call) [ none ↦ imageAccept m call | some k ↦ effect (refused k) 0 m ]

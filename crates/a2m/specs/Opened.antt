@@ -7,8 +7,8 @@ use lib.ListN.{length}
 use lib.Dec.{eqb, leb}
 use Rattle.refusal.specs.Number.{numberOf}
 use Rattle.refusal.specs.declared.Refusal.the-variants as why
-use Rattle.refusal.specs.declared.Outcome.{Outcome}
-use Rattle.refusal.specs.declared.Outcome.the-variants as outcome
+use Rattle.refusal.specs.declared.Worked.{Worked}
+use Rattle.refusal.specs.declared.Worked.the-variants as worked
 use Rattle.layout.specs.Image.{Entry, Slot, entryOf, slotAt}
 use Rattle.layout.specs.Layout.{logsOf, slotsOf, freeOf, readTable, putNext, putFree}
 use Rattle.table.specs.Free.{freeChain, joint}
@@ -27,8 +27,12 @@ use Rattle.a2m.specs.Search.{Found}
 
 -- "An accepted append, advance or truncate answers 0 with the L and H of that row"; a refusal "returns its number alone"
 abbrev pub changeReply : Change → Reply
-changeReply (change.Done low high) = done low high
-changeReply (change.Refused r) = refused (numberOf r)
+changeReply (change.Done low high blocks) = done low high
+changeReply (change.Refused r blocks) = refused (numberOf r)
+
+abbrev pub changeBlocks : Change → ℕ
+changeBlocks (change.Done low high blocks) = blocks
+changeBlocks (change.Refused r blocks) = blocks
 
 -- what a table's bytes say at log g
 unfoldable pub viewOf : List ℕ → ℕ → View
@@ -69,13 +73,17 @@ foundOf slots h = record { kind = h .kind; reference = h .reference; shown = ent
 
 -- a lookup answers 0 with the number of entries examined, and the receipt that it wrote
 abbrev pub findingReply : Finding → List ℕ → Reply
-findingReply (finding.Found examined) receipt = found receipt examined
-findingReply (finding.Refused r) receipt = refused (numberOf r)
+findingReply (finding.Found examined blocks) receipt = found receipt examined
+findingReply (finding.Refused r blocks) receipt = refused (numberOf r)
+
+abbrev pub findingBlocks : Finding → ℕ
+findingBlocks (finding.Found examined blocks) = blocks
+findingBlocks (finding.Refused r blocks) = blocks
 
 -- an end answers 0, and the receipt that it wrote
-abbrev pub endReply : Outcome → List ℕ → Reply
-endReply outcome.Done receipt = ended receipt
-endReply (outcome.Refused r) receipt = refused (numberOf r)
+abbrev pub endReply : Worked → List ℕ → Reply
+endReply (worked.Done blocks) receipt = ended receipt
+endReply (worked.Refused r blocks) receipt = refused (numberOf r)
 
 -- the lent receipt after a call; "A refusal changes no lent byte"
 unfoldable pub receiptAfter : Reply → List ℕ → List ℕ

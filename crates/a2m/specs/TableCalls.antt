@@ -17,8 +17,8 @@ tableRefusal b call = firstFault (faults (not (whole b)) (readTable b) call)
 
 -- an effect's table as bytes
 abbrev pub written : Effect Image → Effect (List ℕ)
-written o = effect (o .reply) (writeTable (o .state))
+written o = effect (o .reply) (o .blocks) (writeTable (o .state))
 
--- "A refusal changes no lent byte and returns its number alone."
+-- "A refusal changes no lent byte and returns its number alone", and by request [2] its blocks with it, "0 for a table call"
 unfoldable pub tableStep : List ℕ → Call → Effect (List ℕ)
-tableStep b call = elim (tableRefusal b call) [ none ↦ written (imageAccept (readTable b) call) | some k ↦ effect (refused k) b ]
+tableStep b call = elim (tableRefusal b call) [ none ↦ written (imageAccept (readTable b) call) | some k ↦ effect (refused k) 0 b ]

@@ -4,16 +4,17 @@
 use layout::Row;
 use refusal::Refusal;
 
-// What append, advance and truncate answer: the row's low and high position after the call, or why it was refused.
+// What append, advance and truncate answer: the row's low and high position after the call, or why it was refused; and the
+// blocks hashed.
 pub enum Change {
-    Done { low: u64, high: u64 },
-    Refused(Refusal),
+    Done { low: u64, high: u64, blocks: u64 },
+    Refused { why: Refusal, blocks: u64 },
 }
 
-// What a lookup answers beside its receipt: the number of entries examined, or why it was refused.
+// What a lookup answers beside its receipt: the number of entries examined, or why it was refused; and the blocks hashed.
 pub enum Finding {
-    Found { examined: u64 },
-    Refused(Refusal),
+    Found { examined: u64, blocks: u64 },
+    Refused { why: Refusal, blocks: u64 },
 }
 
 // A whole table at one of its logs: its counts, the log's row, the first free slot, the number of free slots, and the last

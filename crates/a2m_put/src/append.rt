@@ -10,37 +10,49 @@ ghost use mathlib.Core.Path.{_≡_};
 ghost use lib.ListN.{length};
 ghost use Rattle.a2m.specs.Call.{append as appends};
 ghost use Rattle.a2m.specs.TableCalls.{tableStep};
-ghost use Rattle.a2m.specs.Opened.{Opened, changeReply};
+ghost use Rattle.a2m.specs.Opened.{Opened, changeReply, changeBlocks};
 
 // Refusals 4 and 5, and the entry at the next position.
 fn append_open(table: &mut [u8], view: View, value: &[u8]) -> Change
     requires { ⌜ Opened (now table) view ⌝ }
     requires { ⌜ length (now value) ≡ 32 ⌝ }
     ensures answer { λ r. ⌜ changeReply r ≡ tableStep (now (table .entry)) (appends (view .log) (now (value .entry))) .reply ⌝ }
+    ensures blocks { λ r. ⌜ changeBlocks r ≡ tableStep (now (table .entry)) (appends (view .log) (now (value .entry))) .blocks ⌝ }
     ensures bytes { λ _. ⌜ now (table .exit) ≡ tableStep (now (table .entry)) (appends (view .log) (now (value .entry))) .state ⌝ }
 {
     let row = view.row;
     if row.high == 0xffff_ffff_ffff_ffff {
-        return Change::Refused(Refusal::Spent);
+        return Change::Refused {
+            why: Refusal::Spent,
+            blocks: 0,
+        };
     }
     if view.free == 0 {
-        return Change::Refused(Refusal::Full);
+        return Change::Refused {
+            why: Refusal::Full,
+            blocks: 0,
+        };
     }
     let after = row.append(view.free);
-    let digest = digest_after(table, view.logs, view.slots, row.last, after.high, value);
-    enter(table, view, after, value, &digest)
+    let own = digest_after(table, view.logs, view.slots, row.last, after.high, value);
+    let digest = own.bytes;
+    enter(table, view, after, value, &digest, own.blocks)
 }
 
 // Puts a value at the log's next position.
 pub fn append(table: &mut [u8], log: u64, value: &[u8]) -> Change
     ensures answer { λ r. ⌜ changeReply r ≡ tableStep (now (table .entry)) (appends log (now (value .entry))) .reply ⌝ }
+    ensures blocks { λ r. ⌜ changeBlocks r ≡ tableStep (now (table .entry)) (appends log (now (value .entry))) .blocks ⌝ }
     ensures bytes { λ _. ⌜ now (table .exit) ≡ tableStep (now (table .entry)) (appends log (now (value .entry))) .state ⌝ }
 {
     if value.len() != 32 {
-        return Change::Refused(Refusal::Length);
+        return Change::Refused {
+            why: Refusal::Length,
+            blocks: 0,
+        };
     }
     match open(table, log) {
         Opening::Open(view) => append_open(table, view, value),
-        Opening::Refused(why) => Change::Refused(why),
+        Opening::Refused(why) => Change::Refused { why, blocks: 0 },
     }
 }

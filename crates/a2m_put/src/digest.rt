@@ -1,6 +1,7 @@
 // The digest of an entry behind another.
 use entry::entry_digest;
 use layout_slots::digest_at;
+use sha256::Digest;
 ghost use mathlib.Core.Path.{_≡_};
 ghost use Prim.Native.Nat.{_≤_};
 ghost use lib.ListN.{length};
@@ -17,11 +18,11 @@ pub fn digest_after(
     last: usize,
     position: u64,
     value: &[u8],
-) -> [u8; 32]
+) -> Digest
     requires { ⌜ Counted (now table) logs slots ⌝ }
     requires { ⌜ last ≤ slots ⌝ }
     requires { ⌜ length (now value) ≡ 32 ⌝ }
-    ensures { λ r. ⌜ r ≡ entryDigest position (now (value .entry)) (slotAt (readTable (now (table .entry)) .slots) last .digest) ⌝ }
+    ensures { λ r. ⌜ (r .bytes ≡ entryDigest position (now (value .entry)) (slotAt (readTable (now (table .entry)) .slots) last .digest)) × (r .blocks ≡ 2) ⌝ }
 {
     if last == 0 {
         let none = [0u8; 32];

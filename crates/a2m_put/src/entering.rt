@@ -17,7 +17,7 @@ ghost use Rattle.layout.specs.Fits.{Counted};
 ghost use Rattle.layout.specs.Changes.{advancedRow};
 ghost use Rattle.a2m.specs.Call.{done};
 ghost use Rattle.a2m.specs.ImageCalls.{put};
-ghost use Rattle.a2m.specs.Opened.{Opened, changeReply, hooked, entryAt};
+ghost use Rattle.a2m.specs.Opened.{Opened, changeReply, changeBlocks, hooked, entryAt};
 
 // Slot t becomes the next of slot last, if there is one.
 pub fn hook(table: &mut [u8], logs: usize, slots: usize, last: usize, t: usize)
@@ -30,14 +30,23 @@ pub fn hook(table: &mut [u8], logs: usize, slots: usize, last: usize, t: usize)
     }
 }
 
-// The entry goes into the first free slot, that behind the log's last, and the row becomes `after`; one slot less is free.
-pub fn enter(table: &mut [u8], view: View, after: Row, value: &[u8], digest: &[u8]) -> Change
+// The entry goes into the first free slot, that behind the log's last, and the row becomes `after`; one slot less is
+// free. The blocks are those hashed for the digest.
+pub fn enter(
+    table: &mut [u8],
+    view: View,
+    after: Row,
+    value: &[u8],
+    digest: &[u8],
+    blocks: u64,
+) -> Change
     requires { ⌜ Opened (now table) view ⌝ }
     requires { ⌜ 1 ≤ view .free ⌝ }
     requires { ⌜ after ≡ advancedRow (view .row) (after .high) (view .free) ⌝ }
     requires { ⌜ after .high < 2 ^ 64 ⌝ }
     requires { ⌜ (length (now value) ≡ 32) × (length (now digest) ≡ 32) ⌝ }
     ensures answer { λ r. ⌜ changeReply r ≡ done (view .row .low) (after .high) ⌝ }
+    ensures blocks { λ r. ⌜ changeBlocks r ≡ blocks ⌝ }
     ensures bytes { λ _. ⌜ now (table .exit) ≡ writeTable (put (readTable (now (table .entry))) (view .log) (entryAt (after .high) (now (value .entry)) (now (digest .entry)))) ⌝ }
 {
     let logs = view.logs;
@@ -54,5 +63,6 @@ pub fn enter(table: &mut [u8], view: View, after: Row, value: &[u8], digest: &[u
     Change::Done {
         low: after.low,
         high: after.high,
+        blocks,
     }
 }

@@ -13,7 +13,8 @@ ghost use Rattle.layout.specs.Image.{slotAt};
 ghost use Rattle.layout.specs.Layout.{readTable};
 ghost use Rattle.layout.specs.Fits.{Counted};
 
-// Writes the receipt of these facts under the table's key, with the value and digest of slot s; zero bytes where s is 0.
+// Writes the receipt of these facts under the table's key, with the value and digest of slot s; zero bytes where s is 0. The
+// answer is the number of blocks hashed.
 pub fn attest(
     table: &[u8],
     logs: usize,
@@ -22,19 +23,19 @@ pub fn attest(
     f: Facts,
     nonce: &[u8],
     receipt: &mut [u8],
-)
+) -> u64
     requires { ⌜ Counted (now table) logs slots ⌝ }
     requires { ⌜ s ≤ slots ⌝ }
     requires { ⌜ (length (now nonce) ≡ 32) × (length (now receipt) ≡ 160) ⌝ }
-    ensures { λ _. ⌜ now (receipt .exit) ≡ receiptBytes (readTable (now (table .entry)) .key) (attestationOf f (now (nonce .entry)) (slotAt (readTable (now (table .entry)) .slots) s .value) (slotAt (readTable (now (table .entry)) .slots) s .digest)) ⌝ }
+    ensures blocks { λ r. ⌜ r ≡ 6 ⌝ }
+    ensures bytes { λ _. ⌜ now (receipt .exit) ≡ receiptBytes (readTable (now (table .entry)) .key) (attestationOf f (now (nonce .entry)) (slotAt (readTable (now (table .entry)) .slots) s .value) (slotAt (readTable (now (table .entry)) .slots) s .digest)) ⌝ }
 {
     let key = key_of(table);
     if s == 0 {
         let none = [0u8; 32];
-        put_receipt(receipt, key, f, nonce, &none, &none);
-        return;
+        return put_receipt(receipt, key, f, nonce, &none, &none);
     }
     let value = value_at(table, logs, slots, s);
     let digest = digest_at(table, logs, slots, s);
-    put_receipt(receipt, key, f, nonce, value, digest);
+    put_receipt(receipt, key, f, nonce, value, digest)
 }

@@ -6,24 +6,29 @@ use a2m_open::open;
 use layout_header::keeper_of;
 use receipt::Facts;
 use receipt::Name;
-use refusal::Outcome;
 use refusal::Refusal;
+use refusal::Worked;
 ghost use mathlib.Core.Path.{_≡_};
 ghost use lib.ListN.{length};
+ghost use Rattle.refusal.specs.Work.{workedBlocks};
 ghost use Rattle.a2m.specs.Call.{end as ends};
 ghost use Rattle.a2m.specs.TableCalls.{tableStep};
 ghost use Rattle.a2m.specs.Opened.{Opened, endReply, receiptAfter};
 
 // Refusal 6, and the receipt of the entry at the high position.
-fn end_open(table: &[u8], view: View, nonce: &[u8], receipt: &mut [u8]) -> Outcome
+fn end_open(table: &[u8], view: View, nonce: &[u8], receipt: &mut [u8]) -> Worked
     requires { ⌜ Opened (now table) view ⌝ }
     requires { ⌜ (length (now nonce) ≡ 32) × (length (now receipt) ≡ 160) ⌝ }
     ensures answer { λ r. ⌜ endReply r (now (receipt .exit)) ≡ tableStep (now (table .entry)) (ends (view .log) (now (nonce .entry)) (length (now (receipt .entry)))) .reply ⌝ }
+    ensures blocks { λ r. ⌜ workedBlocks r ≡ tableStep (now (table .entry)) (ends (view .log) (now (nonce .entry)) (length (now (receipt .entry)))) .blocks ⌝ }
     ensures bytes { λ _. ⌜ now (receipt .exit) ≡ receiptAfter (tableStep (now (table .entry)) (ends (view .log) (now (nonce .entry)) (length (now (receipt .entry)))) .reply) (now (receipt .entry)) ⌝ }
 {
     let row = view.row;
     if row.last == 0 {
-        return Outcome::Refused(Refusal::NothingHeld);
+        return Worked::Refused {
+            why: Refusal::NothingHeld,
+            blocks: 0,
+        };
     }
     let keeper = keeper_of(table);
     let facts = Facts {
@@ -34,7 +39,7 @@ fn end_open(table: &[u8], view: View, nonce: &[u8], receipt: &mut [u8]) -> Outco
         position: row.high,
         reference: row.high,
     };
-    attest(
+    let blocks = attest(
         table,
         view.logs,
         view.slots,
@@ -43,22 +48,29 @@ fn end_open(table: &[u8], view: View, nonce: &[u8], receipt: &mut [u8]) -> Outco
         nonce,
         receipt,
     );
-    Outcome::Done
+    Worked::Done { blocks }
 }
 
 // Writes a receipt of the log's last entry.
-pub fn end(table: &[u8], log: u64, nonce: &[u8], receipt: &mut [u8]) -> Outcome
+pub fn end(table: &[u8], log: u64, nonce: &[u8], receipt: &mut [u8]) -> Worked
     ensures answer { λ r. ⌜ endReply r (now (receipt .exit)) ≡ tableStep (now (table .entry)) (ends log (now (nonce .entry)) (length (now (receipt .entry)))) .reply ⌝ }
+    ensures blocks { λ r. ⌜ workedBlocks r ≡ tableStep (now (table .entry)) (ends log (now (nonce .entry)) (length (now (receipt .entry)))) .blocks ⌝ }
     ensures bytes { λ _. ⌜ now (receipt .exit) ≡ receiptAfter (tableStep (now (table .entry)) (ends log (now (nonce .entry)) (length (now (receipt .entry)))) .reply) (now (receipt .entry)) ⌝ }
 {
     if nonce.len() != 32 {
-        return Outcome::Refused(Refusal::Length);
+        return Worked::Refused {
+            why: Refusal::Length,
+            blocks: 0,
+        };
     }
     if receipt.len() != 160 {
-        return Outcome::Refused(Refusal::Length);
+        return Worked::Refused {
+            why: Refusal::Length,
+            blocks: 0,
+        };
     }
     match open(table, log) {
         Opening::Open(view) => end_open(table, view, nonce, receipt),
-        Opening::Refused(why) => Outcome::Refused(why),
+        Opening::Refused(why) => Worked::Refused { why, blocks: 0 },
     }
 }

@@ -18,7 +18,7 @@ ghost use Rattle.layout.specs.Fits.{Counted};
 ghost use Rattle.a2m.specs.Call.{truncate as truncates, done};
 ghost use Rattle.a2m.specs.ImageCalls.{releases, lowered};
 ghost use Rattle.a2m.specs.TableCalls.{tableStep};
-ghost use Rattle.a2m.specs.Opened.{Opened, changeReply, joinedAt};
+ghost use Rattle.a2m.specs.Opened.{Opened, changeReply, changeBlocks, joinedAt};
 
 // The free chain goes on at slot t behind slot last, or starts there.
 fn join(table: &mut [u8], logs: usize, slots: usize, last: usize, t: usize)
@@ -39,6 +39,7 @@ fn strike(table: &mut [u8], view: View, n: u64) -> Change
     requires { ⌜ Opened (now table) view ⌝ }
     requires { ⌜ (1 ≤ n) × (n ≤ view .row .high) ⌝ }
     ensures answer { λ r. ⌜ changeReply r ≡ done n (view .row .high) ⌝ }
+    ensures blocks { λ r. ⌜ changeBlocks r ≡ 0 ⌝ }
     ensures bytes { λ _. ⌜ now (table .exit) ≡ writeTable (lowered (releases (view .slots) n (readTable (now (table .entry))) (view .log)) (view .log) n) ⌝ }
 {
     let logs = view.logs;
@@ -66,6 +67,7 @@ fn strike(table: &mut [u8], view: View, n: u64) -> Change
     Change::Done {
         low: after.low,
         high: after.high,
+        blocks: 0,
     }
 }
 
@@ -73,14 +75,21 @@ fn strike(table: &mut [u8], view: View, n: u64) -> Change
 fn truncate_open(table: &mut [u8], view: View, position: u64) -> Change
     requires { ⌜ Opened (now table) view ⌝ }
     ensures answer { λ r. ⌜ changeReply r ≡ tableStep (now (table .entry)) (truncates (view .log) position) .reply ⌝ }
+    ensures blocks { λ r. ⌜ changeBlocks r ≡ tableStep (now (table .entry)) (truncates (view .log) position) .blocks ⌝ }
     ensures bytes { λ _. ⌜ now (table .exit) ≡ tableStep (now (table .entry)) (truncates (view .log) position) .state ⌝ }
 {
     let row = view.row;
     if position <= row.low {
-        return Change::Refused(Refusal::Position);
+        return Change::Refused {
+            why: Refusal::Position,
+            blocks: 0,
+        };
     }
     if row.high < position {
-        return Change::Refused(Refusal::Position);
+        return Change::Refused {
+            why: Refusal::Position,
+            blocks: 0,
+        };
     }
     strike(table, view, position)
 }
@@ -88,10 +97,11 @@ fn truncate_open(table: &mut [u8], view: View, position: u64) -> Change
 // Strikes the log's entries below a position.
 pub fn truncate(table: &mut [u8], log: u64, position: u64) -> Change
     ensures answer { λ r. ⌜ changeReply r ≡ tableStep (now (table .entry)) (truncates log position) .reply ⌝ }
+    ensures blocks { λ r. ⌜ changeBlocks r ≡ tableStep (now (table .entry)) (truncates log position) .blocks ⌝ }
     ensures bytes { λ _. ⌜ now (table .exit) ≡ tableStep (now (table .entry)) (truncates log position) .state ⌝ }
 {
     match open(table, log) {
         Opening::Open(view) => truncate_open(table, view, position),
-        Opening::Refused(why) => Change::Refused(why),
+        Opening::Refused(why) => Change::Refused { why, blocks: 0 },
     }
 }

@@ -13,7 +13,9 @@ use Rattle.octets.proofs.Tests.{and-left, and-right, and-both}
 use Rattle.octets.proofs.Same.{same-eq, eq-same}
 use Rattle.bigendian.specs.BigEndian.{be, unbe}
 use Rattle.bigendian.proofs.Laws.{length-be, unbe-be}
-use Rattle.sha256.specs.Sha256.{sha256}
+use Rattle.sha256.specs.Sha256.{sha256, blockCount}
+use Rattle.sha256.specs.declared.Digest.{Digest}
+use Rattle.sha256.proofs.Padding.{count-is}
 use Rattle.sha256.proofs.Sizes.{length-sha256, bytes-sha256}
 use Rattle.entry.specs.Digest.{block, entryDigest}
 
@@ -71,7 +73,11 @@ same-block p q v w d e hp hq nv nw = go (same (block p v d) (block q w e)) (eqb 
     go false true h k = two k ∙ sym k
     go false false h k = h ∙ sym k
 
--- what the running digest is fed, part after part
-pub fed-is : (n : ℕ) (number x previous d : List ℕ) → number ≡ be 8 n → d ≡ sha256 ((([] ++ number) ++ x) ++ previous) → d ≡ entryDigest n x previous
+-- what the running digest is fed, part after part: 72 bytes, which with their padding are 2 blocks
+pub fed-is : (n : ℕ) (number x previous : List ℕ) (d : Digest) → number ≡ be 8 n → length x ≡ 32 → length previous ≡ 32
+    → (d .bytes ≡ sha256 ((([] ++ number) ++ x) ++ previous)) × (d .blocks ≡ blockCount ((([] ++ number) ++ x) ++ previous))
+    → (d .bytes ≡ entryDigest n x previous) × (d .blocks ≡ 2)
 unfolding entryDigest block
-fed-is n number x previous d h e = e ∙ ap sha256 (append-assoc number x previous ∙ ap (λ (l : List ℕ). l ++ (x ++ previous)) h)
+fed-is n number x previous d h nx np e =
+    let fed : (number ++ x) ++ previous ≡ block n x previous = append-assoc number x previous ∙ ap (λ (l : List ℕ). l ++ (x ++ previous)) h in
+    (e .0 ∙ ap sha256 fed, e .1 ∙ ap blockCount fed ∙ count-is (block n x previous) ∙ omega (arith, length-block n x previous nx np))

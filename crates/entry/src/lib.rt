@@ -1,8 +1,9 @@
 // The digest of an entry.
 use bigendian::put_u64;
+use sha256::Digest;
 use sha256_digest::Running;
 ghost use mathlib.Core.Path.{_≡_};
-ghost use Prim.Native.Nat.{_+_, _^_, _<_};
+ghost use Prim.Native.Nat.{_+_, _^_, _≤_, _<_};
 ghost use lib.ListN.{length};
 ghost use Rattle.bigendian.specs.BigEndian.{be};
 ghost use Rattle.sha256_digest.specs.Running.{stateOf, absorbed};
@@ -19,7 +20,7 @@ fn number(position: u64) -> [u8; 8]
 
 // A running digest that is lent takes in a part. The struct is copied, and what `absorb` makes of it is stored.
 fn feed(state: &mut Running, part: &[u8])
-    requires { ⌜ now state .count + length (now part) < 2 ^ 64 ⌝ }
+    requires { ⌜ (now state .count + length (now part) < 2 ^ 64) × (now state .blocks ≤ now state .count) ⌝ }
     ensures { λ _. ⌜ stateOf (now (state .exit)) ≡ absorbed (stateOf (now (state .entry))) (now (part .entry)) ⌝ }
 {
     let before = *state;
@@ -27,10 +28,11 @@ fn feed(state: &mut Running, part: &[u8])
 }
 
 // Document 01: "The running digest is fed position, value and previous digest in turn." The state is lent three times; the
-// contract speaks of a number and slices alone, so no caller's proof is a walk.
-pub fn entry_digest(position: u64, value: &[u8], previous: &[u8]) -> [u8; 32]
+// contract speaks of a number and slices alone, so no caller's proof is a walk. The blocks are those that `finish` reports: of
+// 72 bytes they are 2.
+pub fn entry_digest(position: u64, value: &[u8], previous: &[u8]) -> Digest
     requires { ⌜ (length (now value) ≡ 32) × (length (now previous) ≡ 32) ⌝ }
-    ensures { λ r. ⌜ r ≡ entryDigest position (now (value .entry)) (now (previous .entry)) ⌝ }
+    ensures { λ r. ⌜ (r .bytes ≡ entryDigest position (now (value .entry)) (now (previous .entry))) × (r .blocks ≡ 2) ⌝ }
 {
     let head = number(position);
     let mut state = Running::new();

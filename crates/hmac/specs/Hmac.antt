@@ -8,7 +8,7 @@ use lib.Dec.{eqb, leb}
 use lib.Bits.{bitXor}
 use Rattle.octets.specs.Octets.{zeros}
 use Rattle.refusal.specs.Order.{fault, firstFault}
-use Rattle.sha256.specs.Sha256.{sha256}
+use Rattle.sha256.specs.Sha256.{sha256, blockCount}
 use Rattle.sha256.specs.Hash.{tooLong}
 
 -- "Applications that use keys longer than B bytes will first hash the key"
@@ -23,10 +23,23 @@ padded k = k ++ zeros (64 - length k)
 unfoldable pub masked : ℕ → List ℕ → List ℕ
 masked x bs = map (λ b. bitXor b x) bs
 
+-- the messages of the inner hash and of the outer one
+unfoldable pub inner : List ℕ → List ℕ → List ℕ
+inner key text = masked 0x36 (padded (shortKey key)) ++ text
+
+unfoldable pub outer : List ℕ → List ℕ → List ℕ
+outer key text = masked 0x5c (padded (shortKey key)) ++ sha256 (inner key text)
+
 -- "H(K XOR opad, H(K XOR ipad, text))"
 unfoldable pub hmac : List ℕ → List ℕ → List ℕ
-hmac key text =
-    sha256 (masked 0x5c (padded (shortKey key)) ++ sha256 (masked 0x36 (padded (shortKey key)) ++ text))
+hmac key text = sha256 (outer key text)
+
+-- document 02 [2], the blocks hashed: of the key where it is hashed, and of the two messages
+unfoldable pub keyBlocks : List ℕ → ℕ
+keyBlocks key = cond (leb (length key) 64) 0 (blockCount key)
+
+unfoldable pub tagBlocks : List ℕ → List ℕ → ℕ
+tagBlocks key text = keyBlocks key + blockCount (inner key text) + blockCount (outer key text)
 
 -- document 01, number 7, of a key, a text and the buffer for the tag: "a message to hash, HMAC's pad block counted with it"
 unfoldable pub tagRefusal : List ℕ → List ℕ → List ℕ → Option ℕ

@@ -20,9 +20,9 @@ pub data Change (Ok : Type 0) (l k : Log) : Type 0 where
 
 module _ (ru : Rules) (b : Model) where
   -- the log named changes, and no other
-  change-at : (Ok : Type 0) (g : ℕ) (l : Log) → g < length (b .logs) → Change Ok (logAt (b .logs) g) l → (k : ℕ) → Change Ok (logAt (b .logs) k) (logAt (modelDone b g l .state .logs) k)
+  change-at : (Ok : Type 0) (w g : ℕ) (l : Log) → g < length (b .logs) → Change Ok (logAt (b .logs) g) l → (k : ℕ) → Change Ok (logAt (b .logs) k) (logAt (modelDone w b g l .state .logs) k)
   unfolding modelDone
-  change-at Ok g l gG c k = go (ℕ-discrete k g)
+  change-at Ok w g l gG c k = go (ℕ-discrete k g)
     where
       go : Dec (k ≡ g) → Change Ok (logAt (b .logs) k) (logAt (set (b .logs) g l) k)
       go (yes e) = rw (e, getD-set-same (b .logs) g l freshLog gG) c
@@ -33,11 +33,11 @@ module _ (ru : Rules) (b : Model) where
   accept-change (append g x) a k =
       let l = logAt (b .logs) g in
       let r = a .room in
-      change-at (Unit {0}) g _ (a .log) (entering _ (omega arith) (λ (v : Unit {0}) (q : l .high < 2 ^ 64). omega arith) (a .value) (length-entryDigest _ x _) refl) k
+      change-at (Unit {0}) 2 g _ (a .log) (entering _ (omega arith) (λ (v : Unit {0}) (q : l .high < 2 ^ 64). omega arith) (a .value) (length-entryDigest _ x _) refl) k
   accept-change (advance g n d x) a k =
       let l = logAt (b .logs) g in
-      change-at (n < 2 ^ 64) g _ (a .log) (entering _ (a .above) (λ (v : n < 2 ^ 64) (q : l .high < 2 ^ 64). v) (a .value) (length-entryDigest n x _) refl) k
-  accept-change (truncate g n) a k = change-at (n < 2 ^ 64) g _ (a .log) (cutting n (a .low) (a .high) refl) k
+      change-at (n < 2 ^ 64) 2 g _ (a .log) (entering _ (a .above) (λ (v : n < 2 ^ 64) (q : l .high < 2 ^ 64). v) (a .value) (length-entryDigest n x _) refl) k
+  accept-change (truncate g n) a k = change-at (n < 2 ^ 64) 0 g _ (a .log) (cutting n (a .low) (a .high) refl) k
   accept-change (lookup g n c q) a k = same refl
   accept-change (end g c q) a k = same refl
 

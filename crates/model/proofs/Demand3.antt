@@ -19,7 +19,7 @@ use Rattle.table.specs.Format.{formatted, formatRefusal, formatBytes}
 use Rattle.layout.specs.Fits.{Range}
 use Rattle.layout.proofs.HeaderLaws.{in-range}
 use Rattle.table.proofs.FormattedLaws.{formatted-fits}
-use Rattle.a2m.specs.Call.{Call, AllWide, replies, after}
+use Rattle.a2m.specs.Call.{Call, AllWide, replies, works, after}
 use Rattle.a2m.specs.TableCalls.{tableStep}
 use Rattle.model.specs.Log.{freshLog}
 use Rattle.model.specs.Model.{rules, newModel, total, modelStep}
@@ -53,8 +53,8 @@ module _ (lent : List ℕ) (G S keeper : ℕ) (key : List ℕ) (k64 : keeper < 2
   unfolding formatBytes afterwards
   bytes-are = rw (accepted, formatBytes)
 
-  pub listClaim : (cs : List Call) → AllWide cs → ListClaim (newModel G S keeper key) (by rules cs) (replies tableStep (formatBytes lent G S keeper key) cs) (readTable (after tableStep (formatBytes lent G S keeper key) cs))
-  unfolding after replies
+  pub listClaim : (cs : List Call) → AllWide cs → ListClaim (newModel G S keeper key) (by rules cs) (replies tableStep (formatBytes lent G S keeper key) cs) (works tableStep (formatBytes lent G S keeper key) cs) (readTable (after tableStep (formatBytes lent G S keeper key) cs))
+  unfolding after replies works
   listClaim cs w = rw bytes-are (table-claim (newModel G S keeper key) (new-keeps G S keeper key k64) [] tt (formatted G S keeper key) stands cs w)
 
   -- the table is whole before and after each call

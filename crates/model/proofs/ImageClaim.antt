@@ -5,7 +5,7 @@ use mathlib.Core.List.{List, [], _∷_, _++_}
 use lib.ListN.{length}
 use lib.Dec.{lit<}
 use Rattle.layout.specs.Image.{Entry, Image}
-use Rattle.a2m.specs.Call.{Call, Reply, replies, after, Wide, AllWide}
+use Rattle.a2m.specs.Call.{Call, Reply, replies, works, after, Wide, AllWide}
 use Rattle.a2m.specs.ImageCalls.{imageStep}
 use Rattle.model.specs.Log.{freshLog}
 use Rattle.model.specs.Model.{Rules, rules01, rules, Model, newModel, logAt, modelStep}
@@ -14,7 +14,7 @@ use Rattle.model.proofs.Represents.{Rep, Sound}
 use Rattle.model.proofs.Reading.{entries-are}
 use Rattle.model.proofs.Step.{step-agrees}
 use Rattle.model.proofs.Sound.{step-sound}
-use Rattle.model.proofs.Turns.{WideTurn, Each, each-on, each-so, replies-by, after-by, replies-on, after-on}
+use Rattle.model.proofs.Turns.{WideTurn, Each, each-on, each-so, replies-by, works-by, after-by, replies-on, works-on, after-on}
 use Rattle.model.proofs.Along.{Keeps, after-fixed, keeps-after}
 use Rattle.model.proofs.History.{model-agreeing, model-unskipped, model-remembered, model-positive}
 use Rattle.model.proofs.Remembers.{model-remembers}
@@ -26,16 +26,22 @@ use Rattle.model.proofs.Fresh.{getD-same, fresh-sound}
 -- the answers to a list, and the states after it
 pub record AgreeAll (m : Image) (b : Model) (cs : List Call) : Type 0 where
   pub answers : replies imageStep m cs ≡ replies (modelStep rules) b cs
+  pub blocks : works imageStep m cs ≡ works (modelStep rules) b cs
   pub state : Rep (after imageStep m cs) (after (modelStep rules) b cs)
   pub sound : Sound (after (modelStep rules) b cs)
 
 pub list-agrees : (m : Image) (b : Model) → Rep m b → Sound b → (cs : List Call) → AgreeAll m b cs
-unfolding replies after
-list-agrees m b R ok [] = record { answers = refl; state = R; sound = ok }
+unfolding replies works after
+list-agrees m b R ok [] = record { answers = refl; blocks = refl; state = R; sound = ok }
 list-agrees m b R ok (c ∷ cs) =
     let s = step-agrees m b R ok c in
     let ih = list-agrees (imageStep m c .state) (modelStep rules b c .state) (s .state) (step-sound rules b ok c) cs in
-    record { answers = ap₂ {C = List Reply} (λ (x : Reply) (l : List Reply). x ∷ l) (s .reply) (ih .answers); state = ih .state; sound = ih .sound }
+    record {
+      answers = ap₂ {C = List Reply} (λ (x : Reply) (l : List Reply). x ∷ l) (s .reply) (ih .answers);
+      blocks = ap₂ {C = List ℕ} (λ (k : ℕ) (l : List ℕ). k ∷ l) (s .blocks) (ih .blocks);
+      state = ih .state;
+      sound = ih .sound;
+    }
 
 pub row-says : (m : Image) (b : Model) → Rep m b → (g : ℕ) → RowSays m g (logAt (b .logs) g)
 row-says m b R g = record { low = R .rows g .low; high = R .rows g .high; entries = entries-are m b R g }
@@ -66,7 +72,7 @@ proper cs w = proper-by rules calm attests cs w
 
 -- calls ts by whatever rules, of the model alone; then calls cs on an image that says the model after them
 pub image-claim : (b : Model) → Keeps b → length (b .key) ≡ 32 → length (b .logs) ≤ 16 → (ts : List Turn) → Each Proper ts → (m : Image) → Rep m (after modelTurn b ts) → (cs : List Call) → AllWide cs
-    → ListClaim b (ts ++ by rules cs) (replies modelTurn b ts ++ replies imageStep m cs) (after imageStep m cs)
+    → ListClaim b (ts ++ by rules cs) (replies modelTurn b ts ++ replies imageStep m cs) (works modelTurn b ts ++ works imageStep m cs) (after imageStep m cs)
 image-claim b keeps key few ts pt m R cs w =
     let c = after modelTurn b ts in
     let us = by rules cs in
@@ -83,6 +89,7 @@ image-claim b keeps key few ts pt m R cs w =
     let size : length (after imageStep m cs .slots) ≡ b .size = R1 .size ∙ f .size in
     record {
       answers = e;
+      blocks = ap (λ (l : List ℕ). works modelTurn b ts ++ l) (A .blocks ∙ sym (works-by rules c cs)) ∙ sym (works-on b ts us);
       agreeing = rw e (model-agreeing b keeps (ts ++ us) W);
       unskipped = rw e (model-unskipped b keeps (ts ++ us) W);
       remembered = rw e (model-remembered b keeps (ts ++ us) W);

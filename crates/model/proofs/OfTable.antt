@@ -39,6 +39,7 @@ module _ (b : List ℕ) (h : Bytes b) (w : whole b ≡ true) where
   -- a call answers as the model, leaves a table that says the model after, and that is whole
   pub record Follows (call : Call) : Type 0 where
     pub reply : tableStep b call .reply ≡ modelStep rules (modelOf (readTable b)) call .reply
+    pub blocks : tableStep b call .blocks ≡ modelStep rules (modelOf (readTable b)) call .blocks
     pub model : modelOf (readTable (tableStep b call .state)) ≡ modelStep rules (modelOf (readTable b)) call .state
     pub whole : whole (tableStep b call .state) ≡ true
 
@@ -52,6 +53,7 @@ module _ (b : List ℕ) (h : Bytes b) (w : whole b ≡ true) where
       let back : readTable (tableStep b call .state) ≡ imageStep m call .state = ap (λ (o : Effect (List ℕ)). readTable (o .state)) e ∙ read-write (imageStep m call .state) (step-fits m (s .fits) call wide) in
       record {
         reply = ap (λ (o : Effect (List ℕ)). o .reply) e ∙ f .reply;
+        blocks = ap (λ (o : Effect (List ℕ)). o .blocks) e ∙ f .blocks;
         model = ap modelOf back ∙ f .model;
         whole = kept-whole (call ∷ []) (wide, tt);
       }

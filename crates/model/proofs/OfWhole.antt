@@ -99,6 +99,7 @@ rep-model m b R =
 -- a call answers as the model, leaves an image that says the model after, and that is whole
 pub record Follows (m : Image) (call : Call) (o : Effect Image) : Type 0 where
   pub reply : o .reply ≡ modelStep rules (modelOf m) call .reply
+  pub blocks : o .blocks ≡ modelStep rules (modelOf m) call .blocks
   pub model : modelOf (o .state) ≡ modelStep rules (modelOf m) call .state
   pub whole : wholeImage (o .state) ≡ true
 
@@ -107,6 +108,7 @@ whole-step m w call =
     let a = step-agrees m (modelOf m) (model-says m w) (model-sound m w) call in
     record {
       reply = a .reply;
+      blocks = a .blocks;
       model = rep-model (imageStep m call .state) (modelStep rules (modelOf m) call .state) (a .state);
       whole = whole-of (imageStep m call .state) (modelStep rules (modelOf m) call .state) (a .state) (step-sound rules (modelOf m) (model-sound m w) call);
     }

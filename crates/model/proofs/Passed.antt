@@ -83,7 +83,7 @@ passed ru b (end g c k) h =
 
 -- the model's answer is a refusal, or what an accepted call gives
 pub data Stepped (ru : Rules) (b : Model) (call : Call) : Type 0 where
-  turned : (k : ℕ) → modelStep ru b call ≡ effect (refused k) b → Stepped ru b call
+  turned : (k : ℕ) → modelStep ru b call ≡ effect (refused k) 0 b → Stepped ru b call
   taken : Passed ru b call → modelStep ru b call ≡ modelAccept ru b call → Stepped ru b call
 
 pub stepped : (ru : Rules) (b : Model) (call : Call) → Stepped ru b call

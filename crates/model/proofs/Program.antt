@@ -11,7 +11,7 @@ use Rattle.layout.specs.Layout.{readTable}
 use Rattle.table.specs.Free.{writeTable}
 use Rattle.table.specs.Format.{formatted, formatRefusal, formatBytes}
 use Rattle.table.specs.Whole.{whole}
-use Rattle.a2m.specs.Call.{Call, append, advance, truncate, lookup, end, AllWide, Reply, Effect, replies, after}
+use Rattle.a2m.specs.Call.{Call, append, advance, truncate, lookup, end, AllWide, Reply, Effect, replies, works, after}
 use Rattle.a2m.specs.ImageCalls.{imageRefusal, imageAccept, imageStep}
 use Rattle.a2m.specs.TableCalls.{tableStep}
 use Rattle.a2m.proofs.Unchanged.{Reads}
@@ -56,30 +56,37 @@ module _ (m : Image) (b : Model) (s : Stands m b) where
 
 record SameList (m : Image) (cs : List Call) : Type 0 where
   answers : replies programStep (writeTable m) cs ≡ replies tableStep (writeTable m) cs
+  blocks : works programStep (writeTable m) cs ≡ works tableStep (writeTable m) cs
   bytes : after programStep (writeTable m) cs ≡ after tableStep (writeTable m) cs
 
 same-list : (m : Image) (b : Model) → Stands m b → (cs : List Call) → AllWide cs → SameList m cs
-unfolding replies after programStep
-same-list m b s [] w = record { answers = refl; bytes = refl }
+unfolding replies works after programStep
+same-list m b s [] w = record { answers = refl; blocks = refl; bytes = refl }
 same-list m b s (c ∷ cs) w =
     let ih = same-list (imageStep m c .state) (modelStep rules b c .state) (step-stands m b s c (w .0, tt)) cs (w .1) in
     let t = after-call m b s c in
     let p : passedOn (writeTable m) c ≡ writeTable (imageStep m c .state) = passed m b s c ∙ t in
     let rs : replies programStep (passedOn (writeTable m) c) cs ≡ replies tableStep (tableStep (writeTable m) c .state) cs =
     ap (λ (x : List ℕ). replies programStep x cs) p ∙ ih .answers ∙ sym (ap (λ (x : List ℕ). replies tableStep x cs) t) in
+    let ks : works programStep (passedOn (writeTable m) c) cs ≡ works tableStep (tableStep (writeTable m) c .state) cs =
+    ap (λ (x : List ℕ). works programStep x cs) p ∙ ih .blocks ∙ sym (ap (λ (x : List ℕ). works tableStep x cs) t) in
     let bs : after programStep (passedOn (writeTable m) c) cs ≡ after tableStep (tableStep (writeTable m) c .state) cs =
     ap (λ (x : List ℕ). after programStep x cs) p ∙ ih .bytes ∙ sym (ap (λ (x : List ℕ). after tableStep x cs) t) in
-    record { answers = ap {B = List Reply} (λ (l : List Reply). tableStep (writeTable m) c .reply ∷ l) rs; bytes = bs }
+    record {
+      answers = ap {B = List Reply} (λ (l : List Reply). tableStep (writeTable m) c .reply ∷ l) rs;
+      blocks = ap {B = List ℕ} (λ (l : List ℕ). tableStep (writeTable m) c .blocks ∷ l) ks;
+      bytes = bs;
+    }
 
 module _ (lent : List ℕ) (G S keeper : ℕ) (key : List ℕ) (k64 : keeper < 2 ^ 64) (accepted : formatRefusal (length lent) G S (length key) ≡ none) where
   same : (cs : List Call) → AllWide cs → SameList (formatted G S keeper key) cs
   same cs w = same-list (formatted G S keeper key) (newModel G S keeper key) (stands lent G S keeper key k64 accepted) cs w
 
-  pub programClaim : (cs : List Call) → AllWide cs → ListClaim (newModel G S keeper key) (by rules cs) (replies programStep (formatBytes lent G S keeper key) cs) (readTable (after programStep (formatBytes lent G S keeper key) cs))
+  pub programClaim : (cs : List Call) → AllWide cs → ListClaim (newModel G S keeper key) (by rules cs) (replies programStep (formatBytes lent G S keeper key) cs) (works programStep (formatBytes lent G S keeper key) cs) (readTable (after programStep (formatBytes lent G S keeper key) cs))
   programClaim cs w =
       let h = bytes-are lent G S keeper key k64 accepted in
-      let c : ListClaim (newModel G S keeper key) (by rules cs) (replies tableStep (writeTable (formatted G S keeper key)) cs) (readTable (after tableStep (writeTable (formatted G S keeper key)) cs)) = rw h at (listClaim lent G S keeper key k64 accepted cs w) in
-      rw (h, same cs w .answers, same cs w .bytes) c
+      let c : ListClaim (newModel G S keeper key) (by rules cs) (replies tableStep (writeTable (formatted G S keeper key)) cs) (works tableStep (writeTable (formatted G S keeper key)) cs) (readTable (after tableStep (writeTable (formatted G S keeper key)) cs)) = rw h at (listClaim lent G S keeper key k64 accepted cs w) in
+      rw (h, same cs w .answers, same cs w .blocks, same cs w .bytes) c
 
   -- the table is whole before and after each call
   pub programWhole : (cs : List Call) → AllWide cs → whole (after programStep (formatBytes lent G S keeper key) cs) ≡ true

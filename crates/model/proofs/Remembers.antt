@@ -79,9 +79,9 @@ record Stored (b after : Model) (g n : ℕ) (x : List ℕ) : Type 0 where
   digest : List ℕ
   entry : EntryAt (logAt (after .logs) g) n x digest
 
-put-stored : (ru : Rules) (b : Model) (g n low : ℕ) (x : List ℕ) (c : Call) (k : ℕ) (e : Entry) → k < length (b .logs) → k ≡ g → e .value ≡ x → modelStep ru b c ≡ modelDone b k (entered (logAt (b .logs) k) e) → modelStep ru b c .reply ≡ done low n → Stored b (modelStep ru b c .state) g n x
+put-stored : (ru : Rules) (b : Model) (g n low : ℕ) (x : List ℕ) (c : Call) (w k : ℕ) (e : Entry) → k < length (b .logs) → k ≡ g → e .value ≡ x → modelStep ru b c ≡ modelDone w b k (entered (logAt (b .logs) k) e) → modelStep ru b c .reply ≡ done low n → Stored b (modelStep ru b c .state) g n x
 unfolding modelDone entered
-put-stored ru b g n low x c k e kG q v s r =
+put-stored ru b g n low x c w k e kG q v s r =
     let l = logAt (b .logs) k in
     let d : done (l .low) (e .position) ≡ done low n = rw s at r in
     let p : e .position ≡ n = cc in
@@ -97,8 +97,8 @@ stored ru b g n low x c s r = go c s r (stepped ru b c)
   where
     go : (c : Call) → Stores g x c → modelStep ru b c .reply ≡ done low n → Stepped ru b c → Stored b (modelStep ru b c .state) g n x
     go c s r (turned k e) = absurd (let q : refused k ≡ done low n = rw e at r in let z : _≡_ {A = ℕ} 0 1 = cc in omega arith)
-    go (append k y) s r (taken a e) = put-stored ru b g n low x (append k y) k _ (a .log) (s .0) (s .1) e r
-    go (advance k m d y) s r (taken a e) = put-stored ru b g n low x (advance k m d y) k _ (a .log) (s .0) (s .1) e r
+    go (append k y) s r (taken a e) = put-stored ru b g n low x (append k y) 2 k _ (a .log) (s .0) (s .1) e r
+    go (advance k m d y) s r (taken a e) = put-stored ru b g n low x (advance k m d y) 2 k _ (a .log) (s .0) (s .1) e r
 
 -- ---- a lookup of n
 

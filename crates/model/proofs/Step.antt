@@ -26,17 +26,18 @@ use Rattle.model.proofs.Refusals.{refusal-is}
 use Rattle.model.proofs.Lookups.{foundAs, lookup-is}
 use Rattle.model.proofs.Passed.{Passed, peel, passed}
 
--- one answer, and states that say the same
+-- one answer with its blocks, and states that say the same
 pub record Agree (x : Effect Image) (y : Effect Model) : Type 0 where
   pub reply : x .reply ≡ y .reply
+  pub blocks : x .blocks ≡ y .blocks
   pub state : Rep (x .state) (y .state)
 
-done-agree : (m : Image) (b : Model) (g : ℕ) (l : Log) → g < length (b .logs) → Rep m (withLog b g l) → Agree (imageDone m g) (modelDone b g l)
+done-agree : (k : ℕ) (m : Image) (b : Model) (g : ℕ) (l : Log) → g < length (b .logs) → Rep m (withLog b g l) → Agree (imageDone k m g) (modelDone k b g l)
 unfolding imageDone modelDone
-done-agree m b g l gG R =
+done-agree k m b g l gG R =
     let at : logAt (set (b .logs) g l) g ≡ l = getD-set-same (b .logs) g l freshLog gG in
     let w = R .rows g in
-    record { reply = ap₂ (λ (x y : ℕ). done x y) (w .low ∙ ap (λ (k : Log). k .low) at) (w .high ∙ ap (λ (k : Log). k .high) at); state = R }
+    record { reply = ap₂ (λ (x y : ℕ). done x y) (w .low ∙ ap (λ (k : Log). k .low) at) (w .high ∙ ap (λ (k : Log). k .high) at); blocks = refl; state = R }
 
 module _ (m : Image) (b : Model) (R : Rep m b) (ok : Sound b) where
   free-slot : (g : ℕ) → rules .noSlot b g ≡ none → eqb (m .free) 0 ≡ false
@@ -70,12 +71,12 @@ module _ (m : Image) (b : Model) (R : Rep m b) (ok : Sound b) where
       let l = logAt (b .logs) g in
       let e : newEntry (rowIn m g .high + 1) x (previousIn m g) ≡ newEntry (suc (l .high)) x (lastEntry (l .entries) .digest) =
       ap₂ (λ (n : ℕ) (d : List ℕ). newEntry n x d) (add-one (rowIn m g .high) ∙ ap suc (R .rows g .high)) (ap (λ (y : Entry). y .digest) (last-is m b R g)) in
-      subst (λ (y : Entry). Agree (imageDone (put m g y) g) (modelDone b g (entered l (newEntry (suc (l .high)) x (lastEntry (l .entries) .digest))))) (sym e)
-      (done-agree _ b g _ (a .log) (put-keeps m b R g (a .log) _ (free-slot g (a .slot))))
-  accept-agrees (advance g n d x) a = done-agree _ b g _ (a .log) (put-keeps m b R g (a .log) _ (free-slot g (a .slot)))
-  accept-agrees (truncate g n) a = let lo = a .low in done-agree _ b g _ (a .log) (truncate-keeps m b R g n (a .log) (ok g) (omega arith) (a .high))
-  accept-agrees (lookup g n c k) a = record { reply = lookup-agrees g n c (a .position); state = R }
-  accept-agrees (end g c k) a = record { reply = end-agrees g c (some-held g (a .held)); state = R }
+      subst (λ (y : Entry). Agree (imageDone 2 (put m g y) g) (modelDone 2 b g (entered l (newEntry (suc (l .high)) x (lastEntry (l .entries) .digest))))) (sym e)
+      (done-agree 2 _ b g _ (a .log) (put-keeps m b R g (a .log) _ (free-slot g (a .slot))))
+  accept-agrees (advance g n d x) a = done-agree 2 _ b g _ (a .log) (put-keeps m b R g (a .log) _ (free-slot g (a .slot)))
+  accept-agrees (truncate g n) a = let lo = a .low in done-agree 0 _ b g _ (a .log) (truncate-keeps m b R g n (a .log) (ok g) (omega arith) (a .high))
+  accept-agrees (lookup g n c k) a = record { reply = lookup-agrees g n c (a .position); blocks = refl; state = R }
+  accept-agrees (end g c k) a = record { reply = end-agrees g c (some-held g (a .held)); blocks = refl; state = R }
 
   pub step-agrees : (call : Call) → Agree (imageStep m call) (modelStep rules b call)
   unfolding imageStep modelStep
@@ -83,4 +84,4 @@ module _ (m : Image) (b : Model) (R : Rep m b) (ok : Sound b) where
     where
       go : (r : Option ℕ) → modelRefusal rules b call ≡ r → Agree (imageStep m call) (modelStep rules b call)
       go none e = rw (imageStep, modelStep, refusal-is m b R ok call, e) (accept-agrees call (passed rules b call e))
-      go (some k) e = rw (imageStep, modelStep, refusal-is m b R ok call, e) (record { reply = refl; state = R })
+      go (some k) e = rw (imageStep, modelStep, refusal-is m b R ok call, e) (record { reply = refl; blocks = refl; state = R })

@@ -12,7 +12,7 @@ use Rattle.layout.specs.Fits.{Fits}
 use Rattle.layout.specs.Fits.{Range}
 use Rattle.table.specs.Whole.{whole}
 use Rattle.table.proofs.WholeLaws.{read-write, stock-write, written-whole}
-use Rattle.a2m.specs.Call.{Call, AllWide, Reply, replies, after}
+use Rattle.a2m.specs.Call.{Call, AllWide, Reply, replies, works, after}
 use Rattle.a2m.specs.ImageCalls.{imageStep}
 use Rattle.a2m.specs.TableCalls.{tableStep}
 use Rattle.a2m.proofs.Links.{chain-links}
@@ -46,33 +46,35 @@ step-stands m b s c w = record {
   counts = rw (step-fixed rules b c .count, step-fixed rules b c .size) (s .counts);
 }
 
--- the answers to a list, the bytes after it, and that they still stand
+-- the answers to a list, their blocks, the bytes after it, and that they still stand
 pub record WrittenAll (m : Image) (b : Model) (cs : List Call) : Type 0 where
   pub answers : replies tableStep (writeTable m) cs ≡ replies imageStep m cs
+  pub blocks : works tableStep (writeTable m) cs ≡ works imageStep m cs
   pub bytes : after tableStep (writeTable m) cs ≡ writeTable (after imageStep m cs)
   pub stands : Stands (after imageStep m cs) (after (modelStep rules) b cs)
 
 pub list-written : (m : Image) (b : Model) → Stands m b → (cs : List Call) → AllWide cs → WrittenAll m b cs
-unfolding replies after
-list-written m b s [] w = record { answers = refl; bytes = refl; stands = s }
+unfolding replies works after
+list-written m b s [] w = record { answers = refl; blocks = refl; bytes = refl; stands = s }
 list-written m b s (c ∷ cs) w =
     let e = step-written m (s .fits) (in-range m b s) c in
     let ih = list-written (imageStep m c .state) (modelStep rules b c .state) (step-stands m b s c (w .0, tt)) cs (w .1) in
     record {
       answers = rw e (ap {B = List Reply} (λ l. imageStep m c .reply ∷ l) (ih .answers));
+      blocks = rw e (ap {B = List ℕ} (λ l. imageStep m c .blocks ∷ l) (ih .blocks));
       bytes = rw e (ih .bytes);
       stands = ih .stands;
     }
 
 -- the claim: calls ts by whatever rules, of the model alone, then calls cs on the bytes of an image that says the model after them
 pub table-claim : (b : Model) → Keeps b → (ts : List Turn) → Each Proper ts → (m : Image) → Stands m (after modelTurn b ts) → (cs : List Call) → AllWide cs
-    → ListClaim b (ts ++ by rules cs) (replies modelTurn b ts ++ replies tableStep (writeTable m) cs) (readTable (after tableStep (writeTable m) cs))
+    → ListClaim b (ts ++ by rules cs) (replies modelTurn b ts ++ replies tableStep (writeTable m) cs) (works modelTurn b ts ++ works tableStep (writeTable m) cs) (readTable (after tableStep (writeTable m) cs))
 table-claim b keeps ts p m s cs w =
     let W = list-written m (after modelTurn b ts) s cs w in
     let f = after-fixed b ts in
     let key : length (b .key) ≡ 32 = ap length (sym (s .says .key ∙ f .key)) ∙ s .fits .key in
     let few : length (b .logs) ≤ 16 = subst (λ (n : ℕ). n ≤ 16) (f .count) (s .counts .logs-most) in
-    rw (W .answers, W .bytes, read-write (after imageStep m cs) (W .stands .fits)) (image-claim b keeps key few ts p m (s .says) cs w)
+    rw (W .answers, W .blocks, W .bytes, read-write (after imageStep m cs) (W .stands .fits)) (image-claim b keeps key few ts p m (s .says) cs w)
 
 -- and the table is whole all along
 pub table-whole : (m : Image) (b : Model) → Stands m b → (cs : List Call) → AllWide cs → whole (after tableStep (writeTable m) cs) ≡ true

@@ -4,7 +4,7 @@ use mathlib.Core.Path.{_≡_, refl, ap, subst}
 use mathlib.Core.List.{List, [], _∷_, _++_}
 use mathlib.Core.Option.{some, Option·none-ne-some, Option·some-injective}
 use lib.ListN.{getElem?}
-use Rattle.a2m.specs.Call.{Call, Wide, Reply, replies, after}
+use Rattle.a2m.specs.Call.{Call, Wide, Reply, replies, works, after}
 use Rattle.model.specs.Model.{Rules, Model, modelStep}
 use Rattle.model.specs.Claim.{Turn, by, modelTurn}
 
@@ -12,6 +12,11 @@ pub replies-by : (ru : Rules) (b : Model) (cs : List Call) → replies modelTurn
 unfolding replies
 replies-by ru b [] = refl
 replies-by ru b (c ∷ cs) = ap {B = List Reply} (λ (l : List Reply). modelStep ru b c .reply ∷ l) (replies-by ru (modelStep ru b c .state) cs)
+
+pub works-by : (ru : Rules) (b : Model) (cs : List Call) → works modelTurn b (by ru cs) ≡ works (modelStep ru) b cs
+unfolding works
+works-by ru b [] = refl
+works-by ru b (c ∷ cs) = ap {B = List ℕ} (λ (l : List ℕ). modelStep ru b c .blocks ∷ l) (works-by ru (modelStep ru b c .state) cs)
 
 pub after-by : (ru : Rules) (b : Model) (cs : List Call) → after modelTurn b (by ru cs) ≡ after (modelStep ru) b cs
 unfolding after
@@ -22,6 +27,11 @@ pub replies-on : (b : Model) (ts us : List Turn) → replies modelTurn b (ts ++ 
 unfolding replies after
 replies-on b [] us = refl
 replies-on b (t ∷ ts) us = ap {B = List Reply} (λ (l : List Reply). modelTurn b t .reply ∷ l) (replies-on (modelTurn b t .state) ts us)
+
+pub works-on : (b : Model) (ts us : List Turn) → works modelTurn b (ts ++ us) ≡ works modelTurn b ts ++ works modelTurn (after modelTurn b ts) us
+unfolding works after
+works-on b [] us = refl
+works-on b (t ∷ ts) us = ap {B = List ℕ} (λ (l : List ℕ). modelTurn b t .blocks ∷ l) (works-on (modelTurn b t .state) ts us)
 
 pub after-on : (b : Model) (ts us : List Turn) → after modelTurn b (ts ++ us) ≡ after modelTurn (after modelTurn b ts) us
 unfolding after

@@ -12,7 +12,7 @@ use Rattle.receipt.specs.Attestation.{readAttestation}
 use Rattle.receipt.specs.Verdict.{verdict}
 use Rattle.layout.specs.Image.{Image}
 use Rattle.table.specs.WholeImage.{meets}
-use Rattle.a2m.specs.Call.{Call, append, advance, truncate, lookup, end, Reply, refused, done, Effect, replies, after, receiptIn}
+use Rattle.a2m.specs.Call.{Call, append, advance, truncate, lookup, end, Reply, refused, done, Effect, replies, works, after, receiptIn}
 use Rattle.a2m.specs.ImageCalls.{rowIn, entriesIn}
 use Rattle.model.specs.Log.{Log}
 use Rattle.model.specs.Model.{Rules, Model, logAt, modelStep}
@@ -113,11 +113,13 @@ pub record RowSays (m : Image) (g : ℕ) (l : Log) : Type 0 where
 
 -- ---- the claim
 
--- of the model b at first, the calls ts, each by its rules, their answers rs, and the table m after them. For an accepted format b is `newModel` of its
+-- of the model b at first, the calls ts, each by its rules, their answers rs with the blocks ks, and the table m after them. For an accepted format b is `newModel` of its
 -- arguments, and every call goes by the present `rules`
-pub record ListClaim (b : Model) (ts : List Turn) (rs : List Reply) (m : Image) : Type 0 where
+pub record ListClaim (b : Model) (ts : List Turn) (rs : List Reply) (ks : List ℕ) (m : Image) : Type 0 where
   -- "every answer is the one that document 01's plain book gives for the calls so far": receipts and examined numbers included
   pub answers : rs ≡ replies modelTurn b ts
+  -- request [2], "An answer is all that a call returns": the blocks that each call reports are the plain book's
+  pub blocks : ks ≡ works modelTurn b ts
   -- "no two receipts from the list show one log and position assigned with different values or digests"
   pub agreeing : (i j g n : ℕ) (v d v′ d′ : List ℕ) → ShowsAt rs i g n v d → ShowsAt rs j g n v′ d′ → (v ≡ v′) × (d ≡ d′)
   -- "none shows as assigned a position that the list skips", be it before or after the receipt

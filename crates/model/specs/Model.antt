@@ -114,19 +114,19 @@ modelEnd b g nonce es =
 
 -- ---- the calls
 
--- "An accepted append, advance or truncate answers 0 with the log's L and H after it."
-unfoldable pub modelDone : Model → ℕ → Log → Effect Model
-modelDone b g l = effect (done (l .low) (l .high)) (withLog b g l)
+-- "An accepted append, advance or truncate answers 0 with the log's L and H after it." k blocks were hashed
+unfoldable pub modelDone : ℕ → Model → ℕ → Log → Effect Model
+modelDone k b g l = effect (done (l .low) (l .high)) k (withLog b g l)
 
--- "Lookup and end change nothing"
+-- "Lookup and end change nothing". Request [2]: "An accepted append or advance reports 2, a format or truncate 0, a lookup or end 6"
 unfoldable pub modelAccept : Rules → Model → Call → Effect Model
 modelAccept ru b (append g x) =
-    let l = logAt (b .logs) g in modelDone b g (entered l (newEntry (suc (l .high)) x (lastEntry (l .entries) .digest)))
-modelAccept ru b (advance g n d x) = modelDone b g (entered (logAt (b .logs) g) (newEntry n x d))
-modelAccept ru b (truncate g n) = modelDone b g (cutAt n (logAt (b .logs) g))
-modelAccept ru b (lookup g n c k) = let l = logAt (b .logs) g in effect (modelLookup ru b g n c l (standing l n)) b
-modelAccept ru b (end g c k) = effect (modelEnd b g c (logAt (b .logs) g .entries)) b
+    let l = logAt (b .logs) g in modelDone 2 b g (entered l (newEntry (suc (l .high)) x (lastEntry (l .entries) .digest)))
+modelAccept ru b (advance g n d x) = modelDone 2 b g (entered (logAt (b .logs) g) (newEntry n x d))
+modelAccept ru b (truncate g n) = modelDone 0 b g (cutAt n (logAt (b .logs) g))
+modelAccept ru b (lookup g n c k) = let l = logAt (b .logs) g in effect (modelLookup ru b g n c l (standing l n)) 6 b
+modelAccept ru b (end g c k) = effect (modelEnd b g c (logAt (b .logs) g .entries)) 6 b
 
 -- a refused call: "The book stays as it was."
 unfoldable pub modelStep : Rules → Model → Call → Effect Model
-modelStep ru b call = elim (modelRefusal ru b call) [ none ↦ modelAccept ru b call | some k ↦ effect (refused k) b ]
+modelStep ru b call = elim (modelRefusal ru b call) [ none ↦ modelAccept ru b call | some k ↦ effect (refused k) 0 b ]

@@ -13,4 +13,4 @@ passedOn b (lookup g n c k) = b
 passedOn b (end g c k) = b
 
 unfoldable pub programStep : List ℕ → Call → Effect (List ℕ)
-programStep b call = effect (tableStep b call .reply) (passedOn b call)
+programStep b call = effect (tableStep b call .reply) (tableStep b call .blocks) (passedOn b call)

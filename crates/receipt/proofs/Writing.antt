@@ -9,7 +9,8 @@ use borrow.Rule.Slice.PartMut.{putMid}
 use borrow.Author.Tests.{eq-eqb, ne-eqb}
 use Rattle.bigendian.specs.BigEndian.{be}
 use Rattle.bigendian.proofs.Laws.{length-be}
-use Rattle.hmac.specs.Hmac.{hmac, tagRefusal}
+use Rattle.hmac.specs.Hmac.{hmac, tagBlocks, tagRefusal}
+use Rattle.hmac.proofs.BlockLaws.{tag-six}
 use Rattle.hmac.proofs.TagCases.{accepted}
 use Rattle.hmac.proofs.Sizes.{length-hmac}
 use Rattle.octets.specs.Octets.{part, splice}
@@ -82,15 +83,18 @@ module _ (out : List ℕ) where
       splice-then out x t 128 hp n (omega arith) (hq ∙ ap (λ (y : List ℕ). splice p 128 (hmac key y)) head)
       ∙ splice-whole out (x ++ t) (length-append x t ∙ omega arith)
 
-  -- the tag writer was lent the part from 128 on
-  pub tag-lent : (key zs o : List ℕ) {x y : List ℕ} → length out ≡ 160 → length key ≡ 32 → length zs ≡ 128 → length o ≡ 32 → x ≡ splice zs 0 (part out 0 128)
-      → y ≡ afterwards (tagRefusal key x o) (hmac key x) o → putMid 128 32 out y ≡ splice out 128 (hmac key (part out 0 128))
-  tag-lent key zs o {x} {y} h k nz np hx hy =
+  -- the tag writer was lent the part from 128 on; the blocks that it hashed
+  pub tag-lent : (key zs o : List ℕ) {x y : List ℕ} {b : ℕ} → length out ≡ 160 → length key ≡ 32 → length zs ≡ 128 → length o ≡ 32 → x ≡ splice zs 0 (part out 0 128)
+      → b ≡ afterwards (tagRefusal key x o) (tagBlocks key x) 0 → y ≡ afterwards (tagRefusal key x o) (hmac key x) o
+      → (b ≡ 6) × (putMid 128 32 out y ≡ splice out 128 (hmac key (part out 0 128)))
+  tag-lent key zs o {x} {y} h k nz np hx hb hy =
       let n : length (part out 0 128) ≡ 128 = length-part out 0 128 (omega arith) in
       let ex : x ≡ part out 0 128 = hx ∙ splice-whole zs (part out 0 128) (n ∙ sym nz) in
       let nx : length x ≡ 128 = ap length ex ∙ n in
-      let done : tagRefusal key x o ≡ none = accepted key x o np (omega arith) (omega arith) in
-      put-back out y (hmac key (part out 0 128)) 128 32 (hy ∙ sym (done-is (hmac key x) o done .1) ∙ ap (hmac key) ex) (length-hmac key (part out 0 128))
+      let done : tagRefusal key x o ≡ none = accepted key x o np (omega arith) (omega arith) in (
+        hb ∙ sym (done-is (tagBlocks key x) 0 done .1) ∙ tag-six key x k nx,
+        put-back out y (hmac key (part out 0 128)) 128 32 (hy ∙ sym (done-is (hmac key x) o done .1) ∙ ap (hmac key) ex) (length-hmac key (part out 0 128)),
+      )
 
 -- what is written has its sizes
 pub written-length : (f : Facts) (nonce value digest : List ℕ) → length nonce ≡ 32 → length value ≡ 32 → length digest ≡ 32

@@ -1,3 +1,4 @@
 pub mod AnswerLaws
 pub mod NumberLaws
 pub mod OrderLaws
+pub mod WorkLaws

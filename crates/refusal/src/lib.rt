@@ -1,6 +1,7 @@
 // Why a call is refused: document 01's "Numbers returned", a variant for each of its words.
 ghost use mathlib.Core.Path.{_≡_};
 ghost use Rattle.refusal.specs.Number.{numberOf, outcomeNumber};
+ghost use Rattle.refusal.specs.Work.{workedNumber, workedBlocks};
 
 pub enum Refusal {
     Torn,
@@ -24,6 +25,13 @@ pub enum Refusal {
 pub enum Outcome {
     Done,
     Refused(Refusal),
+}
+
+// The answer of a call that counts the blocks it hashed and returns nothing else: document 02 [2], "a refusal returns its
+// number with them".
+pub enum Worked {
+    Done { blocks: u64 },
+    Refused { why: Refusal, blocks: u64 },
 }
 
 impl Refusal {
@@ -59,6 +67,28 @@ impl Outcome {
         match self {
             Outcome::Done => 0,
             Outcome::Refused(why) => why.number(),
+        }
+    }
+}
+
+impl Worked {
+    // Document 01's number: 0 for done.
+    pub fn number(self) -> u8
+        ensures { λ r. ⌜ r ≡ workedNumber self ⌝ }
+    {
+        match self {
+            Worked::Done { blocks: _ } => 0,
+            Worked::Refused { why, blocks: _ } => why.number(),
+        }
+    }
+
+    // The blocks hashed.
+    pub fn blocks(self) -> u64
+        ensures { λ r. ⌜ r ≡ workedBlocks self ⌝ }
+    {
+        match self {
+            Worked::Done { blocks } => blocks,
+            Worked::Refused { why: _, blocks } => blocks,
         }
     }
 }

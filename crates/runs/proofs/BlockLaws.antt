@@ -11,6 +11,7 @@ use Rattle.octets.specs.Octets.{part, same, splice}
 use Rattle.octets.proofs.Parts.{length-part, part-between, splice-append, length-splice}
 use Rattle.bigendian.specs.BigEndian.{be}
 use Rattle.bigendian.proofs.Laws.{length-be}
+use Rattle.sha256.specs.declared.Digest.{Digest}
 use Rattle.entry.specs.Digest.{block, entryDigest}
 use Rattle.entry.proofs.DigestLaws.{same-block, length-block}
 use Rattle.runs.specs.Scan.{Reaches, blockFrom, pointAfter}
@@ -22,12 +23,13 @@ lent values k = take (k * 32 + 32 - k * 32) (drop (k * 32) values)
 
 module _ (first : ℕ) (values : List ℕ) (p : Point) where
   -- the point after a value
-  pub walked-is : (d : List ℕ) → d ≡ entryDigest (first + p .passed) (lent values (p .passed)) (p .digest)
-      → _≡_ {A = Point} (record { passed = p .passed + 1; digest = d }) (pointAfter first values p)
+  pub walked-is : (d : Digest) → (d .bytes ≡ entryDigest (first + p .passed) (lent values (p .passed)) (p .digest)) × (d .blocks ≡ 2)
+      → _≡_ {A = Point} (record { passed = p .passed + 1; digest = d .bytes; blocks = p .blocks + d .blocks }) (pointAfter first values p)
   unfolding pointAfter
   walked-is d e =
-      ap (λ (x : List ℕ). record { passed = p .passed + 1; digest = x })
-      (e ∙ ap (λ (v : List ℕ). entryDigest (first + p .passed) v (p .digest)) (part-between values (p .passed * 32) 32))
+      ap₂ (λ (x : List ℕ) (n : ℕ). record { passed = p .passed + 1; digest = x; blocks = p .blocks + n })
+      (e .0 ∙ ap (λ (v : List ℕ). entryDigest (first + p .passed) v (p .digest)) (part-between values (p .passed * 32) 32))
+      (e .1)
 
   module _ (h : Reaches first values (p .passed + 1)) where
     value-size : length (part values (p .passed * 32) 32) ≡ 32

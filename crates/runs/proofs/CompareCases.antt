@@ -1,6 +1,6 @@
 -- The six ways out of `compare`.
 use mathlib.Core.Path.{_≡_, refl}
-use Prim.Native.Nat.{ℕ}
+use Prim.Native.Nat.{ℕ, _+_, _*_}
 use mathlib.Core.Bool.{true, false}
 use mathlib.Core.Option.{none, some}
 use mathlib.Core.List.{List}
@@ -8,17 +8,17 @@ use lib.ListN.{length}
 use borrow.Author.Tests.{eq-eqb, ne-eqb}
 use Rattle.refusal.specs.Order.{firstFault, afterwards}
 use Rattle.sha256.specs.Sha256.{sha256}
-use Rattle.runs.specs.Run.{Run}
+use Rattle.runs.specs.Run.{Run, count}
 use Rattle.runs.specs.Compare.{comparison, handedOver}
-use Rattle.runs.specs.Call.{noRun, compareRefusal, done, refused, answered, compareAnswer, compareBytes}
+use Rattle.runs.specs.Call.{noRun, compareRefusal, done, refused, answered, compareAnswer, compareBlocks, compareBytes}
 
 module _ (a b : Run) (out : List ℕ) where
   abbrev Refuses : ℕ → Type 0
-  Refuses n = (refused n ≡ compareAnswer a b out) × (out ≡ compareBytes a b out)
+  Refuses n = (refused n ≡ compareAnswer a b out) × ((0 ≡ compareBlocks a b out) × (out ≡ compareBytes a b out))
 
   refuses : (n : ℕ) → compareRefusal a b out ≡ some n → Refuses n
-  unfolding compareAnswer compareBytes answered afterwards
-  refuses n h = simp h (refl, refl)
+  unfolding compareAnswer compareBlocks compareBytes answered afterwards
+  refuses n h = simp h (refl, (refl, refl))
 
   pub other-start1 : (length (a .start) ≡ 32 → ⊥) → Refuses 7
   unfolding compareRefusal firstFault
@@ -49,6 +49,6 @@ module _ (a b : Run) (out : List ℕ) where
           accepts h = simp (eq-eqb (length (a .start)) 32 s, eq-eqb (length (b .start)) 32 t, eq-eqb (length out) 144 o, g, h)
 
           pub compares : noRun (b .first) (b .values) ≡ false
-              → (done (comparison sha256 a b) ≡ compareAnswer a b out) × (handedOver sha256 a b out ≡ compareBytes a b out)
-          unfolding compareAnswer compareBytes answered afterwards
-          compares h = simp (accepts h) (refl, refl)
+              → (done (comparison sha256 a b) ≡ compareAnswer a b out) × ((2 * (count a + count b) ≡ compareBlocks a b out) × (handedOver sha256 a b out ≡ compareBytes a b out))
+          unfolding compareAnswer compareBlocks compareBytes answered afterwards
+          compares h = simp (accepts h) (refl, (refl, refl))

@@ -1,8 +1,9 @@
 -- The points of a run, and one step of the pass over both runs.
 use mathlib.Core.Path.{_≡_, refl, sym, ap, ap₂, _∙_}
-use Prim.Native.Nat.{ℕ, suc, _+_}
+use Prim.Native.Nat.{ℕ, suc, _+_, _*_}
 use native.Mathlib.Nat.{add-zero, add-suc}
 use native.Mathlib.Numerals.{add-one}
+use native.Mathlib.Omega.{arith}
 use mathlib.Core.Bool.{Bool, true, false, cond}
 use mathlib.Core.Option.{Option, some}
 use mathlib.Core.List.{List}
@@ -20,14 +21,16 @@ use Rattle.runs.specs.declared.Scan.{Scan}
 
 module _ (r : Run) where
   -- the start
-  pub point-start : (d : List ℕ) → d ≡ r .start → _≡_ {A = Point} (record { passed = 0; digest = d }) (pointAt r 0)
+  pub point-start : (d : List ℕ) → d ≡ r .start → _≡_ {A = Point} (record { passed = 0; digest = d; blocks = 0 }) (pointAt r 0)
   unfolding pointAt digestAt
-  point-start d e = ap (λ (x : List ℕ). record { passed = 0; digest = x }) e
+  point-start d e = ap (λ (x : List ℕ). record { passed = 0; digest = x; blocks = 0 }) e
 
   -- one value further
   pub point-step : (k : ℕ) → pointAfter (r .first) (r .values) (pointAt r k) ≡ pointAt r (suc k)
   unfolding pointAfter pointAt digestAt entryDigest
-  point-step k = ap (λ (n : ℕ). record { passed = n; digest = digestAt sha256 r (suc k) }) (add-one k)
+  point-step k =
+      let two : 2 * k + 2 ≡ 2 * suc k = omega arith in
+      ap₂ (λ (n b : ℕ). record { passed = n; digest = digestAt sha256 r (suc k); blocks = b }) (add-one k) two
 
   pub block-is : (k : ℕ) → blockFrom (r .first) (r .values) (pointAt r k) ≡ blockAt sha256 r k
   unfolding blockFrom pointAt blockAt
@@ -36,6 +39,11 @@ module _ (r : Run) where
   pub passed-is : (k : ℕ) → pointAt r k .passed ≡ k
   unfolding pointAt
   passed-is k = refl
+
+  -- 2 blocks for each value passed
+  pub point-blocks : (k : ℕ) {p : Point} → p ≡ pointAt r k → p .blocks ≡ 2 * p .passed
+  unfolding pointAt
+  point-blocks k e = ap (λ (x : Point). x .blocks) e ∙ ap (λ (x : Point). 2 * x .passed) (sym e)
 
   pub digest-is : (k : ℕ) → pointAt r k .digest ≡ digestAt sha256 r k
   unfolding pointAt
@@ -104,3 +112,8 @@ module _ (a b : Run) (i j : ℕ) where
   pub scan-passed : (k : ℕ) → (scanned a b i j k .one .passed ≡ i + k) × (scanned a b i j k .two .passed ≡ j + k)
   unfolding scanned pointAt
   scan-passed k = (refl, refl)
+
+  -- 2 blocks for each value
+  pub scan-blocks : (k : ℕ) {s : Scan} → s ≡ scanned a b i j k → (s .one .blocks ≡ 2 * s .one .passed) × (s .two .blocks ≡ 2 * s .two .passed)
+  unfolding scanned
+  scan-blocks k e = (point-blocks a (i + k) (ap (λ (s : Scan). s .one) e), point-blocks b (j + k) (ap (λ (s : Scan). s .two) e))

@@ -25,11 +25,15 @@ unfoldable pub blockFrom : ℕ → List ℕ → Point → List ℕ
 blockFrom first values p = block (first + p .passed) (part values (p .passed * 32) 32) (p .digest)
 
 unfoldable pub pointAfter : ℕ → List ℕ → Point → Point
-pointAfter first values p = record { passed = p .passed + 1; digest = entryDigest (first + p .passed) (part values (p .passed * 32) 32) (p .digest) }
+pointAfter first values p = record {
+  passed = p .passed + 1;
+  digest = entryDigest (first + p .passed) (part values (p .passed * 32) 32) (p .digest);
+  blocks = p .blocks + 2;
+}
 
 -- the point after a run's first k values
 unfoldable pub pointAt : Run → ℕ → Point
-pointAt r k = record { passed = k; digest = digestAt sha256 r k }
+pointAt r k = record { passed = k; digest = digestAt sha256 r k; blocks = 2 * k }
 
 -- what is kept after one more pair of blocks, alike or not, which stand at one and two
 unfoldable pub keptAfter : Kept → Bool → Point → Point → Kept
@@ -60,9 +64,16 @@ scanned a b i j k = record {
 unfoldable pub passed : Run → Run → Scan
 passed a b = scanned a b (count a - reach a b) (count b - reach a b) (reach a b)
 
+-- the blocks hashed in a pass
+abbrev pub hashed : Scan → ℕ
+hashed s = s .one .blocks + s .two .blocks
+
 -- the verdict of a pass, and what it leaves in the lent buffer
 unfoldable pub concluded : Scan → Comparison
-concluded s = cond (same (s .one .digest) (s .two .digest)) (cond (s .kept .found) Collision Agree) Differ
+concluded s =
+    cond (same (s .one .digest) (s .two .digest))
+    (cond (s .kept .found) (Collision (hashed s)) (Agree (hashed s)))
+    (Differ (hashed s))
 
 unfoldable pub leftIn : ℕ → List ℕ → ℕ → List ℕ → Scan → List ℕ → List ℕ
 leftIn first1 values1 first2 values2 s out =

@@ -5,24 +5,26 @@ use octets::equal;
 use octets::put;
 use refusal::Refusal;
 ghost use mathlib.Core.Path.{_≡_};
-ghost use Prim.Native.Nat.{_+_, _/_, _≤_, min};
+ghost use Prim.Native.Nat.{_+_, _*_, _/_, _^_, _≤_, _<_, min};
 ghost use lib.ListN.{length};
 ghost use Rattle.octets.specs.Octets.{same, splice};
 ghost use Rattle.runs.specs.Run.{run};
-ghost use Rattle.runs.specs.Call.{noRun, comparisonAnswer, compareAnswer, compareBytes};
+ghost use Rattle.runs.specs.Call.{noRun, comparisonAnswer, comparisonBlocks, compareAnswer, compareBlocks, compareBytes};
 ghost use Rattle.runs.specs.Scan.{Reaches, blockFrom, pointAfter, pointAt, keptAfter, scanAfter, scanned, passed, concluded, leftIn};
 
+// The verdict, or why there is none, each with the blocks hashed (document 02 [2]).
 pub enum Comparison {
-    Differ,
-    Agree,
-    Collision,
-    Refused(Refusal),
+    Differ { blocks: u64 },
+    Agree { blocks: u64 },
+    Collision { blocks: u64 },
+    Refused { why: Refusal, blocks: u64 },
 }
 
-// How far a run was walked: the number of values passed, and the digest after them.
+// How far a run was walked: the number of values passed, the digest after them, and the blocks hashed on the way.
 struct Point {
     passed: usize,
     digest: [u8; 32],
+    blocks: u64,
 }
 
 // Where the last unequal pair of blocks stands, if one was found.
@@ -59,17 +61,21 @@ fn no_run(first: u64, values: &[u8]) -> bool
 
 // The point after the value at p.
 fn walked(first: u64, values: &[u8], p: Point) -> Point
-    requires { ⌜ Reaches first (now values) (p .passed + 1) ⌝ }
+    requires { ⌜ Reaches first (now values) (p .passed + 1) × (p .blocks ≡ 2 * p .passed) ⌝ }
     ensures { λ r. ⌜ r ≡ pointAfter first (now (values .entry)) p ⌝ }
 {
     let k = p.passed;
     let before = p.digest;
     let at = k * 32;
     let end = at + 32;
-    let digest = entry_digest(first + k as u64, &values[at..end], &before);
+    let d = entry_digest(first + k as u64, &values[at..end], &before);
+    let digest = d.bytes;
+    let blocks = p.blocks + d.blocks;
+    let passed = k + 1;
     Point {
-        passed: k + 1,
+        passed,
         digest,
+        blocks,
     }
 }
 
@@ -80,7 +86,11 @@ fn point_at(start: &[u8], first: u64, values: &[u8], n: usize) -> Point
 {
     let mut digest = [0u8; 32];
     put(&mut digest, 0, start);
-    let mut p = Point { passed: 0, digest };
+    let mut p = Point {
+        passed: 0,
+        digest,
+        blocks: 0,
+    };
     let mut k = 0;
     while k < n {
         let next = walked(first, values, p);
@@ -129,8 +139,8 @@ fn keep(kept: Kept, alike: bool, one: Point, two: Point) -> Kept
 
 // Both runs one value further.
 fn step(s: Scan, first1: u64, values1: &[u8], first2: u64, values2: &[u8]) -> Scan
-    requires { ⌜ Reaches first1 (now values1) (s .one .passed + 1) ⌝ }
-    requires { ⌜ Reaches first2 (now values2) (s .two .passed + 1) ⌝ }
+    requires { ⌜ Reaches first1 (now values1) (s .one .passed + 1) × (s .one .blocks ≡ 2 * s .one .passed) ⌝ }
+    requires { ⌜ Reaches first2 (now values2) (s .two .passed + 1) × (s .two .blocks ≡ 2 * s .two .passed) ⌝ }
     ensures { λ r. ⌜ r ≡ scanAfter first1 (now (values1 .entry)) first2 (now (values2 .entry)) s ⌝ }
 {
     let p = s.one;
@@ -235,7 +245,7 @@ fn conclude(
     values2: &[u8],
     out: &mut [u8],
 ) -> Comparison
-    requires { ⌜ length (now out) ≡ 144 ⌝ }
+    requires { ⌜ (length (now out) ≡ 144) × (s .one .blocks + s .two .blocks < 2 ^ 64) ⌝ }
     requires { ⌜ Reaches first1 (now values1) (s .kept .one .passed + 1) ⌝ }
     requires { ⌜ Reaches first2 (now values2) (s .kept .two .passed + 1) ⌝ }
     ensures { λ r. ⌜ (r ≡ concluded s) × (now (out .exit) ≡ leftIn first1 (now (values1 .entry)) first2 (now (values2 .entry)) s (now (out .entry))) ⌝ }
@@ -244,19 +254,22 @@ fn conclude(
     let two = s.two;
     let digest1 = one.digest;
     let digest2 = two.digest;
+    let blocks1 = one.blocks;
+    let blocks2 = two.blocks;
+    let blocks = blocks1 + blocks2;
     if !equal(&digest1, &digest2) {
-        return Comparison::Differ;
+        return Comparison::Differ { blocks };
     }
     let kept = s.kept;
     let found = kept.found;
     if !found {
-        return Comparison::Agree;
+        return Comparison::Agree { blocks };
     }
     let p = kept.one;
     let q = kept.two;
     put_block(out, 0, first1, values1, p);
     put_block(out, 72, first2, values2, q);
-    Comparison::Collision
+    Comparison::Collision { blocks }
 }
 
 // The comparison of two runs, each a start digest, a first position and values. A collision's two blocks fill out, the first
@@ -271,22 +284,38 @@ pub fn compare(
     out: &mut [u8],
 ) -> Comparison
     ensures answer { λ r. ⌜ comparisonAnswer r ≡ compareAnswer (run (now (start1 .entry)) first1 (now (values1 .entry))) (run (now (start2 .entry)) first2 (now (values2 .entry))) (now (out .entry)) ⌝ }
+    ensures blocks { λ r. ⌜ comparisonBlocks r ≡ compareBlocks (run (now (start1 .entry)) first1 (now (values1 .entry))) (run (now (start2 .entry)) first2 (now (values2 .entry))) (now (out .entry)) ⌝ }
     ensures bytes { λ _. ⌜ now (out .exit) ≡ compareBytes (run (now (start1 .entry)) first1 (now (values1 .entry))) (run (now (start2 .entry)) first2 (now (values2 .entry))) (now (out .entry)) ⌝ }
 {
     if start1.len() != 32 {
-        return Comparison::Refused(Refusal::Length);
+        return Comparison::Refused {
+            why: Refusal::Length,
+            blocks: 0,
+        };
     }
     if start2.len() != 32 {
-        return Comparison::Refused(Refusal::Length);
+        return Comparison::Refused {
+            why: Refusal::Length,
+            blocks: 0,
+        };
     }
     if out.len() != 144 {
-        return Comparison::Refused(Refusal::Length);
+        return Comparison::Refused {
+            why: Refusal::Length,
+            blocks: 0,
+        };
     }
     if no_run(first1, values1) {
-        return Comparison::Refused(Refusal::NoRun);
+        return Comparison::Refused {
+            why: Refusal::NoRun,
+            blocks: 0,
+        };
     }
     if no_run(first2, values2) {
-        return Comparison::Refused(Refusal::NoRun);
+        return Comparison::Refused {
+            why: Refusal::NoRun,
+            blocks: 0,
+        };
     }
     let s = pass(start1, first1, values1, start2, first2, values2);
     conclude(s, first1, values1, first2, values2, out)

@@ -58,7 +58,7 @@ refused-named b call k s h n m =
 
 -- an accepted call that answers with the row of its log
 unfoldable pub Changes : Call → Type 0
-Changes call = (m : Image) → imageAccept m call .reply ≡ imageDone (imageAccept m call .state) (logOf call) .reply
+Changes call = (m : Image) → imageAccept m call .reply ≡ imageDone 0 (imageAccept m call .state) (logOf call) .reply
 
 done-not-refused : (k low high : ℕ) → refused k ≡ done low high → ⊥
 done-not-refused k low high h = let z : _≡_ {A = ℕ} 0 1 = cc in omega arith

@@ -2,9 +2,9 @@
 // The schedule is kept as a window of 16 words. Each of the first 48 rounds takes the window's first word and moves the
 // window on by one (a turn); the last 16 rounds take the words that are left.
 ghost use mathlib.Core.Path.{_≡_};
-ghost use Prim.Native.Nat.{_+_, _*_, _≤_, _<_};
+ghost use Prim.Native.Nat.{_+_, _*_, _^_, _≤_, _<_};
 ghost use lib.ListN.{length};
-ghost use Rattle.sha256.specs.Sha256.{K as Ks, words, round as roundOf, added, compress as compressOf, blocks};
+ghost use Rattle.sha256.specs.Sha256.{K as Ks, words, round as roundOf, added, compress as compressOf, blocks as blocksAfter};
 ghost use Rattle.sha256_blocks.specs.Window.{turned, turns, lastRounds};
 use bigendian::get_u32;
 use sha256_words::big0;
@@ -260,19 +260,27 @@ fn compress(h: [u32; 8], block: &[u8], k: &[u32; 64]) -> [u32; 8]
     sum(h, rounds16(v, &w, k))
 }
 
-// The hash value after the first n blocks of s.
-pub fn compress_blocks(h0: [u32; 8], s: &[u8], n: usize, k: &[u32; 64]) -> [u32; 8]
-    requires { ⌜ (now k ≡ Ks) × (n * 64 ≤ length (now s)) ⌝ }
-    ensures { λ r. ⌜ r ≡ blocks n h0 (now (s .entry)) ⌝ }
+// A hash value, and how many blocks were compressed to make it.
+pub struct Compressed {
+    pub value: [u32; 8],
+    pub blocks: u64,
+}
+
+// The hash value after the first n blocks of s, each counted as it is compressed.
+pub fn compress_blocks(before: Compressed, s: &[u8], n: usize, k: &[u32; 64]) -> Compressed
+    requires { ⌜ (now k ≡ Ks) × ((n * 64 ≤ length (now s)) × (before .blocks + n < 2 ^ 64)) ⌝ }
+    ensures { λ r. ⌜ (r .value ≡ blocksAfter n (before .value) (now (s .entry))) × (r .blocks ≡ before .blocks + n) ⌝ }
 {
-    let mut h = h0;
+    let mut h = before.value;
+    let mut blocks = before.blocks;
     let mut i = 0;
     while i < n {
         let from = i * 64;
         let to = from + 64;
         let next = compress(h, &s[from..to], k);
         h = next;
+        blocks += 1;
         i += 1;
     }
-    h
+    Compressed { value: h, blocks }
 }

@@ -1,27 +1,31 @@
 // Digests by SHA-256 (FIPS 180-4): of a message at once, and of parts fed in turn.
 
 ghost use mathlib.Core.Path.{_≡_};
-ghost use Prim.Native.Nat.{_+_, _^_, _<_, _%_};
+ghost use Prim.Native.Nat.{_+_, _^_, _≤_, _<_, _%_};
 ghost use mathlib.Core.List.{_++_};
 ghost use lib.ListN.{length};
-ghost use Rattle.refusal.specs.Number.{outcomeNumber};
 ghost use Rattle.refusal.specs.Order.{answerOf, afterwards};
-ghost use Rattle.sha256.specs.Sha256.{K as Ks, bytes, sha256};
-ghost use Rattle.sha256_digest.specs.Running.{stateOf, start, after, absorbed, finished};
+ghost use Rattle.refusal.specs.Work.{workedNumber, workedBlocks};
+ghost use Rattle.sha256.specs.Sha256.{K as Ks, H0, bytes as bytesOf, sha256, blockCount};
+ghost use Rattle.sha256_digest.specs.Running.{stateOf, start, after, absorbed, finished, finishedBlocks};
 ghost use Rattle.sha256.specs.Hash.{hashRefusal};
 use bigendian::put_u32;
 use bigendian::put_u64;
 use octets::put;
-use refusal::Outcome;
 use refusal::Refusal;
+use refusal::Worked;
+use sha256::Digest;
+use sha256_blocks::Compressed;
 use sha256_blocks::compress_blocks;
 use sha256_blocks::constants;
 
-// A running digest: the hash value after the whole blocks, the block being filled, and the number of bytes absorbed.
+// A running digest: the hash value after the whole blocks, the block being filled, the number of bytes absorbed, and the
+// number of blocks compressed.
 pub struct Running {
     pub chain: [u32; 8],
     pub block: [u8; 64],
     pub count: u64,
+    pub blocks: u64,
 }
 
 fn wide(n: usize) -> u64
@@ -30,29 +34,42 @@ fn wide(n: usize) -> u64
     n as u64
 }
 
+// The initial hash value, no block compressed.
+fn initial() -> Compressed
+    ensures { λ r. ⌜ (r .value ≡ H0) × (r .blocks ≡ 0) ⌝ }
+{
+    Compressed {
+        value: [
+            0x6a09_e667,
+            0xbb67_ae85,
+            0x3c6e_f372,
+            0xa54f_f53a,
+            0x510e_527f,
+            0x9b05_688c,
+            0x1f83_d9ab,
+            0x5be0_cd19,
+        ],
+        blocks: 0,
+    }
+}
+
 impl Running {
     pub fn new() -> Self
         ensures { λ r. ⌜ stateOf r ≡ start ⌝ }
     {
+        let h = initial();
+        let chain = h.value;
         Running {
-            chain: [
-                0x6a09_e667,
-                0xbb67_ae85,
-                0x3c6e_f372,
-                0xa54f_f53a,
-                0x510e_527f,
-                0x9b05_688c,
-                0x1f83_d9ab,
-                0x5be0_cd19,
-            ],
+            chain,
             block: [0u8; 64],
             count: 0,
+            blocks: h.blocks,
         }
     }
 
     // The state after a part more. Whole blocks are compressed straight from the caller's slice.
     pub fn absorb(self, part: &[u8]) -> Self
-        requires { ⌜ self .count + length (now part) < 2 ^ 64 ⌝ }
+        requires { ⌜ (self .count + length (now part) < 2 ^ 64) × (self .blocks ≤ self .count) ⌝ }
         ensures { λ r. ⌜ stateOf r ≡ absorbed (stateOf self) (now (part .entry)) ⌝ }
     {
         let fill = (self.count % 64) as usize;
@@ -67,41 +84,52 @@ impl Running {
                 chain,
                 block,
                 count,
+                blocks: self.blocks,
             };
         }
         let k = constants();
         put(&mut block, fill, &part[..room]);
-        let first = compress_blocks(chain, &block, 1, &k);
+        let before = Compressed {
+            value: chain,
+            blocks: self.blocks,
+        };
+        let first = compress_blocks(before, &block, 1, &k);
         let whole = (n - room) / 64;
         let last = compress_blocks(first, &part[room..], whole, &k);
         let at = room + whole * 64;
         put(&mut block, 0, &part[at..]);
+        let next = last.value;
         Running {
-            chain: last,
+            chain: next,
             block,
             count,
+            blocks: last.blocks,
         }
     }
 
     // The digest of all that was absorbed.
-    pub fn finish(self) -> [u8; 32]
-        requires { ⌜ self .count < 2 ^ 61 ⌝ }
-        ensures { λ r. ⌜ r ≡ finished (stateOf self) ⌝ }
+    pub fn finish(self) -> Digest
+        requires { ⌜ (self .count < 2 ^ 61) × (self .blocks ≤ self .count) ⌝ }
+        ensures { λ r. ⌜ (r .bytes ≡ finished (stateOf self)) × (r .blocks ≡ finishedBlocks (stateOf self)) ⌝ }
     {
         let chain = self.chain;
         let block = self.block;
         let fill = (self.count % 64) as usize;
         let k = constants();
-        digest_from(chain, self.count - wide(fill), &block[..fill], &k)
+        let before = Compressed {
+            value: chain,
+            blocks: self.blocks,
+        };
+        digest_from(before, self.count - wide(fill), &block[..fill], &k)
     }
 }
 
 // The digest of a message of which whole blocks, before bytes of them, made the hash value h, and part is the rest. Its last
 // bytes and the padding make one block more, or two.
-fn digest_from(h: [u32; 8], before: u64, part: &[u8], k: &[u32; 64]) -> [u8; 32]
-    requires { ⌜ (before % 64 ≡ 0) × (before + length (now part) < 2 ^ 61) ⌝ }
+fn digest_from(h: Compressed, before: u64, part: &[u8], k: &[u32; 64]) -> Digest
+    requires { ⌜ (before % 64 ≡ 0) × ((before + length (now part) < 2 ^ 61) × (h .blocks < 2 ^ 61)) ⌝ }
     requires { ⌜ now k ≡ Ks ⌝ }
-    ensures { λ r. ⌜ r ≡ finished (absorbed (after h before) (now (part .entry))) ⌝ }
+    ensures { λ r. ⌜ (r .bytes ≡ finished (absorbed (after h before) (now (part .entry)))) × (r .blocks ≡ finishedBlocks (absorbed (after h before) (now (part .entry)))) ⌝ }
 {
     let n = part.len();
     let whole = n / 64;
@@ -113,12 +141,17 @@ fn digest_from(h: [u32; 8], before: u64, part: &[u8], k: &[u32; 64]) -> [u8; 32]
     let count = (fill + 72) / 64;
     put_u64(&mut tail, count * 64 - 8, (before + wide(n)) * 8);
     let last = compress_blocks(value, &tail, count, k);
-    digest(last)
+    let hash_value = last.value;
+    let bytes = digest(hash_value);
+    Digest {
+        bytes,
+        blocks: last.blocks,
+    }
 }
 
 // The bytes of a hash value.
 fn digest(h: [u32; 8]) -> [u8; 32]
-    ensures { λ r. ⌜ r ≡ bytes h ⌝ }
+    ensures { λ r. ⌜ r ≡ bytesOf h ⌝ }
 {
     let mut out = [0u8; 32];
     let mut i = 0;
@@ -130,41 +163,45 @@ fn digest(h: [u32; 8]) -> [u8; 32]
 }
 
 // The digest of a message.
-pub fn digest_of(message: &[u8]) -> [u8; 32]
+pub fn digest_of(message: &[u8]) -> Digest
     requires { ⌜ length (now message) < 2 ^ 61 ⌝ }
-    ensures { λ r. ⌜ r ≡ sha256 (now (message .entry)) ⌝ }
+    ensures { λ r. ⌜ (r .bytes ≡ sha256 (now (message .entry))) × (r .blocks ≡ blockCount (now (message .entry))) ⌝ }
 {
-    let s = Running::new();
-    let chain = s.chain;
     let k = constants();
-    digest_from(chain, 0, message, &k)
+    digest_from(initial(), 0, message, &k)
 }
 
 // The digest of a block and a text after it, of which nothing is copied but the last bytes.
-pub fn prefixed_digest(block: &[u8], text: &[u8]) -> [u8; 32]
+pub fn prefixed_digest(block: &[u8], text: &[u8]) -> Digest
     requires { ⌜ (length (now block) ≡ 64) × (64 + length (now text) < 2 ^ 61) ⌝ }
-    ensures { λ r. ⌜ r ≡ sha256 (now (block .entry) ++ now (text .entry)) ⌝ }
+    ensures { λ r. ⌜ (r .bytes ≡ sha256 (now (block .entry) ++ now (text .entry))) × (r .blocks ≡ blockCount (now (block .entry) ++ now (text .entry))) ⌝ }
 {
-    let s = Running::new();
-    let chain = s.chain;
     let k = constants();
-    let first = compress_blocks(chain, block, 1, &k);
+    let first = compress_blocks(initial(), block, 1, &k);
     digest_from(first, 64, text, &k)
 }
 
 // Writes the digest of a message into a buffer of 32 bytes. Refused with 7, the buffer as it was: a buffer of another
 // length, or a message longer than FIPS 180-4 allows.
-pub fn hash(message: &[u8], out: &mut [u8]) -> Outcome
-    ensures answer { λ r. ⌜ outcomeNumber r ≡ answerOf (hashRefusal (now (message .entry)) (now (out .entry))) ⌝ }
+pub fn hash(message: &[u8], out: &mut [u8]) -> Worked
+    ensures answer { λ r. ⌜ workedNumber r ≡ answerOf (hashRefusal (now (message .entry)) (now (out .entry))) ⌝ }
+    ensures blocks { λ r. ⌜ workedBlocks r ≡ afterwards (hashRefusal (now (message .entry)) (now (out .entry))) (blockCount (now (message .entry))) 0 ⌝ }
     ensures bytes { λ _. ⌜ now (out .exit) ≡ afterwards (hashRefusal (now (message .entry)) (now (out .entry))) (sha256 (now (message .entry))) (now (out .entry)) ⌝ }
 {
     if out.len() != 32 {
-        return Outcome::Refused(Refusal::Length);
+        return Worked::Refused {
+            why: Refusal::Length,
+            blocks: 0,
+        };
     }
     if 2305843009213693952 <= message.len() {
-        return Outcome::Refused(Refusal::Length);
+        return Worked::Refused {
+            why: Refusal::Length,
+            blocks: 0,
+        };
     }
     let d = digest_of(message);
-    put(out, 0, &d);
-    Outcome::Done
+    let bytes = d.bytes;
+    put(out, 0, &bytes);
+    Worked::Done { blocks: d.blocks }
 }

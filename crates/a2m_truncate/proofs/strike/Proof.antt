@@ -117,7 +117,7 @@ returns c =
     let d = t .before .before .before in
     let i = d .before .before in
     let h = i .before .before in
-    (struck-answer (p .args .view) (p .args .n) (l .s) (t .truncate .result) (t .truncate .ensures), struck (p .args .table .now) (p .args .view) (p .args .n) (l .table) (l .last) (l .count) (l .s) (p .pre .0) (l .inv .1 (p .args .table .now) (begins (p .args .table .now) (p .args .view) (p .args .n) (j .join .last .0) (p .pre .0) (λ i. omega (arith, k .slice-known .given i)) (p .pre .1 .0) (p .pre .1 .1) (j .join .ensures))) (λ i. omega (arith, k .slice-known .given i)) (omega (arith, p .fits .n)) (h .link-at .result) (h .link-at .ensures) (i .if1 .taken) (d .join2 .last .0) (r .put-row .last .0) (c .before .before .put-count .last .0) (t .truncate .result) (d .join2 .ensures) (t .truncate .ensures) (r .put-row .ensures) (c .before .before .put-count .ensures))
+    (struck-answer (p .args .view) (p .args .n) (l .s) (t .truncate .result) (t .truncate .ensures), (refl, struck (p .args .table .now) (p .args .view) (p .args .n) (l .table) (l .last) (l .count) (l .s) (p .pre .0) (l .inv .1 (p .args .table .now) (begins (p .args .table .now) (p .args .view) (p .args .n) (j .join .last .0) (p .pre .0) (λ i. omega (arith, k .slice-known .given i)) (p .pre .1 .0) (p .pre .1 .1) (j .join .ensures))) (λ i. omega (arith, k .slice-known .given i)) (omega (arith, p .fits .n)) (h .link-at .result) (h .link-at .ensures) (i .if1 .taken) (d .join2 .last .0) (r .put-row .last .0) (c .before .before .put-count .last .0) (t .truncate .result) (d .join2 .ensures) (t .truncate .ensures) (r .put-row .ensures) (c .before .before .put-count .ensures)))
 
 pub strike-spec : {M : Type 1} → statement M
 strike-spec =

@@ -1,6 +1,6 @@
 -- `a2m_truncate::truncate` meets its contract. Assumes nothing.
 use Prim.Native.Nat.{ℕ}
-use Rattle.a2m.specs.Opened.{changeReply}
+use Rattle.a2m.specs.Opened.{changeReply, changeBlocks}
 use Rattle.a2m.specs.Call.{truncate}
 use Rattle.a2m.proofs.CallLaws.{truncate-sized, unopened, at-log}
 use Rattle.a2m.proofs.OpenedLaws.{opened}
@@ -25,7 +25,7 @@ same-length : tie.Need-same-length
 same-length c = search needs
 
 returns : tie.Need-returns
-returns c = let a = c .before .before .before .before .before .before .before .before .before .before .args in at-log (a .table .now) (λ (g : ℕ). truncate g (a .position)) (changeReply (c .before .before .truncate-open .result)) (c .before .before .truncate-open .last .0) (opened (a .table .now) (a .log) (c .before .before .before .before .before .view .given .0 .0) (sym (c .before .before .before .before .before .view .given .1) ∙ c .before .before .before .before .before .before .before .«open» .ensures) .1) (c .before .before .truncate-open .ensures)
+returns c = let a = c .before .before .before .before .before .before .before .before .before .before .args in let s = c .before .before .truncate-open in at-log (a .table .now) (λ (g : ℕ). truncate g (a .position)) (changeReply (s .result)) (changeBlocks (s .result)) (s .last .0) (opened (a .table .now) (a .log) (c .before .before .before .before .before .view .given .0 .0) (sym (c .before .before .before .before .before .view .given .1) ∙ c .before .before .before .before .before .before .before .«open» .ensures) .1) (s .ensures)
 
 same-length-2 : tie.Need-same-length-2
 same-length-2 c = search needs

@@ -4,7 +4,7 @@
 mod Fed
 mod Lent
 use mathlib.Core.Path.{_≡_, refl, sym, _∙_, ap, subst}
-use Prim.Native.Nat.{ℕ, _<_, _^_, _+_}
+use Prim.Native.Nat.{ℕ, _≤_, _<_, _^_, _+_}
 use native.Mathlib.Omega.{arith}
 use mathlib.Core.List.{[], _∷_, List, _++_}
 use lib.Dec.{T as IsTrue}
@@ -44,11 +44,15 @@ use denote.Triple.Table.{entered, cited}
 use denote.Triple.Walked.{says, needs, Stays, stay-none, stay-none-slice, walkOf, goes-none, goes-none-slice, Walks, ends-at, walked, walk-meets}
 use denote.Exit.{yes}
 use denote.Signature.{plain}
+use mathlib.Core.Bool.{true}
 use Rattle.bigendian.specs.BigEndian.{be}
 use Rattle.bigendian.proofs.Laws.{length-be}
-use Rattle.sha256_digest.specs.Running.{stateOf, start, finished}
+use Rattle.sha256.specs.declared.Digest.{Digest}
+use Rattle.sha256.proofs.Digest as D
+use Rattle.sha256.proofs.Digest.Laws as D′
+use Rattle.sha256_digest.specs.Running.{stateOf, start, finished, finishedBlocks}
 use Rattle.sha256_digest.specs.declared.Running.{Running}
-use Rattle.sha256_digest.proofs.Absorb.{Holds, holds-new, holds-more, holds-count, holds-digest}
+use Rattle.sha256_digest.proofs.Absorb.{Takes, Holds, holds-new, holds-more, holds-count, holds-within, digest-is}
 use Rattle.sha256_digest.proofs.Running as T
 use Rattle.sha256_digest.proofs.Running.Laws as T′
 use Rattle.sha256_digest.proofs.Running.new as new
@@ -74,9 +78,18 @@ use Rattle.entry.proofs.entry_digest.Key.{name as #entry·entry-digest}
 use Rattle.entry.proofs.entry_digest as entry-digest
 use Rattle.entry.proofs.entry_digest.Statement as stated
 use Rattle.entry.proofs.entry_digest.Code as code
+use Rattle.refusal.specs.Unwritten.{unwritten, counts}
+use Rattle.entry.proofs.entry_digest.Code.Mir.{function}
 
 abbrev stayed : Stays (entry-digest.ended .signature .params) (entry-digest.ended .kept)
 stayed = (stay-none (λ _. u64) yes, (stay-none-slice (0 ∷ []) tt (plain (λ _. u8)) yes, (stay-none-slice (1 ∷ []) tt (plain (λ _. u8)) yes, tt)))
+
+-- what `finish` says of the digest, and what `entry_digest` says
+abbrev Finished : Running → Digest → Type 0
+Finished h r = (r .bytes ≡ finished (stateOf h)) × (r .blocks ≡ finishedBlocks (stateOf h))
+
+abbrev Says : ℕ → List ℕ → List ℕ → Digest → Type 0
+Says n x y r = (r .bytes ≡ entryDigest n x y) × (r .blocks ≡ 2)
 
 module _ {M : Type 1} (𝓤 : URA M) (H : Heap 𝓤) (A : Atoms 𝓤) (at-mem : Memory → SProp 𝓤) (run : Routine → Fun 𝓤) where
   -- the contracts that the proof cites, and what each ensures
@@ -95,8 +108,8 @@ module _ {M : Type 1} (𝓤 : URA M) (H : Heap 𝓤) (A : Atoms 𝓤) (at-mem : 
   new-of : (r : Running) → ent 𝓤 (ensured 𝓤 H A new.ended (new.clauses 𝓤 H A at-mem run) tt tt tt r) (fact 𝓤 (stateOf r ≡ start))
   new-of r = exE 𝓤 _ (λ ws. snd∗ 𝓤 (sem 𝓤 H A (lasts new.ended tt tt ws)) (fact 𝓤 (stateOf r ≡ start)))
 
-  finish-of : (h : Running) (r : List ℕ) → ent 𝓤 (ensured 𝓤 H A finish.ended (finish.clauses 𝓤 H A at-mem run) tt (h, tt) tt r) (fact 𝓤 (r ≡ finished (stateOf h)))
-  finish-of h r = exE 𝓤 _ (λ ws. snd∗ 𝓤 (sem 𝓤 H A (lasts finish.ended tt (h, tt) ws)) (fact 𝓤 (r ≡ finished (stateOf h))))
+  finish-of : (h : Running) (r : Digest) → ent 𝓤 (ensured 𝓤 H A finish.ended (finish.clauses 𝓤 H A at-mem run) tt (h, tt) tt r) (fact 𝓤 (Finished h r))
+  finish-of h r = exE 𝓤 _ (λ ws. snd∗ 𝓤 (sem 𝓤 H A (lasts finish.ended tt (h, tt) ws)) (fact 𝓤 (Finished h r)))
 
 module _ {M : Type 1} (𝓤 : URA M) (H : Heap 𝓤) (A : Atoms 𝓤) (W : Given 𝓤 H A) (at-mem : Memory → SProp 𝓤) (run : Routine → Fun 𝓤) (κ κ′ : Lft) (q q′ : Share) (n : ℕ) (n-fits : n < 2 ^ 64) (x y : RefT (List ℕ)) (nx : length (x .now) ≡ 32) (ny : length (y .now) ≡ 32) where
   abbrev vx : Val
@@ -140,32 +153,34 @@ module _ {M : Type 1} (𝓤 : URA M) (H : Heap 𝓤) (A : Atoms 𝓤) (W : Given
   abbrev to-finish : Running → Val → Finish 𝓤 H A at-mem run .Ghost
   to-finish h u = ((tt, tt, tt, (h, tt), (u ∷ [], tt)), tt)
 
-  asks-finish : (h : Running) (u : Val) → h .count < 2 ^ 61 → ent 𝓤 (sem 𝓤 H A (R .own h (u ∷ []))) (Finish 𝓤 H A at-mem run .pre (to-finish h u))
+  asks-finish : (h : Running) (u : Val) → (h .count < 2 ^ 61) × (h .blocks ≤ h .count) → ent 𝓤 (sem 𝓤 H A (R .own h (u ∷ []))) (Finish 𝓤 H A at-mem run .pre (to-finish h u))
   asks-finish h u room = qed W (‵ (R .own h (u ∷ [])) ∷ []) ∵ says ! room $ nothing ! $ move ! (1 ∷ 0 ∷ []) $ fjoin ! $ nothing ! $ done !
 
-  exits : (r : List ℕ) (v : Val) → r ≡ entryDigest n (x .now) (y .now)
-      → ent 𝓤 (⋆ 𝓤 H A (‵ (Array u8 32 .own r (v ∷ [])) ∷ ‵ (flft κ q) ∷ ‵ (flft κ′ q′) ∷ ‵ X ∷ ‵ Y ∷ [])) (Post v)
+  exits : (r : Digest) (v : Val) → Says n (x .now) (y .now) r
+      → ent 𝓤 (⋆ 𝓤 H A (‵ (D.the-row .own r (v ∷ [])) ∷ ‵ (flft κ q) ∷ ‵ (flft κ′ q′) ∷ ‵ X ∷ ‵ Y ∷ [])) (Post v)
   exits r v e =
-      qed W (‵ (Array u8 32 .own r (v ∷ [])) ∷ ‵ (flft κ q) ∷ ‵ (flft κ′ q′) ∷ ‵ X ∷ ‵ Y ∷ []) ∵
+      qed W (‵ (D.the-row .own r (v ∷ [])) ∷ ‵ (flft κ q) ∷ ‵ (flft κ′ q′) ∷ ‵ X ∷ ‵ Y ∷ []) ∵
       suffices ! _ (ends-at 𝓤 H A entry-digest.ended stayed (entry-digest.clauses 𝓤 H A at-mem run) W (((κ, (κ′, tt)), (q, (q′, tt)), tt, a, vals), tt) v r (tt, (tt, (tt, tt))) (tt, (tt, (tt, tt)))) $ says ! e $
       nothing ! $ move ! (3 ∷ 0 ∷ []) $ join ! $ move ! (2 ∷ 0 ∷ []) $ join ! $ frame ! $
       -- [the result; the value; the previous digest]
       nothing ! $ move ! (3 ∷ 0 ∷ []) $ fjoin ! $ move ! (2 ∷ 0 ∷ []) $ fjoin ! $ owned ! u64 (Is u64) (uint-makes 𝓤 H A W w64) n _ (refl, n-fits) $ fjoin ! $ frame ! $ done !
 
   -- how much was absorbed so far
-  room-number : (h : Running) (xs : List ℕ) → length xs ≡ 8 → Holds h [] → h .count + length xs < 2 ^ 64
-  room-number h xs l k = let c : h .count ≡ 0 = holds-count h [] k in omega arith
+  takes-number : (h : Running) (xs : List ℕ) → length xs ≡ 8 → Holds h [] → Takes h (length xs)
+  takes-number h xs l k = let c : h .count ≡ 0 = holds-count h [] k in (omega arith, holds-within h [] k)
 
-  room-value : (h : Running) (xs : List ℕ) → length xs ≡ 8 → Holds h ([] ++ xs) → h .count + length (x .now) < 2 ^ 64
-  room-value h xs l k = let c : h .count ≡ length xs = holds-count h ([] ++ xs) k in omega arith
+  takes-value : (h : Running) (xs : List ℕ) → length xs ≡ 8 → Holds h ([] ++ xs) → Takes h (length (x .now))
+  takes-value h xs l k = let c : h .count ≡ length xs = holds-count h ([] ++ xs) k in (omega arith, holds-within h ([] ++ xs) k)
 
-  room-previous : (h : Running) (xs : List ℕ) → length xs ≡ 8 → Holds h (([] ++ xs) ++ x .now) → h .count + length (y .now) < 2 ^ 64
-  room-previous h xs l k = let c : h .count ≡ length xs + length (x .now) = holds-count h (([] ++ xs) ++ x .now) k ∙ length-append xs (x .now) in omega arith
+  takes-previous : (h : Running) (xs : List ℕ) → length xs ≡ 8 → Holds h (([] ++ xs) ++ x .now) → Takes h (length (y .now))
+  takes-previous h xs l k =
+      let c : h .count ≡ length xs + length (x .now) = holds-count h (([] ++ xs) ++ x .now) k ∙ length-append xs (x .now) in
+      (omega arith, holds-within h (([] ++ xs) ++ x .now) k)
 
-  room-finish : (h : Running) (xs : List ℕ) → length xs ≡ 8 → Holds h ((([] ++ xs) ++ x .now) ++ y .now) → h .count < 2 ^ 61
+  room-finish : (h : Running) (xs : List ℕ) → length xs ≡ 8 → Holds h ((([] ++ xs) ++ x .now) ++ y .now) → (h .count < 2 ^ 61) × (h .blocks ≤ h .count)
   room-finish h xs l k =
       let c : h .count ≡ length xs + length (x .now) + length (y .now) = holds-count h ((([] ++ xs) ++ x .now) ++ y .now) k ∙ length-append (xs ++ x .now) (y .now) ∙ ap (λ (m : ℕ). m + length (y .now)) (length-append xs (x .now)) in
-      omega arith
+      (omega arith, holds-within h ((([] ++ xs) ++ x .now) ++ y .now) k)
 
   room-8 : Room u8 8
   room-8 = (omega arith, omega arith)
@@ -180,6 +195,9 @@ module _ {M : Type 1} (𝓤 : URA M) (H : Heap 𝓤) (A : Atoms 𝓤) (W : Given
 
   state-typed : (h : Running) (u : Val) → Is R h (u ∷ []) → IsTrue (hasTy T′.mir u) × WT u
   state-typed h u is = LL.lawful T.the-type T′.the-laws 𝓤 H A W .typed h (u ∷ []) is .0
+
+  digest-typed : (d : Digest) (u : Val) → Is D.the-row d (u ∷ []) → IsTrue (hasTy D′.mir u) × WT u
+  digest-typed d u is = LL.lawful D.the-type D′.the-laws 𝓤 H A W .typed d (u ∷ []) is .0
 
   unit-typed : (r : Val) → r ≡ vunit → IsTrue (hasTy tyUnit r) × WT r
   unit-typed r e = subst (λ (w : Val). IsTrue (hasTy tyUnit w) × WT w) (sym e) (tt, tt)
@@ -214,7 +232,7 @@ module _ {M : Type 1} (𝓤 : URA M) (H : Heap 𝓤) (A : Atoms 𝓤) (W : Given
         assigns ! (agg ! (and-then ! (load ! (from ! (stop !)) (look ! 16 refl)) (and-then ! (lit ! tt) (no-more !)))) (from ! (stop !)) (init ! 14 refl (tt, (tt, (record { fits = room-8 .0 }, tt)))) $
         lft-new ! tt (λ μ. move ! (3 ∷ 4 ∷ []) $
         use2 W (later (some (λ (δ : GName). ‵ (ShrSlice (named 1) (μ ∷ []) u8 .own (bytes l₄ δ xs) (sliceVal (l₄, 0) 8 ∷ [])) ⊛ ‵ (flent (μ ∷ []) (Shared 8 xs l₄))))) (lends-bytes 𝓤 H A W (μ ∷ []) 8 l₄ xs v (ap length e ∙ length-be 8 n) room-8) $ await ! tt $ pick ! (λ δ. split ! $
-        move ! (3 ∷ 4 ∷ 2 ∷ 0 ∷ []) $ feeds ! fm at-mem run known-feed l₅ h₀ (bytes l₄ δ xs) u₀ (sliceVal (l₄, 0) 8) (room-number h₀ xs (ap length e ∙ length-be 8 n) (holds-new h₀ e₀))
+        move ! (3 ∷ 4 ∷ 2 ∷ 0 ∷ []) $ feeds ! fm at-mem run known-feed l₅ h₀ (bytes l₄ δ xs) u₀ (sliceVal (l₄, 0) 8) (takes-number h₀ xs (ap length e ∙ length-be 8 n) (holds-new h₀ e₀))
         (λ i j. and-then ! (load ! (from ! (stop !)) (look ! 17 refl)) (and-then ! (load ! (from ! (stop !)) (look ! 13 refl)) (no-more !))) (λ h₁ u₁ r₁ o₁ e₁.
         land ! (from ! (stop !)) (init ! 20 refl (unit-typed r₁ o₁)) $
         move ! (2 ∷ 3 ∷ []) $ lft-end ! tt $ use2 W (later (some (λ (w : Val). ‵ (fat fullShare (tyArray (tyInt w8) 8) l₄ 0 w) ⊛ ‵ (Array u8 8 .own xs (w ∷ []))))) (bytes-back 𝓤 H A W (μ ∷ []) 8 l₄ xs) $ await ! tt $ pick ! (λ w. split ! $ move ! (1 ∷ []) $ drop ! $
@@ -222,14 +240,14 @@ module _ {M : Type 1} (𝓤 : URA M) (H : Heap 𝓤) (A : Atoms 𝓤) (W : Given
         -- [_4; _5; its state; κ's token; κ′'s token; X; X; Y; Y; _13; …; _6; …; what is left of _5 and of _4; _3; …; _0; …]
         -- with the value
         assigns ! (addr ! (from ! (stop !))) (from ! (stop !)) (init ! 11 refl (tt, tt)) $
-        move ! (1 ∷ 2 ∷ 3 ∷ 5 ∷ []) $ feeds ! fm at-mem run known-feed l₅ h₁ x u₁ vx (room-value h₁ xs (ap length e ∙ length-be 8 n) k₁)
+        move ! (1 ∷ 2 ∷ 3 ∷ 5 ∷ []) $ feeds ! fm at-mem run known-feed l₅ h₁ x u₁ vx (takes-value h₁ xs (ap length e ∙ length-be 8 n) k₁)
         (λ i j. and-then ! (load ! (from ! (stop !)) (look ! 9 refl)) (and-then ! (load ! (from ! (stop !)) (look ! 27 refl)) (no-more !))) (λ h₂ u₂ r₂ o₂ e₂.
         forget ! 18 refl $ land ! (from ! (stop !)) (init ! 18 refl (unit-typed r₂ o₂)) $
         let k₂ = holds-more h₁ h₂ ([] ++ xs) (x .now) k₁ e₂ in
         -- [_5; its state; κ's token; _4; κ′'s token; X; Y; Y; _13; …]
         -- with the previous digest
         assigns ! (addr ! (from ! (stop !))) (from ! (stop !)) (init ! 8 refl (tt, tt)) $
-        move ! (0 ∷ 1 ∷ 4 ∷ 6 ∷ []) $ feeds ! fm at-mem run known-feed l₅ h₂ y u₂ vy (room-previous h₂ xs (ap length e ∙ length-be 8 n) k₂)
+        move ! (0 ∷ 1 ∷ 4 ∷ 6 ∷ []) $ feeds ! fm at-mem run known-feed l₅ h₂ y u₂ vy (takes-previous h₂ xs (ap length e ∙ length-be 8 n) k₂)
         (λ i j. and-then ! (load ! (from ! (stop !)) (look ! 6 refl)) (and-then ! (load ! (from ! (stop !)) (look ! 24 refl)) (no-more !))) (λ h₃ u₃ r₃ o₃ e₃.
         forget ! 17 refl $ land ! (from ! (stop !)) (init ! 17 refl (unit-typed r₃ o₃)) $
         let k₃ = holds-more h₂ h₃ (([] ++ xs) ++ x .now) (y .now) k₂ e₃ in
@@ -238,14 +256,14 @@ module _ {M : Type 1} (𝓤 : URA M) (H : Heap 𝓤) (A : Atoms 𝓤) (W : Given
         move ! (1 ∷ []) $ peeks ! R (Is R) (shows 𝓤 H A R) h₃ (u₃ ∷ []) (λ is₃. forget ! 19 refl $ assigns ! (of-opd ! (load ! (from ! (stop !)) (look ! 1 refl))) (from ! (stop !)) (init ! 19 refl (state-typed h₃ u₃ is₃)) $
         use1 W (raw (Finish 𝓤 H A at-mem run .pre (to-finish h₃ u₃))) (asks-finish h₃ u₃ (room-finish h₃ xs (ap length e ∙ length-be 8 n) k₃)) $
         calls-at ! fm (Finish 𝓤 H A at-mem run) known-finish (to-finish h₃ u₃) (and-then ! (load ! (from ! (stop !)) (look ! 19 refl)) (no-more !)) (λ z.
-        use1 W (later (some (λ (r : List ℕ). (‵ ftrue ⊛ ‵ (Array u8 32 .own r (z ∷ []))) ⊛ raw (ensured 𝓤 H A finish.ended (finish.clauses 𝓤 H A at-mem run) tt (h₃, tt) tt r)))) (id⊢ 𝓤 _) $ await ! tt $ pick ! (λ r.
-        split ! $ move ! (1 ∷ []) $ use1 W (raw (fact 𝓤 (r ≡ finished (stateOf h₃)))) (finish-of 𝓤 H A at-mem run h₃ r) $ heard ! (r ≡ finished (stateOf h₃)) (λ e₄. split ! $ drop ! $
-        peeks ! (Array u8 32) (Is (Array u8 32)) (shows 𝓤 H A (Array u8 32)) r (z ∷ []) (λ is₄. land ! (from ! (stop !)) (init ! 31 refl (bytes-typed 32 r z is₄)) $
+        use1 W (later (some (λ (r : Digest). (‵ ftrue ⊛ ‵ (D.the-row .own r (z ∷ []))) ⊛ raw (ensured 𝓤 H A finish.ended (finish.clauses 𝓤 H A at-mem run) tt (h₃, tt) tt r)))) (id⊢ 𝓤 _) $ await ! tt $ pick ! (λ r.
+        split ! $ move ! (1 ∷ []) $ use1 W (raw (fact 𝓤 (Finished h₃ r))) (finish-of 𝓤 H A at-mem run h₃ r) $ heard ! (Finished h₃ r) (λ e₄. split ! $ drop ! $
+        peeks ! D.the-row (Is D.the-row) (shows 𝓤 H A D.the-row) r (z ∷ []) (λ is₄. land ! (from ! (stop !)) (init ! 31 refl (digest-typed r z is₄)) $
         -- [the result; _5; κ′'s token; κ's token; _4; X; Y; _13; …]
         returns ! (look ! 31 refl) $ forget ! 1 refl $ forget ! 4 refl $ forget ! 7 refl $ forget ! 9 refl $ forget ! 11 refl $ forget ! 13 refl $ forget ! 15 refl $ forget ! 17 refl $ forget ! 19 refl $ forget ! 21 refl $ forget ! 25 refl $ forget ! 27 refl $ forget ! 29 refl $ forget ! 31 refl $
         move ! (31 ∷ 32 ∷ []) $ free1 ! $ move ! (29 ∷ 30 ∷ []) $ free1 ! $ move ! (27 ∷ 28 ∷ []) $ free1 ! $ move ! (25 ∷ 26 ∷ []) $ free1 ! $ move ! (4 ∷ 24 ∷ []) $ free1 ! $ move ! (1 ∷ 22 ∷ []) $ free1 ! $
         move ! (19 ∷ 20 ∷ []) $ free1 ! $ move ! (17 ∷ 18 ∷ []) $ free1 ! $ move ! (15 ∷ 16 ∷ []) $ free1 ! $ move ! (13 ∷ 14 ∷ []) $ free1 ! $ move ! (11 ∷ 12 ∷ []) $ free1 ! $ move ! (9 ∷ 10 ∷ []) $ free1 ! $ move ! (7 ∷ 8 ∷ []) $ free1 ! $ move ! (5 ∷ 6 ∷ []) $ free1 ! $ free0 ! $
-        keep ! (0 ∷ 2 ∷ 1 ∷ 3 ∷ 4 ∷ []) $ by ! (exits r z (fed-is n xs (x .now) (y .now) r e (holds-digest h₃ ((([] ++ xs) ++ x .now) ++ y .now) r k₃ e₄))))))))))))))))))))))))))))))))))))
+        keep ! (0 ∷ 2 ∷ 1 ∷ 3 ∷ 4 ∷ []) $ by ! (exits r z (fed-is n xs (x .now) (y .now) r e nx ny (digest-is ((([] ++ xs) ++ x .now) ++ y .now) (stateOf h₃) r k₃ e₄))))))))))))))))))))))))))))))))))))
 
 module _ {M : Type 1} (𝓤 : URA M) (H : Heap 𝓤) (A : Atoms 𝓤) (W : Given 𝓤 H A) (at-mem : Memory → SProp 𝓤) (run : Routine → Fun 𝓤) where
   entry-digest-walks : (C : Calls 𝓤 H) (Λ : Loops 𝓤 H) → FmC 𝓤 H (W .laws) C → Triple 𝓤 (C #entry·number) (Number 𝓤 H A at-mem run) → Triple 𝓤 (C #sha256·new) (New 𝓤 H A at-mem run) → Triple 𝓤 (C #entry·feed) (Feed 𝓤 H A at-mem run) → Triple 𝓤 (C #sha256·finish) (Finish 𝓤 H A at-mem run)
@@ -272,3 +290,7 @@ entry-digest-spec 𝓤 H 𝓜 𝓖 𝓡 =
     (cited 𝓤 H (New 𝓤 H (𝓖 .A) (𝓜 .mem) (𝓡 .run)) 𝓜 𝓡 code.env #sha256·new new-def.routine code.calls-sha256-digest·Running·new (new-thm.met 𝓤 H 𝓜 𝓖 𝓡))
     (cited 𝓤 H (Feed 𝓤 H (𝓖 .A) (𝓜 .mem) (𝓡 .run)) 𝓜 𝓡 code.env #entry·feed feed-def.routine code.calls-entry·feed (feed-thm.met 𝓤 H 𝓜 𝓖 𝓡))
     (cited 𝓤 H (Finish 𝓤 H (𝓖 .A) (𝓜 .mem) (𝓡 .run)) 𝓜 𝓡 code.env #sha256·finish finish-def.routine code.calls-sha256-digest·Running·finish (finish-thm.met 𝓤 H 𝓜 𝓖 𝓡)))
+
+-- no literal of the body becomes the count
+pub counted : unwritten counts (function .body) ≡ true
+counted = refl

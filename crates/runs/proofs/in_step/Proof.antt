@@ -6,7 +6,7 @@ use Rattle.runs.specs.Run.{run}
 use Rattle.runs.specs.Scan.{scanned}
 use Rattle.runs.specs.declared.Scan.{Scan}
 use Rattle.runs.proofs.NoRun.{reaches-fewer}
-use Rattle.runs.proofs.ScanLaws.{scan-start, scan-more, scan-all, scan-passed}
+use Rattle.runs.proofs.ScanLaws.{scan-start, scan-more, scan-all, scan-passed, scan-blocks}
 use borrow.Author.Needs.{needs}
 use Rattle.runs.proofs.in_step.Statement.{statement}
 use Rattle.runs.proofs.in_step.Tie as tie
@@ -36,10 +36,11 @@ step-requires c κs = let p8 = c .before .before .before .before .before .before
     let b = run (x .start2 .now) (x .first2) (x .values2 .now) in
     let l = c .before .loop in
     let e = scan-passed a b (x .i) (x .j) (l .k) in
+    let h = scan-blocks a b (x .i) (x .j) (l .k) (l .inv .1) in
     let e1 : l .s .one .passed ≡ x .i + l .k = ap (λ (s : Scan). s .one .passed) (l .inv .1) ∙ e .0 in
     let e2 : l .s .two .passed ≡ x .j + l .k = ap (λ (s : Scan). s .two .passed) (l .inv .1) ∙ e .1 in (
-      reaches-fewer (x .first1) (x .values1 .now) (l .s .one .passed + 1) (x .i + x .m) (omega arith) (p8 .pre .0 .1),
-      reaches-fewer (x .first2) (x .values2 .now) (l .s .two .passed + 1) (x .j + x .m) (omega arith) (p8 .pre .1 .1),
+      (reaches-fewer (x .first1) (x .values1 .now) (l .s .one .passed + 1) (x .i + x .m) (omega arith) (p8 .pre .0 .1), h .0),
+      (reaches-fewer (x .first2) (x .values2 .now) (l .s .two .passed + 1) (x .j + x .m) (omega arith) (p8 .pre .1 .1), h .1),
     )
 
 add-k : tie.Need-add-k Inv-loop μ-loop

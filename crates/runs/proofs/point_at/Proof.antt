@@ -9,7 +9,7 @@ use Rattle.runs.specs.Run.{run}
 use Rattle.runs.specs.Scan.{pointAfter, pointAt}
 use Rattle.runs.specs.declared.Point.{Point}
 use Rattle.runs.proofs.NoRun.{reaches-fewer}
-use Rattle.runs.proofs.ScanLaws.{point-start, point-step, passed-is}
+use Rattle.runs.proofs.ScanLaws.{point-start, point-step, point-blocks, passed-is}
 use borrow.Author.Needs.{needs}
 use Rattle.runs.proofs.point_at.Statement.{statement}
 use Rattle.runs.proofs.point_at.Tie as tie
@@ -34,7 +34,7 @@ walked-requires c κs = let x = c .before .before .before .before .before .befor
     let l = c .before .loop in
     let r = run (x .start .now) (x .first) (x .values .now) in
     let e : l .p .passed ≡ l .k = ap (λ (p : Point). p .passed) (l .inv .1) ∙ passed-is r (l .k) in
-    reaches-fewer (x .first) (x .values .now) (l .p .passed + 1) (x .n) (omega arith) (c .before .before .before .before .before .before .before .pre .1)
+    (reaches-fewer (x .first) (x .values .now) (l .p .passed + 1) (x .n) (omega arith) (c .before .before .before .before .before .before .before .pre .1), point-blocks r (l .k) (l .inv .1))
 
 add-k : tie.Need-add-k Inv-loop μ-loop
 add-k c = search needs

@@ -1,5 +1,6 @@
 -- `runs::walked` meets its contract.
 use Rattle.runs.proofs.BlockLaws.{walked-is}
+use native.Mathlib.Omega.{arith}
 use borrow.Author.Needs.{needs}
 use Rattle.runs.proofs.walked.Statement.{statement}
 use Rattle.runs.proofs.walked.Tie as tie
@@ -28,11 +29,17 @@ slice-aggregate-entry-digest c = search needs
 entry-digest-requires : tie.Need-entry-digest-requires
 entry-digest-requires c κs = search needs
 
-add-t12 : tie.Need-add-t12
-add-t12 c = search needs
+add-blocks : tie.Need-add-blocks
+add-blocks c = omega (arith, c .before .before .before .entry-digest .ensures .1, c .before .before .before .before .before .before .before .before .pre .0 .bytes)
+
+add-passed : tie.Need-add-passed
+add-passed c = search needs
 
 returns : tie.Need-returns
-returns c = let x = c .before .before .before .before .before .args in walked-is (x .first) (x .values .now) (x .p) _ (c .entry-digest .ensures)
+returns c =
+    let x = c .before .before .before .before .before .before .before .before .args in
+    let d = c .before .before .before .entry-digest in
+    walked-is (x .first) (x .values .now) (x .p) (d .result) (d .ensures)
 
 pub walked-spec : {M : Type 1} → statement M
 walked-spec =
@@ -46,5 +53,6 @@ walked-spec =
     part-entry-digest-end
     slice-aggregate-entry-digest
     entry-digest-requires
-    add-t12
+    add-blocks
+    add-passed
     returns)

@@ -71,19 +71,24 @@ digest-requires c κs = search needs
 
 returns : tie.Need-returns
 returns c =
-    let a = c .before .before .before .before .before .before .before .before .before .before .before .before .before .args in
+    let p5 = c .before .before .before .before .before in
+    let p9 = p5 .before .before .before .before in
+    let p12 = p9 .before .before .before in
+    let x = p12 .before .before in
+    let a = x .args in
     let p : List ℕ = a .part .now in
     let at : ℕ = length p / 64 * 64 in
     let chop : take (length p - at) (drop at p) ≡ drop at p = take-all (length p - at) (drop at p) (rw length-drop (omega arith)) in
     let f : ℕ = length p % 64 in
-    c .digest .ensures
-    ∙ closing (a .h) p (replicate 128 0) (c .before .before .before .before .before .before .before .before .before .before .before .compress-blocks .result) (c .before .before .before .before .put-u64 .last .0) (c .before .compress-blocks2 .result) (a .before) f
-    (c .before .before .before .before .before .before .before .before .before .before .before .before .before .pre .0 .0) refl refl refl
-    (c .before .before .before .before .before .before .before .before .before .before .before .compress-blocks .ensures)
-    (c .before .before .before .before .put-u64 .ensures
+    let last = c .before .before .compress-blocks2 in
+    let e = closing (a .h) (p12 .compress-blocks .result) (last .result) p (replicate 128 0) (p5 .put-u64 .last .0) (a .before) f
+    (x .pre .0 .0) refl refl refl
+    (p12 .compress-blocks .ensures)
+    (p5 .put-u64 .ensures
     ∙ ap₂ (λ (t : List ℕ) (n : ℕ). splice (set t f 128) ((f + 72) / 64 * 64 - 8) (be 8 ((a .before + n) * 8)))
-    (c .before .before .before .before .before .before .before .before .put .ensures ∙ ap (splice (replicate 128 0) 0) chop) (c .before .before .before .before .before .wide .ensures))
-    (c .before .compress-blocks2 .ensures)
+    (p9 .put .ensures ∙ ap (splice (replicate 128 0) 0) chop) (p5 .before .wide .ensures))
+    (last .ensures) in
+    (c .digest .ensures ∙ e .0, e .1)
 
 pub digest-from-spec : {M : Type 1} → statement M
 digest-from-spec =

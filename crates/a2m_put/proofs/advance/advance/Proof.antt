@@ -1,13 +1,16 @@
 -- `a2m_put::advance::advance` meets its contract. Assumes nothing.
 use Prim.Native.Nat.{ℕ}
-use Rattle.a2m.specs.Opened.{changeReply}
+use Rattle.a2m.specs.Opened.{changeReply, changeBlocks}
 use Rattle.a2m.specs.Call.{advance}
 use Rattle.a2m.proofs.CallLaws.{advance-digest, advance-value, advance-sized, unopened, at-log}
 use Rattle.a2m.proofs.OpenedLaws.{opened}
-use mathlib.Core.Path.{refl, sym, _∙_}
+use mathlib.Core.Path.{refl, sym, _∙_, _≡_}
 use borrow.Author.Needs.{needs}
+use mathlib.Core.Bool.{true}
 use Rattle.a2m_put.proofs.advance.advance.Statement.{statement}
 use Rattle.a2m_put.proofs.advance.advance.Tie as tie
+use Rattle.refusal.specs.Unwritten.{unwritten, counts}
+use Rattle.a2m_put.proofs.advance.advance.Code.Mir.{function}
 
 returns : tie.Need-returns
 returns c = let a = c .before .before .before .before .args in advance-digest (a .table .now) (a .position) (a .digest .now) (a .value .now) (a .log) (c .if1 .taken)
@@ -32,7 +35,7 @@ same-length : tie.Need-same-length
 same-length c = search needs
 
 returns-3 : tie.Need-returns-3
-returns-3 c = let a = c .before .before .before .before .before .before .before .before .before .before .before .before .before .before .args in at-log (a .table .now) (λ (g : ℕ). advance g (a .position) (a .digest .now) (a .value .now)) (changeReply (c .before .before .advance-open .result)) (c .before .before .advance-open .last .0) (opened (a .table .now) (a .log) (c .before .before .before .before .before .view .given .0 .0) (sym (c .before .before .before .before .before .view .given .1) ∙ c .before .before .before .before .before .before .before .«open» .ensures) .1) (c .before .before .advance-open .ensures)
+returns-3 c = let a = c .before .before .before .before .before .before .before .before .before .before .before .before .before .before .args in at-log (a .table .now) (λ (g : ℕ). advance g (a .position) (a .digest .now) (a .value .now)) (changeReply (c .before .before .advance-open .result)) (changeBlocks (c .before .before .advance-open .result)) (c .before .before .advance-open .last .0) (opened (a .table .now) (a .log) (c .before .before .before .before .before .view .given .0 .0) (sym (c .before .before .before .before .before .view .given .1) ∙ c .before .before .before .before .before .before .before .«open» .ensures) .1) (c .before .before .advance-open .ensures)
 
 same-length-2 : tie.Need-same-length-2
 same-length-2 c = search needs
@@ -54,3 +57,7 @@ advance-spec =
     returns-3
     same-length-2
     returns-4)
+
+-- no literal of the body becomes the count
+pub counted : unwritten counts (function .body) ≡ true
+counted = refl

@@ -1,14 +1,17 @@
 -- `a2m_put::advance::advance_open` meets its contract. Assumes nothing.
-use Rattle.a2m.specs.Opened.{changeReply}
+use Rattle.a2m.specs.Opened.{changeReply, changeBlocks}
 use lib.ListN.{length}
 use Rattle.a2m.proofs.CallLaws.{advance-position, advance-full, advance-done, advance-high}
 use Rattle.entry.proofs.DigestLaws.{length-entryDigest}
 use mathlib.Core.Logic.{_≢_}
 use native.Mathlib.Omega.{arith}
-use mathlib.Core.Path.{ap, _∙_}
+use mathlib.Core.Path.{ap, _∙_, _≡_, refl}
 use borrow.Author.Needs.{needs}
+use mathlib.Core.Bool.{true}
 use Rattle.a2m_put.proofs.advance.advance_open.Statement.{statement}
 use Rattle.a2m_put.proofs.advance.advance_open.Tie as tie
+use Rattle.refusal.specs.Unwritten.{unwritten, counts}
+use Rattle.a2m_put.proofs.advance.advance_open.Code.Mir.{function}
 
 returns : tie.Need-returns
 returns c = let a = c .before .before .before .before .before .before .args in let p = c .before .before .before .before .before .before .pre in advance-position (a .table .now) (a .position) (a .digest .now) (a .value .now) (a .view) (p .0) (p .1 .0) (p .1 .1) (c .if1 .taken)
@@ -27,15 +30,28 @@ slice-aggregate-enter : tie.Need-slice-aggregate-enter
 slice-aggregate-enter c = search needs
 
 enter-requires : tie.Need-enter-requires
-enter-requires c κs = let p12 = c .before .before .before .before .before .before .before .before .before .before .before .before in
-    let a = p12 .args in let p = p12 .pre in let f : a .view .free ≢ 0 = c .before .before .before .before .if2 .left in let h = advance-high (a .view .row) (c .before .before .before .advance .result) (a .position) (a .view .free) (c .before .before .before .advance .ensures) in (p .0, (omega arith, (h .0, (omega (arith, h .1, p12 .fits .position), (p .1 .1, ap length (c .before .before .entry-digest .ensures) ∙ length-entryDigest _ _ _)))))
+enter-requires c κs =
+    let d = c .before .before .before in
+    let r = d .before in
+    let q = r .before .before .before .before .before .before .before .before .before in
+    let a = q .args in
+    let p = q .pre in
+    let f : a .view .free ≢ 0 = r .before .if2 .left in
+    let h = advance-high (a .view .row) (r .advance .result) (a .position) (a .view .free) (r .advance .ensures) in
+    (p .0, (omega arith, (h .0, (omega (arith, h .1, q .fits .position), (p .1 .1, ap length (d .entry-digest .ensures .0) ∙ length-entryDigest _ _ _)))))
 
 same-length : tie.Need-same-length
 same-length c = search needs
 
 returns-3 : tie.Need-returns-3
-returns-3 c = let p15 = c .before .before .before .before .before .before .before .before .before .before .before .before .before .before .before in
-    let a = p15 .args in let p = p15 .pre in advance-done (a .table .now) (a .position) (a .digest .now) (a .value .now) (a .view) (p .0) (p .1 .0) (p .1 .1) (c .before .before .before .before .before .before .before .before .before .if1 .left) (c .before .before .before .before .before .before .before .if2 .left) (c .before .before .before .before .before .before .advance .result) (c .before .before .before .before .before .entry-digest .result) (c .before .before .before .before .before .before .advance .ensures) (c .before .before .before .before .before .entry-digest .ensures) (changeReply (c .before .before .enter .result)) (c .before .before .enter .last .0) (c .before .before .enter .ensures .0) (c .before .before .enter .ensures .1)
+returns-3 c =
+    let e = c .before .before in
+    let d = e .before .before .before .before in
+    let r = d .before in
+    let q = r .before .before .before .before .before .before .before .before .before in
+    let a = q .args in
+    let p = q .pre in
+    advance-done (a .table .now) (a .position) (a .digest .now) (a .value .now) (a .view) (p .0) (p .1 .0) (p .1 .1) (r .before .before .before .if1 .left) (r .before .if2 .left) (r .advance .result) (d .entry-digest .result .bytes) (r .advance .ensures) (d .entry-digest .ensures .0) (changeReply (e .enter .result)) (changeBlocks (e .enter .result)) (e .enter .last .0) (e .enter .ensures .0) (e .enter .ensures .1 .0 ∙ d .entry-digest .ensures .1) (e .enter .ensures .1 .1)
 
 pub advance-open-spec : {M : Type 1} → statement M
 advance-open-spec =
@@ -49,3 +65,7 @@ advance-open-spec =
     enter-requires
     same-length
     returns-3)
+
+-- no literal of the body becomes the count
+pub counted : unwritten counts (function .body) ≡ true
+counted = refl

@@ -1,15 +1,18 @@
 -- `a2m_put::append::append_open` meets its contract. Assumes nothing.
-use Rattle.a2m.specs.Opened.{changeReply}
+use Rattle.a2m.specs.Opened.{changeReply, changeBlocks}
 use lib.ListN.{length}
 use Rattle.a2m.proofs.CallLaws.{append-spent, append-full, append-done, append-high, append-fits}
 use Rattle.entry.proofs.DigestLaws.{length-entryDigest}
 use Rattle.a2m.proofs.OpenedLaws.{opened-counted, last-most}
 use mathlib.Core.Logic.{_≢_}
 use native.Mathlib.Omega.{arith}
-use mathlib.Core.Path.{ap, _∙_}
+use mathlib.Core.Path.{ap, _∙_, _≡_, refl}
 use borrow.Author.Needs.{needs}
+use mathlib.Core.Bool.{true}
 use Rattle.a2m_put.proofs.append.append_open.Statement.{statement}
 use Rattle.a2m_put.proofs.append.append_open.Tie as tie
+use Rattle.refusal.specs.Unwritten.{unwritten, counts}
+use Rattle.a2m_put.proofs.append.append_open.Code.Mir.{function}
 
 returns : tie.Need-returns
 returns c = let a = c .before .before .before .before .before .args in append-spent (a .table .now) (a .value .now) (a .view) (c .before .before .before .before .before .pre .0) (c .before .before .before .before .before .pre .1) (c .if1 .taken)
@@ -28,15 +31,25 @@ slice-aggregate-enter : tie.Need-slice-aggregate-enter
 slice-aggregate-enter c = search needs
 
 enter-requires : tie.Need-enter-requires
-enter-requires c κs = let p12 = c .before .before .before .before .before .before .before .before .before .before .before .before in
-    let a = p12 .args in let f : a .view .free ≢ 0 = c .before .before .before .before .before .if2 .left in (p12 .pre .0, (omega arith, (append-high (a .view .row) (c .before .before .before .before .append .result) (a .view .free) (c .before .before .before .before .append .ensures), (append-fits (a .view .row) (c .before .before .before .before .append .result) (a .view .free) (c .before .before .before .before .append .ensures) (omega (arith, c .before .before .before .before .before .before .before .before .struct-known .given)) (c .before .before .before .before .before .before .before .if1 .left), (p12 .pre .1, ap length (c .before .before .digest-after .ensures) ∙ length-entryDigest _ _ _)))))
+enter-requires c κs =
+    let d = c .before .before .before in
+    let r = d .before .before in
+    let p = r .before .before .before .before .before .before .before .before in
+    let a = p .args in
+    let f : a .view .free ≢ 0 = r .before .if2 .left in
+    (p .pre .0, (omega arith, (append-high (a .view .row) (r .append .result) (a .view .free) (r .append .ensures), (append-fits (a .view .row) (r .append .result) (a .view .free) (r .append .ensures) (omega (arith, r .before .before .before .before .struct-known .given)) (r .before .before .before .if1 .left), (p .pre .1, ap length (d .digest-after .ensures .0) ∙ length-entryDigest _ _ _)))))
 
 same-length : tie.Need-same-length
 same-length c = search needs
 
 returns-3 : tie.Need-returns-3
-returns-3 c = let p15 = c .before .before .before .before .before .before .before .before .before .before .before .before .before .before .before in
-    let a = p15 .args in append-done (a .table .now) (a .value .now) (a .view) (p15 .pre .0) (p15 .pre .1) (c .before .before .before .before .before .before .before .before .before .before .if1 .left) (c .before .before .before .before .before .before .before .before .if2 .left) (c .before .before .before .before .before .before .before .append .result) (c .before .before .before .before .before .digest-after .result) (c .before .before .before .before .before .before .before .append .ensures) (c .before .before .before .before .before .digest-after .ensures) (changeReply (c .before .before .enter .result)) (c .before .before .enter .last .0) (c .before .before .enter .ensures .0) (c .before .before .enter .ensures .1)
+returns-3 c =
+    let e = c .before .before in
+    let d = e .before .before .before .before in
+    let r = d .before .before in
+    let p = r .before .before .before .before .before .before .before .before in
+    let a = p .args in
+    append-done (a .table .now) (a .value .now) (a .view) (p .pre .0) (p .pre .1) (r .before .before .before .if1 .left) (r .before .if2 .left) (r .append .result) (d .digest-after .result .bytes) (r .append .ensures) (d .digest-after .ensures .0) (changeReply (e .enter .result)) (changeBlocks (e .enter .result)) (e .enter .last .0) (e .enter .ensures .0) (e .enter .ensures .1 .0 ∙ d .digest-after .ensures .1) (e .enter .ensures .1 .1)
 
 pub append-open-spec : {M : Type 1} → statement M
 append-open-spec =
@@ -50,3 +63,7 @@ append-open-spec =
     enter-requires
     same-length
     returns-3)
+
+-- no literal of the body becomes the count
+pub counted : unwritten counts (function .body) ≡ true
+counted = refl

@@ -3,9 +3,13 @@ use Rattle.a2m.proofs.EnterLaws.{slot-good, row-good, next-good, held-1, held-2
 use Rattle.layout.proofs.HoldsLaws.{holds-counted}
 use Rattle.a2m.proofs.OpenedLaws.{opened-counted, opened-log, free-most, count-most, last-most}
 use native.Mathlib.Omega.{arith}
+use mathlib.Core.Path.{refl, _≡_}
 use borrow.Author.Needs.{needs}
+use mathlib.Core.Bool.{true}
 use Rattle.a2m_put.proofs.entering.enter.Statement.{statement}
 use Rattle.a2m_put.proofs.entering.enter.Tie as tie
+use Rattle.refusal.specs.Unwritten.{unwritten, counts}
+use Rattle.a2m_put.proofs.entering.enter.Code.Mir.{function}
 
 link-at-requires : tie.Need-link-at-requires
 link-at-requires c κs = let a = c .before .before .before .before .before .args in let p = c .before .before .before .before .before .pre in (opened-counted (a .table .now) (a .view) (p .0), (p .1 .0, free-most (a .table .now) (a .view) (p .0)))
@@ -71,7 +75,7 @@ returns c =
     let y = k .before .before .before .before .before in
     let p = y .before .pre in
     let a = y .before .args in
-    (enter-answer (a .view) (a .after) (p .1 .1 .0), entered (a .table .now) (a .view) (a .after) (a .value .now) (a .digest .now) (p .0) (λ i. omega (arith, y .slice-known .given i)) (p .1 .0) (p .1 .1 .0) (p .1 .1 .1 .0) (p .1 .1 .1 .1 .0) (p .1 .1 .1 .1 .1) (s .put-slot .last .0) (h .hook .last .0) (r .put-row .last .0) (f .put-free .last .0) (c .before .before .put-count .last .0) (k .link-at .result) (k .link-at .ensures) (s .put-slot .ensures) (h .hook .ensures) (r .put-row .ensures) (f .put-free .ensures) (c .before .before .put-count .ensures))
+    (enter-answer (a .view) (a .after) (p .1 .1 .0), (refl, entered (a .table .now) (a .view) (a .after) (a .value .now) (a .digest .now) (p .0) (λ i. omega (arith, y .slice-known .given i)) (p .1 .0) (p .1 .1 .0) (p .1 .1 .1 .0) (p .1 .1 .1 .1 .0) (p .1 .1 .1 .1 .1) (s .put-slot .last .0) (h .hook .last .0) (r .put-row .last .0) (f .put-free .last .0) (c .before .before .put-count .last .0) (k .link-at .result) (k .link-at .ensures) (s .put-slot .ensures) (h .hook .ensures) (r .put-row .ensures) (f .put-free .ensures) (c .before .before .put-count .ensures)))
 
 pub enter-spec : {M : Type 1} → statement M
 enter-spec =
@@ -87,3 +91,7 @@ enter-spec =
     put-count-requires
     same-length
     returns)
+
+-- no literal of the body becomes the count
+pub counted : unwritten counts (function .body) ≡ true
+counted = refl

@@ -3,10 +3,13 @@ use Rattle.octets.specs.Octets.{zeros}
 use lib.ListN.{length}
 use Rattle.a2m.proofs.ReadLaws.{key-size, attest-slot, attest-none}
 use Rattle.a2m.proofs.SlotLaws.{value-size, digest-size}
-use mathlib.Core.Path.{refl, ap, _∙_}
+use mathlib.Core.Path.{refl, ap, _∙_, _≡_}
 use borrow.Author.Needs.{needs}
+use mathlib.Core.Bool.{true}
 use Rattle.a2m_read.proofs.attest.attest.Statement.{statement}
 use Rattle.a2m_read.proofs.attest.attest.Tie as tie
+use Rattle.refusal.specs.Unwritten.{unwritten, counts}
+use Rattle.a2m_read.proofs.attest.attest.Code.Mir.{function}
 
 key-of-requires : tie.Need-key-of-requires
 key-of-requires c κs = search needs
@@ -26,7 +29,7 @@ same-length c = search needs
 
 returns : tie.Need-returns
 unfolding zeros
-returns c = let a = c .before .before .before .before .before .before .before .before .before .before .before .args in attest-none (a .table .now) (a .s) (a .f) (a .nonce .now) (c .before .before .before .before .before .before .before .key-of .result .now) _ _ (c .before .before .put-receipt .last .0) (c .before .before .before .before .before .before .before .key-of .ensures) (c .before .before .put-receipt .ensures) (c .before .before .before .before .before .before .if1 .taken) refl refl
+returns c = let a = c .before .before .before .before .before .before .before .before .before .before .before .args in let r = c .before .before .put-receipt in (r .ensures .0, attest-none (a .table .now) (a .s) (a .f) (a .nonce .now) (c .before .before .before .before .before .before .before .key-of .result .now) _ _ (r .last .0) (c .before .before .before .before .before .before .before .key-of .ensures) (r .ensures .1) (c .before .before .before .before .before .before .if1 .taken) refl refl)
 
 value-at-requires : tie.Need-value-at-requires
 value-at-requires c κs = search needs
@@ -42,7 +45,7 @@ same-length-2 : tie.Need-same-length-2
 same-length-2 c = search needs
 
 returns-2 : tie.Need-returns-2
-returns-2 c = let a = c .before .before .before .before .before .before .before .before .before .before .before .args in attest-slot (a .table .now) (a .s) (a .f) (a .nonce .now) (c .before .before .before .before .before .before .before .key-of .result .now) (c .before .before .before .before .before .value-at .result .now) (c .before .before .before .before .digest-at .result .now) (c .before .before .put-receipt2 .last .0) (c .before .before .before .before .before .before .before .key-of .ensures) (c .before .before .put-receipt2 .ensures) (c .before .before .before .before .before .value-at .ensures) (c .before .before .before .before .digest-at .ensures)
+returns-2 c = let a = c .before .before .before .before .before .before .before .before .before .before .before .args in let r = c .before .before .put-receipt2 in (r .ensures .0, attest-slot (a .table .now) (a .s) (a .f) (a .nonce .now) (c .before .before .before .before .before .before .before .key-of .result .now) (c .before .before .before .before .before .value-at .result .now) (c .before .before .before .before .digest-at .result .now) (r .last .0) (c .before .before .before .before .before .before .before .key-of .ensures) (r .ensures .1) (c .before .before .before .before .before .value-at .ensures) (c .before .before .before .before .digest-at .ensures))
 
 pub attest-spec : {M : Type 1} → statement M
 attest-spec =
@@ -59,3 +62,7 @@ attest-spec =
     put-receipt-requires-2
     same-length-2
     returns-2)
+
+-- no literal of the body becomes the count
+pub counted : unwritten counts (function .body) ≡ true
+counted = refl

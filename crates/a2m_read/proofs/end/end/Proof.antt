@@ -1,14 +1,18 @@
 -- `a2m_read::end::end` meets its contract. Assumes nothing.
 use lib.ListN.{length}
 use Prim.Native.Nat.{ℕ}
+use Rattle.refusal.specs.Work.{workedBlocks}
 use Rattle.a2m.specs.Opened.{endReply}
 use Rattle.a2m.specs.Call.{end}
 use Rattle.a2m.proofs.ReadLaws.{end-nonce, end-receipt, end-sized, read-unopened, read-at-log}
 use Rattle.a2m.proofs.OpenedLaws.{opened}
-use mathlib.Core.Path.{refl, sym, _∙_}
+use mathlib.Core.Path.{refl, sym, _∙_, _≡_}
 use borrow.Author.Needs.{needs}
+use mathlib.Core.Bool.{true}
 use Rattle.a2m_read.proofs.end.end.Statement.{statement}
 use Rattle.a2m_read.proofs.end.end.Tie as tie
+use Rattle.refusal.specs.Unwritten.{unwritten, counts}
+use Rattle.a2m_read.proofs.end.end.Code.Mir.{function}
 
 returns : tie.Need-returns
 returns c = let a = c .before .before .before .before .args in end-nonce (a .table .now) (a .nonce .now) (a .receipt .now) (a .log) (c .if1 .taken)
@@ -33,7 +37,7 @@ same-length : tie.Need-same-length
 same-length c = search needs
 
 returns-3 : tie.Need-returns-3
-returns-3 c = let a = c .before .before .before .before .before .before .before .before .before .before .before .before .before .args in read-at-log (a .table .now) (λ (g : ℕ). end g (a .nonce .now) (length (a .receipt .now))) (endReply (c .before .before .end-open .result) (c .before .before .end-open .last .1 .1 .1 .0)) (c .before .before .end-open .last .1 .1 .1 .0) (a .receipt .now) (opened (a .table .now) (a .log) (c .before .before .before .before .before .view .given .0 .0) (sym (c .before .before .before .before .before .view .given .1) ∙ c .before .before .before .before .before .before .before .«open» .ensures) .1) (c .before .before .end-open .ensures)
+returns-3 c = let a = c .before .before .before .before .before .before .before .before .before .before .before .before .before .args in let o = c .before .before .end-open in read-at-log (a .table .now) (λ (g : ℕ). end g (a .nonce .now) (length (a .receipt .now))) (endReply (o .result) (o .last .1 .1 .1 .0)) (workedBlocks (o .result)) (o .last .1 .1 .1 .0) (a .receipt .now) (opened (a .table .now) (a .log) (c .before .before .before .before .before .view .given .0 .0) (sym (c .before .before .before .before .before .view .given .1) ∙ c .before .before .before .before .before .before .before .«open» .ensures) .1) (o .ensures)
 
 returns-4 : tie.Need-returns-4
 returns-4 c = let a = c .before .before .before .before .before .before .before .before .before .args in read-unopened (a .table .now) (a .log) (c .before .why .given .0 .0) (end (a .log) (a .nonce .now) (length (a .receipt .now))) (a .receipt .now) (sym (c .before .why .given .1) ∙ c .before .before .before .«open» .ensures) refl (end-sized (a .table .now) (a .nonce .now) (a .receipt .now) (a .log) (length (a .receipt .now)) (c .before .before .before .before .before .if1 .left) (c .before .before .before .before .if2 .left))
@@ -51,3 +55,7 @@ end-spec =
     same-length
     returns-3
     returns-4)
+
+-- no literal of the body becomes the count
+pub counted : unwritten counts (function .body) ≡ true
+counted = refl

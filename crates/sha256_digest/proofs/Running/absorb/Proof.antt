@@ -1,15 +1,14 @@
 -- `sha256_digest::Running::absorb` meets its contract: the part leaves the block unfilled (`short`), or fills it (`long`).
-use lib.ListN.{length-map, length, take, drop, length-take}
-use Rattle.sha256_digest.proofs.Absorb.{room, more, full, short, one-block, long}
+use lib.ListN.{length-map, length, take, drop, length-take, length-drop}
+use Rattle.sha256_digest.proofs.Absorb.{room, more, short, long}
 use Rattle.sha256_digest.specs.declared.Running.{Running}
 use Rattle.sha256_digest.specs.Running.{stateOf}
 use Rattle.sha256.specs.Sha256.{blocks}
 use Rattle.octets.specs.Octets.{splice}
-use Rattle.octets.proofs.Parts.{length-splice}
 use native.Mathlib.Omega.{arith}
 use mathlib.Core.List.{List}
 use mathlib.Core.Path.{_≡_, refl, ap, _∙_}
-use Prim.Native.Nat.{ℕ, _+_, _-_, _*_, _%_}
+use Prim.Native.Nat.{ℕ, _+_, _-_, _*_}
 use borrow.Author.Needs.{needs}
 use Rattle.sha256_digest.proofs.Running.absorb.Statement.{statement}
 use Rattle.sha256_digest.proofs.Running.absorb.Tie as tie
@@ -37,7 +36,7 @@ returns c =
     let s : Running = x .args .self in
     let size : length (s .block) ≡ 64 = simp length-map at (x .good .0 .1 .1 .1 .0 .1 .0 .1) in
     let n : ℕ = s .count + c .before .before .before .before .before .before .before .wide .result in
-    ap (λ (b : List ℕ). stateOf (record { chain = s .chain; block = b; count = n })) (c .before .put .ensures)
+    ap (λ (b : List ℕ). stateOf (record { chain = s .chain; block = b; count = n; blocks = s .blocks })) (c .before .put .ensures)
     ∙ short s (x .args .part .now) n size (omega arith) (omega arith)
 
 constants-requires : tie.Need-constants-requires
@@ -70,7 +69,9 @@ part-compress-blocks-end : tie.Need-part-compress-blocks-end
 part-compress-blocks-end c = search needs
 
 compress-blocks-requires-2 : tie.Need-compress-blocks-requires-2
-compress-blocks-requires-2 c κs = search needs
+compress-blocks-requires-2 c κs =
+    let first = c .before .before .compress-blocks .ensures .1 in
+    (c .before .before .before .before .before .before .before .before .before .constants .ensures, (simp (length-take, length-drop) (omega arith), omega (arith, first, c .before .before .before .before .before .before .before .before .before .before .if1 .left)))
 
 mul-at : tie.Need-mul-at
 mul-at c = search needs
@@ -95,17 +96,23 @@ put-requires-3 c κs = search needs
 
 returns-2 : tie.Need-returns-2
 returns-2 c =
-    let x = c .before .before .before .before .before .before .before .before .before .before .before .before .before .before .before .before .before .before .before .before .before .before in
+    let p5 = c .before .before .before .before .before in
+    let p8 = p5 .before .before .before in
+    let p12 = p8 .before .before .before .before in
+    let p16 = p12 .before .before .before .before in
+    let p20 = p16 .before .before .before .before in
+    let x = p20 .before .before .before in
     let s : Running = x .args .self in
     let p : List ℕ = x .args .part .now in
     let size : length (s .block) ≡ 64 = simp length-map at (x .good .0 .1 .1 .1 .0 .1 .0 .1) in
-    let f = c .before .before .before .before .before .before .before .before .before .before .before .put2 .ensures in
-    long s p size (omega (arith, c .before .before .before .before .before .before .before .before .before .before .before .before .before .before .before .if1 .left)) (s .count + c .before .before .before .before .before .before .before .before .before .before .before .before .before .before .before .before .before .before .before .wide .result) (room s + more s p * 64)
-    (c .before .before .before .before .compress-blocks2 .ensures
-    ∙ ap (λ (h : List ℕ). blocks (more s p) h (take (length p - room s) (drop (room s) p))) (c .before .before .before .before .before .before .before .compress-blocks .ensures ∙ ap (blocks 1 (s .chain)) f ∙ one-block (s .chain) (full s p) (length-splice (s .block) (take (room s) p) (s .count % 64) (simp length-take (omega arith)) ∙ size)))
-    (c .before .put3 .ensures ∙ ap (λ (h : List ℕ). splice h 0 (take (length p - (room s + more s p * 64)) (drop (room s + more s p * 64) p))) f)
+    let f = p12 .put2 .ensures in
+    let first = p8 .compress-blocks in
+    long s p size (omega (arith, p16 .if1 .left)) (s .count + p20 .wide .result) (room s + more s p * 64) (first .result) (p5 .compress-blocks2 .result)
+    (first .ensures .0 ∙ ap (blocks 1 (s .chain)) f, first .ensures .1)
+    (p5 .compress-blocks2 .ensures)
+    (c .before .before .put3 .ensures ∙ ap (λ (h : List ℕ). splice h 0 (take (length p - (room s + more s p * 64)) (drop (room s + more s p * 64) p))) f)
     refl
-    (omega (arith, c .before .before .before .before .before .before .before .before .before .before .before .before .before .before .before .before .before .before .before .wide .ensures))
+    (omega (arith, p20 .wide .ensures))
 
 pub absorb-spec : {M : Type 1} → statement M
 absorb-spec =

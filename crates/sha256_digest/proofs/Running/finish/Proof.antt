@@ -4,7 +4,7 @@ use Prim.Native.Nat.{ℕ, _-_, _%_}
 use native.Mathlib.Omega.{arith}
 use lib.ListN.{length, take, length-map}
 use lib.Seq.{length-take-le}
-use Rattle.sha256_digest.specs.Running.{after, absorbed, finished}
+use Rattle.sha256_digest.specs.Running.{after, absorbed, finished, finishedBlocks}
 use Rattle.sha256_digest.proofs.Absorb.{unfilled}
 use borrow.Author.Needs.{needs}
 use Rattle.sha256_digest.proofs.Running.finish.Statement.{statement}
@@ -33,16 +33,23 @@ slice-aggregate-digest-from c =
 
 digest-from-requires : tie.Need-digest-from-requires
 digest-from-requires c κs =
-    let s = c .before .before .before .before .before .before .before .before .args .self in
-    let size : length (s .block) ≡ 64 = simp length-map at (c .before .before .before .before .before .before .before .before .good .0 .1 .1 .1 .0 .1 .0 .1) in
-    ((omega (arith, c .before .before .before .wide .ensures), omega (arith, c .before .before .before .wide .ensures, length-take-le (s .count % 64) (s .block) (omega arith))), c .before .before .before .before .constants .ensures)
+    let p3 = c .before .before .before in
+    let x = p3 .before .before .before .before .before in
+    let s = x .args .self in
+    let size : length (s .block) ≡ 64 = simp length-map at (x .good .0 .1 .1 .1 .0 .1 .0 .1) in
+    let w = p3 .wide .ensures in
+    let l = length-take-le (s .count % 64) (s .block) (omega arith) in
+    ((omega (arith, w), (omega (arith, w, l), omega arith)), p3 .before .constants .ensures)
 
 returns : tie.Need-returns
 returns c =
-    let s = c .before .before .before .before .before .before .before .before .before .args .self in
-    let size : length (s .block) ≡ 64 = simp length-map at (c .before .before .before .before .before .before .before .before .before .good .0 .1 .1 .1 .0 .1 .0 .1) in
-    c .digest-from .ensures
-    ∙ ap finished (ap (λ (n : ℕ). absorbed (after (s .chain) (s .count - n)) (take (s .count % 64) (s .block))) (c .before .before .before .before .wide .ensures) ∙ unfilled s size)
+    let p4 = c .before .before .before .before in
+    let x = p4 .before .before .before .before .before in
+    let s = x .args .self in
+    let size : length (s .block) ≡ 64 = simp length-map at (x .good .0 .1 .1 .1 .0 .1 .0 .1) in
+    let d = c .digest-from .ensures in
+    let e = ap (λ (n : ℕ). absorbed (after (record { value = s .chain; blocks = s .blocks }) (s .count - n)) (take (s .count % 64) (s .block))) (p4 .wide .ensures) ∙ unfilled s size in
+    (d .0 ∙ ap finished e, d .1 ∙ ap finishedBlocks e)
 
 pub finish-spec : {M : Type 1} → statement M
 finish-spec =
