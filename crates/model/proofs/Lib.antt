@@ -22,6 +22,7 @@ pub mod Refusals
 pub mod Remembers
 pub mod Represents
 pub mod Shown
+pub mod Skipped
 pub mod Sound
 pub mod Standings
 pub mod Step
