@@ -1,4 +1,5 @@
-/* The keeper in plain C: the bench's yardstick, and an independent reading of document 01. Portable C, no intrinsics.
+/* The keeper in plain C: the bench's yardstick, and an independent reading of document 01, with what document 02 changes in
+ * skipped receipts. Portable C, no intrinsics.
  * Where document 01 leaves the free slot open it does as the keeper does: the free chain is a queue. */
 #include "plain.h"
 
@@ -480,12 +481,8 @@ uint8_t plain_lookup(const uint8_t *table, size_t table_bytes, uint64_t log, uin
             s = table + slot_at(found.logs, get16(s + S_NEXT));
             looked_at++;
         }
-        if (reference == position) {
-            kind = KEEPER_ASSIGNED;
-            shown = s;
-        } else {
-            kind = KEEPER_SKIPPED;
-        }
+        kind = reference == position ? KEEPER_ASSIGNED : KEEPER_SKIPPED;
+        shown = s;
     }
     put_receipt(receipt, table, name_lookup, kind, log, position, reference, nonce, shown);
     *examined = looked_at;
@@ -526,14 +523,15 @@ static int possible(const uint8_t *c)
         return 0;
     if (kind == KEEPER_ASSIGNED)
         return reference == position;
-    if (end || !all_zero(c + C_VALUE, 8))
+    if (end)
         return 0;
     switch (kind) {
     case KEEPER_UNASSIGNED:
-        return reference < position;
+        return reference < position && all_zero(c + C_VALUE, 8);
     case KEEPER_SKIPPED:
-    case KEEPER_FORGOTTEN:
         return reference > position;
+    case KEEPER_FORGOTTEN:
+        return reference > position && all_zero(c + C_VALUE, 8);
     default:
         return 0;
     }
