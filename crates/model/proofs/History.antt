@@ -20,7 +20,7 @@ use Rattle.model.proofs.Turns.{WideTurn, Each}
 use Rattle.model.proofs.Represents.{LogOk}
 use Rattle.model.proofs.Later.{Later}
 use Rattle.model.proofs.Entries.{EntryAt, in-bounds, rising-one}
-use Rattle.model.proofs.Along.{Keeps, at-keeps, at-later, at-call, at-shown, advanced, truncated}
+use Rattle.model.proofs.Along.{Keeps, at-keeps, at-later, at-call, at-shown, truncated, skipping}
 
 -- one position of one log, at two times
 meet : (l k : Log) → LogOk l → Later l k → (n : ℕ) (v d v′ d′ : List ℕ) → EntryAt l n v d → EntryAt k n v′ d′ → (v ≡ v′) × (d ≡ d′)
@@ -45,13 +45,6 @@ module _ (b : Model) (keeps : Keeps b) (ts : List Turn) (w : Each WideTurn ts) w
           let lt = leb-false i j e in
           let r = meet (at j) (at i) (at-keeps b keeps ts w j .sound g) (at-later b ts j i (omega arith) g) n v′ d′ v d (at-shown b keeps ts w j g n v′ d′ t) (at-shown b keeps ts w i g n v d s) in
           (sym (r .0), sym (r .1))
-
-  -- the log after an advance that skips p
-  pub skipping : (j g p : ℕ) (k : SkipsAt b ts (replies modelTurn b ts) j g p)
-      → logAt (after modelTurn b (take (suc j) ts) .logs) g ≡ entered (logAt (after modelTurn b (take j ts) .logs) g) (newEntry (k .n) (k .value) (k .given))
-  skipping j g p k =
-      let a = at-call b ts j (advance g (k .n) (k .given) (k .value)) (k .call) in
-      ap (λ (x : Model). logAt (x .logs) g) (a .next) ∙ advanced (a .rules) (after modelTurn b (take j ts)) g (k .n) (k .given) (k .value) (k .low) (k .high) (sym (a .reply) ∙ k .accepted)
 
   pub model-unskipped : (i j g p : ℕ) (v d : List ℕ) → SkipsAt b ts (replies modelTurn b ts) j g p → ShowsAt (replies modelTurn b ts) i g p v d → ⊥
   unfolding entered
@@ -89,7 +82,7 @@ module _ (b : Model) (keeps : Keeps b) (ts : List Turn) (w : Each WideTurn ts) w
           let lt = leb-false i j h in
           let q = e .position in
           let a = k .below in
-          let L : Later (entered (at j) jumper) (at i) = subst (λ (l : Log). Later l (at i)) (skipping j g p k) (at-later b ts (suc j) i lt g) in
+          let L : Later (entered (at j) jumper) (at i) = subst (λ (l : Log). Later l (at i)) (skipping b ts j g p k) (at-later b ts (suc j) i lt g) in
           cases (in-cases (e .entry) (at j .entries) (jumper ∷ []) (L .old (e .entry) (e .there) (omega arith)))
 
   pub model-remembered : (i j g p n : ℕ) (v d : List ℕ) → j < i → ForgetsAt ts (replies modelTurn b ts) j g n → p < n → ShowsAt (replies modelTurn b ts) i g p v d → ⊥

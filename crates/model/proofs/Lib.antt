@@ -7,6 +7,7 @@ pub mod FreeHolds
 pub mod Fresh
 pub mod History
 pub mod ImageClaim
+pub mod Jumped
 pub mod Later
 pub mod Lookups
 pub mod MarkedSet
