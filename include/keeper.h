@@ -85,7 +85,7 @@ enum {
                                      next entry; forgotten: the lowest position */
     KEEPER_AT_NONCE = 32,     /* 32: the asker's own fresh bytes */
     KEEPER_AT_VALUE = 64,     /* 32: assigned: the entry's; skipped: that of the entry at the reference, which jumped over the
-                                     position (from a keeper of version 1, zero); else zero */
+                                     position, or zero from an older keeper; else zero */
     KEEPER_AT_DIGEST = 96,    /* 32: the same entry's own digest; else zero */
     KEEPER_AT_TAG = 128       /* 32: HMAC-SHA-256 of the bytes before it, under the keeper's key */
 };
