@@ -1,5 +1,4 @@
-/* The keeper in plain C: the bench's yardstick, and an independent reading of document 01, with what document 02 changes in
- * skipped receipts. Portable C, no intrinsics.
+/* The keeper in plain C: the bench's yardstick, and an independent reading of document 01. Portable C, no intrinsics.
  * Where document 01 leaves the free slot open it does as the keeper does: the free chain is a queue. */
 #include "plain.h"
 
@@ -511,7 +510,7 @@ uint8_t plain_end(const uint8_t *table, size_t table_bytes, uint64_t log, const 
 
 /* ---- the verifier ---- */
 
-/* Whether the 160 bytes are those of a possible entry, the tag apart. */
+/* Whether the 160 bytes are those of a possible entry, the tag apart; a skipped one may show anything (document 02, [3]). */
 static int possible(const uint8_t *c)
 {
     int end = memcmp(c + C_NAME, name_end, 6) == 0;

@@ -32,7 +32,7 @@ extern "C" {
 #endif
 
 /* One more with each change of a prototype, a constant, a rule, or the bytes of a table or receipt. */
-#define KEEPER_VERSION 2
+#define KEEPER_VERSION 4
 
 /* Numbers returned. */
 enum {
