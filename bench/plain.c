@@ -501,12 +501,8 @@ uint8_t plain_lookup(const uint8_t *table, size_t table_bytes, uint64_t log, uin
             s = table + slot_at(found.logs, get16(s + S_NEXT));
             looked_at++;
         }
-        if (reference == position) {
-            kind = KEEPER_ASSIGNED;
-            shown = s;
-        } else {
-            kind = KEEPER_SKIPPED;
-        }
+        kind = reference == position ? KEEPER_ASSIGNED : KEEPER_SKIPPED;
+        shown = s;
     }
     put_receipt(receipt, table, name_lookup, kind, log, position, reference, nonce, shown);
     *examined = looked_at;
@@ -535,7 +531,7 @@ uint8_t plain_end(const uint8_t *table, size_t table_bytes, uint64_t log, const 
 
 /* ---- the verifier ---- */
 
-/* Whether the 160 bytes are those of a possible entry, the tag apart. */
+/* Whether the 160 bytes are those of a possible entry, the tag apart; a skipped one may show anything (document 02, [3]). */
 static int possible(const uint8_t *c)
 {
     int end = memcmp(c + C_NAME, name_end, 6) == 0;
@@ -547,14 +543,15 @@ static int possible(const uint8_t *c)
         return 0;
     if (kind == KEEPER_ASSIGNED)
         return reference == position;
-    if (end || !all_zero(c + C_VALUE, 8))
+    if (end)
         return 0;
     switch (kind) {
     case KEEPER_UNASSIGNED:
-        return reference < position;
+        return reference < position && all_zero(c + C_VALUE, 8);
     case KEEPER_SKIPPED:
-    case KEEPER_FORGOTTEN:
         return reference > position;
+    case KEEPER_FORGOTTEN:
+        return reference > position && all_zero(c + C_VALUE, 8);
     default:
         return 0;
     }

@@ -63,7 +63,7 @@ def answer(library, keys, fields):
     if refused:
         return f"{asked}: refused, {refused} ({WORDS[refused]})", False
     found = f"{KINDS[verdict.kind]}, position {verdict.position}, reference {verdict.reference}"
-    if KINDS[verdict.kind] == "assigned":
+    if KINDS[verdict.kind] in ("assigned", "skipped"):  # a skipped one shows the entry at its reference
         found += f", value {int.from_bytes(receipt[VALUE], 'big')}"
     return f"{asked}: {found}", True
 
