@@ -1,5 +1,5 @@
-/* The keeper in plain C, written for the bench from document 01 and request [1] alone: the same calls as in keeper.h, with the same
- * arguments, numbers and orders of refusal. The constants and the verdict's type are keeper.h's. */
+/* The keeper in plain C, written for the bench from document 01 and request [1] alone: the same calls as in keeper.h, with
+ * the same arguments, numbers and orders of refusal. The constants and the verdict's type are keeper.h's. */
 #ifndef PLAIN_H
 #define PLAIN_H
 

@@ -22,11 +22,11 @@ use Rattle.receipt.specs.Attestation.{receiptSize}
 use Rattle.refusal.proofs.AnswerLaws.{no-fault}
 use Rattle.quorum.specs.Bits.{countBelow, maskBelow}
 use Rattle.quorum.specs.Roster.{size, isRoster, IsRoster, distinct, majority}
-use Rattle.quorum.specs.Certificate.{receiptCount, isCertificate, receiptAt, pairAt, isNone, goodBy, showsIn, shows, certified, goodAt, firstOf, firstPlace, named, certificateRefusal, certificate, Admitted, GoodBy, GenuineBy, GoodAt, Shows, Members, Certified, Named, NamesExactly, Consistent}
+use Rattle.quorum.specs.Certificate.{receiptCount, isCertificate, receiptAt, pairAt, isNone, goodBy, showsIn, shows, certified, goodAt, firstOf, firstPlace, named, unread, certificateBlocks, certificateRefusal, certificate, Admitted, GoodBy, GenuineBy, GoodAt, Shows, Members, Certified, Named, NamesExactly, Consistent}
 use Rattle.quorum.proofs.RosterLaws.{roster-exactly, majority-most, majority-some}
 use Rattle.quorum.proofs.Masks.{mask-lt, mask-bit, mask-by-bits, ones-mask, count-eq, any-at, any-some}
 use Rattle.quorum.proofs.Good.{good-by, good-exactly, good-once}
-use Rattle.quorum.proofs.Tallies.{placed, by-first, receipts-exactly}
+use Rattle.quorum.proofs.Tallies.{placed, Judged, by-first, receipts-exactly}
 
 -- a set that is counted has a member
 pub some-member : (n : ℕ) (f : ℕ → Bool) → 1 ≤ countBelow n f → (i : ℕ) × (i < n) × (f i ≡ true)
@@ -276,7 +276,7 @@ module _ (roster nonce : List ℕ) (log position : ℕ) (cert : List ℕ) where
 
   -- a verdict of number 0: no fault was found
   admitted : certificate roster nonce log position cert .number ≡ 0 → Admitted roster nonce cert × (isNone (firstPlace roster nonce log position cert) ≡ false)
-  unfolding certificate certificateRefusal
+  unfolding certificate certificateRefusal unread
   admitted e =
       let vs = named roster nonce log position cert (firstPlace roster nonce log position cert) in
       let s1 = no-fault 7 (not (eqb (length nonce) 32)) _ vs (λ z. omega arith) e in
@@ -409,8 +409,8 @@ module _ (roster nonce : List ℕ) (log position : ℕ) (cert : List ℕ) where
         λ u. t .1 (u .0, named-as roster cert H G (back roster cert G H a) place mask (u .1)),
       )
 
--- an answer that is the verdict on a list of bytes names exactly
-pub certificate-exactly : {roster nonce : List ℕ} {log position : ℕ} {cert : List ℕ} {given : Answer} → Bytes cert → given ≡ certificate roster nonce log position cert
-    → (given ≡ certificate roster nonce log position cert) × NamesExactly roster nonce log position cert given
-certificate-exactly {roster} {nonce} {log} {position} {cert} {given} b e =
-    (e, subst (NamesExactly roster nonce log position cert) (sym e) (named-genuine roster nonce log position cert b))
+-- an answer that is the verdict on a list of bytes names exactly; the blocks stand beside it
+pub certificate-exactly : {roster nonce : List ℕ} {log position : ℕ} {cert : List ℕ} {given : Answer} {blocks : ℕ} → Bytes cert → Judged roster nonce log position cert given blocks
+    → (given ≡ certificate roster nonce log position cert) × (NamesExactly roster nonce log position cert given × (blocks ≡ certificateBlocks roster nonce cert))
+certificate-exactly {roster} {nonce} {log} {position} {cert} b e =
+    (e .0, (subst (NamesExactly roster nonce log position cert) (sym (e .0)) (named-genuine roster nonce log position cert b), e .1))

@@ -1,3 +1,4 @@
+pub mod BlockLaws
 pub mod Certificates
 pub mod Good
 pub mod Masks

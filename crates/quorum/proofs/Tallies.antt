@@ -14,12 +14,12 @@ use lib.Seq.{getD-set-same, getD-set-other}
 use borrow.Author.Tests.{eq-eqb, ne-eqb, le-leb, lt-leb, eqb-true, leb-true}
 use Rattle.octets.specs.Octets.{same}
 use Rattle.octets.proofs.Tests.{equal-or-not, and-left, and-right, and-both}
-use Rattle.refusal.specs.Order.{firstFault}
+use Rattle.refusal.specs.Order.{firstFault, afterwards}
 use Rattle.refusal.specs.Answer.{Answer, answer, answerWith}
 use Rattle.receipt.specs.Attestation.{receiptSize}
 use Rattle.quorum.specs.Bits.{anyBelow, maskBelow}
 use Rattle.quorum.specs.Roster.{size, isRoster, distinct, majority}
-use Rattle.quorum.specs.Certificate.{receiptCount, isCertificate, receiptAt, pairAt, isNone, goodBy, showsIn, shows, certified, goodAt, firstOf, firstPlace, named, certificateRefusal, certificate, IsCertificate}
+use Rattle.quorum.specs.Certificate.{receiptCount, isCertificate, receiptAt, pairAt, isNone, goodBy, showsIn, shows, certified, goodAt, firstOf, firstPlace, named, unread, pileBlocks, certificateBlocks, certificateRefusal, certificate, IsCertificate}
 use Rattle.quorum.specs.Tally.{goodMember, codeOf, noted, Codes, Bounded, withCode, codeShown, maskAt, triedAt, orElse, firstIn}
 use Rattle.quorum.specs.declared.Found.{Found}
 use Rattle.quorum.specs.declared.Found.the-variants.{At, Nothing}
@@ -199,23 +199,27 @@ module _ (roster nonce : List ℕ) (log position : ℕ) (cert t : List ℕ) wher
 -- the ways out of a certificate's verdict
 
 module _ (roster nonce : List ℕ) (log position : ℕ) (cert : List ℕ) where
-  pub other-nonce : (length nonce ≡ 32 → ⊥) → answer 7 [] ≡ certificate roster nonce log position cert
-  unfolding certificate certificateRefusal firstFault answerWith
-  other-nonce h = simp (ne-eqb (length nonce) 32 h)
+  -- an answer is the verdict, and the blocks are those hashed for it
+  abbrev pub Judged : Answer → ℕ → Type 0
+  Judged given blocks = (given ≡ certificate roster nonce log position cert) × (blocks ≡ certificateBlocks roster nonce cert)
+
+  pub other-nonce : (length nonce ≡ 32 → ⊥) → Judged (answer 7 []) 0
+  unfolding certificate certificateRefusal certificateBlocks unread firstFault answerWith afterwards
+  other-nonce h = simp (ne-eqb (length nonce) 32 h) (refl, refl)
 
   module _ (n : length nonce ≡ 32) where
-    pub no-roster : isRoster roster ≡ false → answer 12 [] ≡ certificate roster nonce log position cert
-    unfolding certificate certificateRefusal firstFault answerWith
-    no-roster h = simp (eq-eqb (length nonce) 32 n, h)
+    pub no-roster : isRoster roster ≡ false → Judged (answer 12 []) 0
+    unfolding certificate certificateRefusal certificateBlocks unread firstFault answerWith afterwards
+    no-roster h = simp (eq-eqb (length nonce) 32 n, h) (refl, refl)
 
     module _ (r : isRoster roster ≡ true) where
-      pub not-whole : (length cert % receiptSize ≡ 0 → ⊥) → answer 9 [] ≡ certificate roster nonce log position cert
-      unfolding certificate certificateRefusal firstFault answerWith isCertificate
-      not-whole h = simp (eq-eqb (length nonce) 32 n, r, ne-eqb (length cert % receiptSize) 0 h)
+      pub not-whole : (length cert % receiptSize ≡ 0 → ⊥) → Judged (answer 9 []) 0
+      unfolding certificate certificateRefusal certificateBlocks unread firstFault answerWith afterwards isCertificate
+      not-whole h = simp (eq-eqb (length nonce) 32 n, r, ne-eqb (length cert % receiptSize) 0 h) (refl, refl)
 
-      pub too-many-receipts : length cert % receiptSize ≡ 0 → 32 < length cert / receiptSize → answer 9 [] ≡ certificate roster nonce log position cert
-      unfolding certificate certificateRefusal firstFault answerWith isCertificate receiptCount
-      too-many-receipts w h = simp (eq-eqb (length nonce) 32 n, r, eq-eqb (length cert % receiptSize) 0 w, lt-leb (length cert / receiptSize) 32 h)
+      pub too-many-receipts : length cert % receiptSize ≡ 0 → 32 < length cert / receiptSize → Judged (answer 9 []) 0
+      unfolding certificate certificateRefusal certificateBlocks unread firstFault answerWith afterwards isCertificate receiptCount
+      too-many-receipts w h = simp (eq-eqb (length nonce) 32 n, r, eq-eqb (length cert % receiptSize) 0 w, lt-leb (length cert / receiptSize) 32 h) (refl, refl)
 
       by-place : (o : Option ℕ) → placed roster nonce log position cert [] o ≡ cond (isNone o) (answer 13 []) (answer 0 (named roster nonce log position cert o))
       by-place none = refl
@@ -227,19 +231,26 @@ module _ (roster nonce : List ℕ) (log position : ℕ) (cert : List ℕ) where
       answer-cond false vs = refl
 
       pub by-first : isCertificate cert ≡ true → placed roster nonce log position cert [] (firstPlace roster nonce log position cert) ≡ certificate roster nonce log position cert
-      unfolding certificate certificateRefusal firstFault
+      unfolding certificate certificateRefusal unread firstFault
       by-first h =
           by-place (firstPlace roster nonce log position cert)
           ∙ answer-cond (isNone (firstPlace roster nonce log position cert)) (named roster nonce log position cert (firstPlace roster nonce log position cert))
           ∙ simp (eq-eqb (length nonce) 32 n, r, h)
 
+      -- the receipts are looked at
+      pub looked-at : isCertificate cert ≡ true → pileBlocks roster cert ≡ certificateBlocks roster nonce cert
+      unfolding certificateBlocks unread firstFault afterwards
+      looked-at h = simp (eq-eqb (length nonce) 32 n, r, h)
+
       -- the last way out: the answer of the search by codes
       pub by-codes : (t : List ℕ) → isCertificate cert ≡ true → Codes roster nonce log position cert (receiptCount cert) t
-          → firstIn t cert (majority (size roster)) (receiptCount cert) (receiptCount cert) 0 ≡ certificate roster nonce log position cert
+          → Judged (firstIn t cert (majority (size roster)) (receiptCount cert) (receiptCount cert) 0) (pileBlocks roster cert)
       unfolding firstPlace
-      by-codes t h c =
-          first-is roster nonce log position cert t (roster-distinct roster r) (omega (arith, roster-most roster r)) c (majority (size roster)) (receiptCount cert) 0 (omega arith)
-          ∙ by-first h
+      by-codes t h c = (
+        first-is roster nonce log position cert t (roster-distinct roster r) (omega (arith, roster-most roster r)) c (majority (size roster)) (receiptCount cert) 0 (omega arith)
+            ∙ by-first h,
+        looked-at h,
+      )
 
 -- the test of a certificate's length, and the conditions
 module _ (cert : List ℕ) where

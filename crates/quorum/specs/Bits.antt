@@ -1,4 +1,5 @@
--- Sets of numbers below n, given by a test: how many there are, whether there is one, and the set as a mask.
+-- Sets of numbers below n, given by a test: how many there are, whether there is one, and the set as a mask; and sums over the
+-- numbers below n.
 use Prim.Native.Nat.{ℕ, zero, suc, _+_, _*_, _^_}
 use mathlib.Core.Bool.{Bool, false, _||_, cond}
 
@@ -6,6 +7,11 @@ use mathlib.Core.Bool.{Bool, false, _||_, cond}
 unfoldable pub countBelow : ℕ → (ℕ → Bool) → ℕ
 countBelow zero f = 0
 countBelow (suc n) f = cond (f n) 1 0 + countBelow n f
+
+-- the sum of a function's values below n
+unfoldable pub sumBelow : ℕ → (ℕ → ℕ) → ℕ
+sumBelow zero f = 0
+sumBelow (suc n) f = sumBelow n f + f n
 
 -- whether a number below n is in the set
 unfoldable pub anyBelow : ℕ → (ℕ → Bool) → Bool

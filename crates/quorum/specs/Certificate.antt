@@ -3,28 +3,34 @@ use Prim.Native.Nat.{ℕ, zero, suc, _*_, _/_, _%_, _^_, _≤_, _<_}
 use mathlib.Core.Path.{_≡_}
 use mathlib.Core.Logic.{_↔_}
 use mathlib.Core.Bool.{Bool, true, false, not, _&&_, _||_, cond}
-use mathlib.Core.List.{List, [], _∷_}
+use mathlib.Core.List.{List, [], _∷_, _++_}
 use mathlib.Core.Option.{Option, none, some}
 use lib.ListN.{length}
 use lib.Count.{ones}
 use lib.Dec.{eqb, leb}
 use Rattle.octets.specs.Octets.{part, same}
 use Rattle.refusal.specs.Number.{numberOf}
-use Rattle.refusal.specs.Order.{fault, firstFault}
+use Rattle.refusal.specs.Order.{Fault, fault, firstFault, afterwards}
 use Rattle.refusal.specs.Answer.{Answer, answer, answerWith}
 use Rattle.receipt.specs.Attestation.{receiptSize, Attestation, readAttestation, pairIn}
+use Rattle.receipt.specs.Possible.{possible}
 use Rattle.receipt.specs.Verdict.{verdict, Genuine}
 use Rattle.receipt.specs.declared.Ask.the-variants.{Lookup}
 use Rattle.receipt.specs.declared.Question.{Question}
-use Rattle.quorum.specs.Bits.{countBelow, anyBelow, maskBelow}
-use Rattle.quorum.specs.Roster.{size, keeperAt, keyAt, isRoster, IsRoster, majority}
+use Rattle.quorum.specs.Bits.{countBelow, sumBelow, anyBelow, maskBelow}
+use Rattle.quorum.specs.Roster.{size, keeperAt, keyAt, isMember, isRoster, IsRoster, majority}
 use Rattle.quorum.specs.declared.Station.{Station}
 use Rattle.quorum.specs.declared.Station.the-variants as variants
 
 -- number and values of each verdict: one that stands carries "the first good receipt" and "the members"
 abbrev pub stationAnswer : Station → Answer
-stationAnswer (variants.Certified place mask) = answer 0 (place ∷ mask ∷ [])
-stationAnswer (variants.Refused why) = answer (numberOf why) []
+stationAnswer (variants.Certified place mask blocks) = answer 0 (place ∷ mask ∷ [])
+stationAnswer (variants.Refused why blocks) = answer (numberOf why) []
+
+-- the blocks hashed for it
+abbrev pub stationBlocks : Station → ℕ
+stationBlocks (variants.Certified place mask blocks) = blocks
+stationBlocks (variants.Refused why blocks) = blocks
 
 -- the number of receipts in a certificate
 unfoldable pub receiptCount : List ℕ → ℕ
@@ -41,6 +47,26 @@ receiptAt cert p = part cert (p * receiptSize) receiptSize
 -- its value and digest
 unfoldable pub pairAt : List ℕ → ℕ → List ℕ
 pairAt cert p = pairIn (receiptAt cert p)
+
+-- what is asked before a receipt is looked at: 7, 12 and 9
+unfoldable pub unread : List ℕ → List ℕ → List ℕ → List Fault
+unread roster nonce cert =
+    fault 7 (not (eqb (length nonce) 32)) ∷
+    fault 12 (not (isRoster roster)) ∷
+    fault 9 (not (isCertificate cert)) ∷ []
+
+-- document 02 [2], the blocks hashed: "6 for each of its receipts that is a possible entry with a roster member's keeper
+-- number"
+unfoldable pub receiptBlocks : List ℕ → List ℕ → ℕ
+receiptBlocks roster r = cond (possible (readAttestation r) && isMember roster (readAttestation r .keeper)) 6 0
+
+-- the receipts of a pile together
+unfoldable pub pileBlocks : List ℕ → List ℕ → ℕ
+pileBlocks roster cert = sumBelow (receiptCount cert) (λ p. receiptBlocks roster (receiptAt cert p))
+
+-- "13 included"; and "0 .. for whatever is refused before it hashes"
+unfoldable pub certificateBlocks : List ℕ → List ℕ → List ℕ → ℕ
+certificateBlocks roster nonce cert = afterwards (firstFault (unread roster nonce cert)) (pileBlocks roster cert) 0
 
 -- no place was found
 abbrev pub isNone : Option ℕ → Bool
@@ -90,12 +116,7 @@ module _ (roster nonce : List ℕ) (log position : ℕ) where
 
     -- "certificate 7, 12, 9, 13"
     unfoldable pub certificateRefusal : Option ℕ
-    certificateRefusal =
-        firstFault
-        (fault 7 (not (eqb (length nonce) 32)) ∷
-        fault 12 (not (isRoster roster)) ∷
-        fault 9 (not (isCertificate cert)) ∷
-        fault 13 (isNone firstPlace) ∷ [])
+    certificateRefusal = firstFault (unread roster nonce cert ++ (fault 13 (isNone firstPlace) ∷ []))
 
     -- the verdict
     unfoldable pub certificate : Answer

@@ -25,6 +25,10 @@ unfoldable pub absent : List ℕ → ℕ → ℕ → Bool
 absent roster x zero = true
 absent roster x (suc n) = not (eqb (keeperAt roster n) x) && absent roster x n
 
+-- x is "a roster member's keeper number"
+unfoldable pub isMember : List ℕ → ℕ → Bool
+isMember roster x = not (absent roster x (size roster))
+
 -- the first n keeper numbers are distinct
 unfoldable pub distinct : List ℕ → ℕ → Bool
 distinct roster zero = true

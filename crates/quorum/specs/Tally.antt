@@ -1,4 +1,5 @@
--- The program's own: the tally that it keeps, a byte for each place, 0 for a receipt that is not good, else its member's number + 1.
+-- The program's own: the tally that it keeps, a byte for each place, 0 for a receipt that is not good, else its member's number + 1;
+-- and the blocks hashed so far.
 use Prim.Native.Nat.{ℕ, zero, suc, _+_, _-_, _^_, _≤_, _<_}
 use mathlib.Core.Path.{_≡_}
 use mathlib.Core.Bool.{Bool, false, _&&_, _||_, cond}
@@ -10,9 +11,9 @@ use lib.Count.{ones}
 use Rattle.octets.specs.Octets.{same}
 use Rattle.refusal.specs.Answer.{Answer, answer}
 use Rattle.receipt.specs.Attestation.{readAttestation}
-use Rattle.quorum.specs.Bits.{maskBelow}
+use Rattle.quorum.specs.Bits.{sumBelow, maskBelow}
 use Rattle.quorum.specs.Roster.{size, keeperAt}
-use Rattle.quorum.specs.Certificate.{goodBy, receiptAt, pairAt}
+use Rattle.quorum.specs.Certificate.{goodBy, receiptAt, pairAt, receiptBlocks}
 use Rattle.quorum.specs.declared.Found.{Found}
 use Rattle.quorum.specs.declared.Found.the-variants.{At, Nothing}
 use Rattle.quorum.specs.declared.Tried.{Tried}
@@ -44,6 +45,10 @@ noted t p Nothing = t
 -- the tally has the first k places
 abbrev pub Codes : List ℕ → List ℕ → ℕ → ℕ → List ℕ → ℕ → List ℕ → Type 0
 Codes roster nonce log position cert k t = (p : ℕ) → p < k → getD t p 0 ≡ codeOf (goodMember roster nonce log position (receiptAt cert p))
+
+-- the blocks hashed for the first k places
+abbrev pub blocksBelow : List ℕ → List ℕ → ℕ → ℕ
+blocksBelow roster cert k = sumBelow k (λ p. receiptBlocks roster (receiptAt cert p))
 
 -- the codes of the first k places have a bit each
 abbrev pub Bounded : List ℕ → ℕ → Type 0

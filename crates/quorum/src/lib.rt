@@ -5,7 +5,7 @@ mod places;
 mod receipts;
 
 ghost use mathlib.Core.Path.{_≡_};
-ghost use Rattle.quorum.specs.Certificate.{certificate, stationAnswer, NamesExactly};
+ghost use Rattle.quorum.specs.Certificate.{certificate, stationAnswer, certificateBlocks, stationBlocks, NamesExactly};
 use counting::tally_of;
 use members::is_roster;
 use members::majority;
@@ -14,10 +14,17 @@ use receipt::RECEIPT;
 use refusal::Refusal;
 
 // The verdict on a certificate: the place of the first good receipt whose pair is certified and the members that show the
-// pair, one bit each; or a refusal.
+// pair, one bit each; or a refusal. Either with the blocks hashed for it.
 pub enum Station {
-    Certified { place: usize, mask: u32 },
-    Refused(Refusal),
+    Certified {
+        place: usize,
+        mask: u32,
+        blocks: u64,
+    },
+    Refused {
+        why: Refusal,
+        blocks: u64,
+    },
 }
 
 // A roster's item, or none.
@@ -26,9 +33,10 @@ pub enum Found {
     Nothing,
 }
 
-// A byte for each place: 0 for a receipt that is not good, else its member's number + 1.
+// A byte for each place: 0 for a receipt that is not good, else its member's number + 1. The blocks hashed so far.
 pub struct Tally {
     pub codes: [u8; 32],
+    pub blocks: u64,
 }
 
 // Whether the pair of a place is certified, with the mask of the members that show it.
@@ -42,22 +50,35 @@ pub enum Tried {
 pub fn certify(roster: &[u8], nonce: &[u8], log: u64, position: u64, cert: &[u8]) -> Station
     ensures answer { λ r. ⌜ stationAnswer r ≡ certificate (now (roster .entry)) (now (nonce .entry)) log position (now (cert .entry)) ⌝ }
     ensures exactly { λ r. ⌜ NamesExactly (now (roster .entry)) (now (nonce .entry)) log position (now (cert .entry)) (stationAnswer r) ⌝ }
+    ensures blocks { λ r. ⌜ stationBlocks r ≡ certificateBlocks (now (roster .entry)) (now (nonce .entry)) (now (cert .entry)) ⌝ }
 {
     if nonce.len() != 32 {
-        return Station::Refused(Refusal::Length);
+        return Station::Refused {
+            why: Refusal::Length,
+            blocks: 0,
+        };
     }
     if !is_roster(roster) {
-        return Station::Refused(Refusal::Roster);
+        return Station::Refused {
+            why: Refusal::Roster,
+            blocks: 0,
+        };
     }
     if cert.len() % RECEIPT != 0 {
-        return Station::Refused(Refusal::NoReceipt);
+        return Station::Refused {
+            why: Refusal::NoReceipt,
+            blocks: 0,
+        };
     }
     let count = cert.len() / RECEIPT;
     if 32 < count {
-        return Station::Refused(Refusal::NoReceipt);
+        return Station::Refused {
+            why: Refusal::NoReceipt,
+            blocks: 0,
+        };
     }
     let need = majority(roster.len() / 40);
     let tally = tally_of(roster, nonce, log, position, cert, count);
     let codes = tally.codes;
-    first_place(&codes, cert, need, count)
+    first_place(&codes, cert, need, count, tally.blocks)
 }

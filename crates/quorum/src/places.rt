@@ -5,7 +5,7 @@ ghost use lib.Bits.{bitOr};
 ghost use lib.ListN.{length, getD};
 ghost use Rattle.octets.specs.Octets.{same};
 ghost use Rattle.receipt.specs.Attestation.{receiptSize};
-ghost use Rattle.quorum.specs.Certificate.{pairAt, stationAnswer};
+ghost use Rattle.quorum.specs.Certificate.{pairAt, stationAnswer, stationBlocks};
 ghost use Rattle.quorum.specs.Tally.{Bounded, withCode, maskAt, triedAt, firstIn};
 use super::Station;
 use super::Tried;
@@ -72,18 +72,25 @@ fn try_place(tally: &[u8], cert: &[u8], need: u32, count: usize, p: usize) -> Tr
     Tried::Fails
 }
 
-// The first good receipt whose pair is certified.
-pub fn first_place(tally: &[u8], cert: &[u8], need: u32, count: usize) -> Station
+// The first good receipt whose pair is certified; the blocks hashed go with the verdict.
+pub fn first_place(tally: &[u8], cert: &[u8], need: u32, count: usize, blocks: u64) -> Station
     requires { ⌜ (count ≤ length (now tally)) × (count * receiptSize ≤ length (now cert)) ⌝ }
     requires { ⌜ Bounded (now tally) count ⌝ }
-    ensures { λ r. ⌜ stationAnswer r ≡ firstIn (now (tally .entry)) (now (cert .entry)) need count count 0 ⌝ }
+    ensures { λ r. ⌜ (stationAnswer r ≡ firstIn (now (tally .entry)) (now (cert .entry)) need count count 0) × (stationBlocks r ≡ blocks) ⌝ }
 {
     let mut p = 0;
     while p < count {
         if let Tried::Stands(mask) = try_place(tally, cert, need, count, p) {
-            return Station::Certified { place: p, mask };
+            return Station::Certified {
+                place: p,
+                mask,
+                blocks,
+            };
         }
         p += 1;
     }
-    Station::Refused(Refusal::TooFew)
+    Station::Refused {
+        why: Refusal::TooFew,
+        blocks,
+    }
 }

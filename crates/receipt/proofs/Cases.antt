@@ -1,17 +1,18 @@
 -- The tests of a receipt, case by case: one law for each `return` of the code.
 use mathlib.Core.Path.{_≡_, refl}
 use Prim.Native.Nat.{ℕ, _≤_, _<_}
-use mathlib.Core.Bool.{true, false}
+use mathlib.Core.Bool.{Bool, true, false, not, cond}
 use mathlib.Core.List.{List, []}
+use mathlib.Core.Option.{none, some}
 use lib.ListN.{length}
 use lib.Dec.{eqb, ltb}
 use borrow.Author.Tests.{eq-eqb, ne-eqb, le-leb, lt-leb}
 use Rattle.octets.specs.Octets.{same, zeros}
-use Rattle.refusal.specs.Order.{firstFault}
-use Rattle.refusal.specs.Answer.{answer, answerWith}
+use Rattle.refusal.specs.Order.{firstFault, afterwards}
+use Rattle.refusal.specs.Answer.{Answer, answer, answerWith}
 use Rattle.receipt.specs.Attestation.{Attestation, LOOKUP, END, readAttestation}
 use Rattle.receipt.specs.Possible.{isName, referenceFits, isBlank, blankFits, possible}
-use Rattle.receipt.specs.Verdict.{carried, answers, asks, isTagged, verifyRefusal, verdict}
+use Rattle.receipt.specs.Verdict.{carried, answers, asks, isTagged, unread, verifyRefusal, verifyBlocks, verdict}
 use Rattle.receipt.specs.declared.Ask.the-variants.{Lookup, End}
 use Rattle.receipt.specs.declared.Question.{Question}
 
@@ -117,33 +118,46 @@ module _ (a : Attestation) where
 -- the verifier's ways out
 
 module _ (key r nonce : List ℕ) (q : Question) where
-  pub key-length : (length key ≡ 32 → ⊥) → answer 7 [] ≡ verdict key r nonce q
-  unfolding verdict verifyRefusal firstFault answerWith
-  key-length h = simp (ne-eqb (length key) 32 h)
+  -- an answer is the verdict, and the blocks are those hashed for it
+  abbrev pub Judged : Answer → ℕ → Type 0
+  Judged given blocks = (given ≡ verdict key r nonce q) × (blocks ≡ verifyBlocks key r nonce)
 
-  pub nonce-length : length key ≡ 32 → (length nonce ≡ 32 → ⊥) → answer 7 [] ≡ verdict key r nonce q
-  unfolding verdict verifyRefusal firstFault answerWith
-  nonce-length k n = simp (eq-eqb (length key) 32 k, ne-eqb (length nonce) 32 n)
+  pub key-length : (length key ≡ 32 → ⊥) → Judged (answer 7 []) 0
+  unfolding verdict verifyRefusal verifyBlocks unread firstFault answerWith afterwards
+  key-length h = simp (ne-eqb (length key) 32 h) (refl, refl)
+
+  pub nonce-length : length key ≡ 32 → (length nonce ≡ 32 → ⊥) → Judged (answer 7 []) 0
+  unfolding verdict verifyRefusal verifyBlocks unread firstFault answerWith afterwards
+  nonce-length k n = simp (eq-eqb (length key) 32 k, ne-eqb (length nonce) 32 n) (refl, refl)
 
   module _ (k : length key ≡ 32) (n : length nonce ≡ 32) where
-    pub receipt-length : (length r ≡ 160 → ⊥) → answer 9 [] ≡ verdict key r nonce q
-    unfolding verdict verifyRefusal firstFault answerWith
-    receipt-length h = simp (eq-eqb (length key) 32 k, eq-eqb (length nonce) 32 n, ne-eqb (length r) 160 h)
+    pub receipt-length : (length r ≡ 160 → ⊥) → Judged (answer 9 []) 0
+    unfolding verdict verifyRefusal verifyBlocks unread firstFault answerWith afterwards
+    receipt-length h = simp (eq-eqb (length key) 32 k, eq-eqb (length nonce) 32 n, ne-eqb (length r) 160 h) (refl, refl)
 
     module _ (h : length r ≡ 160) where
-      pub impossible : possible (readAttestation r) ≡ false → answer 9 [] ≡ verdict key r nonce q
-      unfolding verdict verifyRefusal firstFault answerWith
-      impossible p = simp (eq-eqb (length key) 32 k, eq-eqb (length nonce) 32 n, eq-eqb (length r) 160 h, p)
+      pub impossible : possible (readAttestation r) ≡ false → Judged (answer 9 []) 0
+      unfolding verdict verifyRefusal verifyBlocks unread firstFault answerWith afterwards
+      impossible p = simp (eq-eqb (length key) 32 k, eq-eqb (length nonce) 32 n, eq-eqb (length r) 160 h, p) (refl, refl)
 
-      pub wrong-tag : possible (readAttestation r) ≡ true → isTagged key r ≡ false → answer 10 [] ≡ verdict key r nonce q
-      unfolding verdict verifyRefusal firstFault answerWith
-      wrong-tag p t = simp (eq-eqb (length key) 32 k, eq-eqb (length nonce) 32 n, eq-eqb (length r) 160 h, p, t)
+      pub wrong-tag : possible (readAttestation r) ≡ true → isTagged key r ≡ false → Judged (answer 10 []) 6
+      unfolding verdict verifyRefusal verifyBlocks unread firstFault answerWith afterwards
+      wrong-tag p t = simp (eq-eqb (length key) 32 k, eq-eqb (length nonce) 32 n, eq-eqb (length r) 160 h, p, t) (refl, refl)
 
-      pub other-question : possible (readAttestation r) ≡ true → isTagged key r ≡ true → answers (readAttestation r) q nonce ≡ false → answer 11 [] ≡ verdict key r nonce q
-      unfolding verdict verifyRefusal firstFault answerWith
-      other-question p t a = simp (eq-eqb (length key) 32 k, eq-eqb (length nonce) 32 n, eq-eqb (length r) 160 h, p, t, a)
+      pub other-question : possible (readAttestation r) ≡ true → isTagged key r ≡ true → answers (readAttestation r) q nonce ≡ false → Judged (answer 11 []) 6
+      unfolding verdict verifyRefusal verifyBlocks unread firstFault answerWith afterwards
+      other-question p t a = simp (eq-eqb (length key) 32 k, eq-eqb (length nonce) 32 n, eq-eqb (length r) 160 h, p, t, a) (refl, refl)
 
       pub accepts : possible (readAttestation r) ≡ true → isTagged key r ≡ true → answers (readAttestation r) q nonce ≡ true
-          → answer 0 (carried (readAttestation r)) ≡ verdict key r nonce q
-      unfolding verdict verifyRefusal firstFault answerWith
-      accepts p t a = simp (eq-eqb (length key) 32 k, eq-eqb (length nonce) 32 n, eq-eqb (length r) 160 h, p, t, a)
+          → Judged (answer 0 (carried (readAttestation r))) 6
+      unfolding verdict verifyRefusal verifyBlocks unread firstFault answerWith afterwards
+      accepts p t a = simp (eq-eqb (length key) 32 k, eq-eqb (length nonce) 32 n, eq-eqb (length r) 160 h, p, t, a) (refl, refl)
+
+-- where the lengths are right, the tag is reached exactly if the entry is possible
+pub blocks-by : (key r nonce : List ℕ) → length key ≡ 32 → length nonce ≡ 32 → length r ≡ 160 → verifyBlocks key r nonce ≡ cond (possible (readAttestation r)) 6 0
+unfolding verifyBlocks unread firstFault afterwards
+blocks-by key r nonce k n h = simp (eq-eqb (length key) 32 k, eq-eqb (length nonce) 32 n, eq-eqb (length r) 160 h) (go (possible (readAttestation r)))
+  where
+    go : (b : Bool) → _≡_ {A = ℕ} (afterwards (cond (not b) (some 9) none) 6 0) (cond b 6 0)
+    go true = refl
+    go false = refl

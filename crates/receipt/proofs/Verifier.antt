@@ -17,10 +17,10 @@ use Rattle.octets.proofs.Parts.{part-second, part-add}
 use Rattle.refusal.specs.Answer.{Answer, answer}
 use Rattle.receipt.specs.Attestation.{Attestation, attestedBytes, receiptBytes, readAttestation}
 use Rattle.receipt.specs.Possible.{possible}
-use Rattle.receipt.specs.Verdict.{carried, answers, asks, isTagged, verifyRefusal, verdict, Genuine, AcceptsExactly}
+use Rattle.receipt.specs.Verdict.{carried, answers, asks, isTagged, unread, verifyRefusal, verifyBlocks, verdict, Genuine, AcceptsExactly}
 use Rattle.receipt.specs.declared.Question.{Question}
 use Rattle.refusal.proofs.AnswerLaws.{no-fault}
-use Rattle.receipt.proofs.Cases.{by-ask, accepts}
+use Rattle.receipt.proofs.Cases.{by-ask, Judged, accepts}
 use Rattle.receipt.proofs.Fields.{read-attested, read-sized, attested-read, length-attested}
 use Rattle.receipt.proofs.PossibleLaws.{possible-sound, possible-complete, asks-sound, asks-complete}
 
@@ -74,7 +74,7 @@ module _ (key r nonce : List ℕ) (q : Question) where
       let fit : answers (readAttestation r) q nonce ≡ true =
       ap (λ (y : Attestation). answers y q nonce) read
       ∙ sym (by-ask a q nonce (g .keeper) (g .log) (eq-same (a .nonce) nonce (g .nonce))) ∙ asks-complete a (q .ask) (g .ask) in
-      sym (accepts key r nonce q (g .key) (ap length (sym (g .nonce)) ∙ g .sized .nonce) size ok tag fit) ∙ ap (λ (y : Attestation). answer 0 (carried y)) read
+      sym (accepts key r nonce q (g .key) (ap length (sym (g .nonce)) ∙ g .sized .nonce) size ok tag fit .0) ∙ ap (λ (y : Attestation). answer 0 (carried y)) read
 
   genuine : Bytes r → length key ≡ 32 → length r ≡ 160 → possible (readAttestation r) ≡ true → isTagged key r ≡ true → answers (readAttestation r) q nonce ≡ true
       → Genuine key r nonce q (readAttestation r)
@@ -96,7 +96,7 @@ module _ (key r nonce : List ℕ) (q : Question) where
 
   -- a verdict of number 0: no fault was found
   pub passes : verdict key r nonce q .number ≡ 0 → Passed key r nonce q
-  unfolding verdict verifyRefusal
+  unfolding verdict verifyRefusal unread
   passes e =
       let cs : List ℕ = carried (readAttestation r) in
       let s1 = no-fault 7 (not (eqb (length key) 32)) _ cs (λ z. omega arith) e in
@@ -116,7 +116,7 @@ module _ (key r nonce : List ℕ) (q : Question) where
 
   -- it carries what the bytes say
   pub carries : verdict key r nonce q .number ≡ 0 → verdict key r nonce q ≡ answer 0 (carried (readAttestation r))
-  carries e = let p = passes e in sym (accepts key r nonce q (p .key) (p .nonce) (p .size) (p .possible) (p .tagged) (p .answers))
+  carries e = let p = passes e in sym (accepts key r nonce q (p .key) (p .nonce) (p .size) (p .possible) (p .tagged) (p .answers) .0)
 
   -- an accepted receipt is genuine
   pub sound : Bytes r → verdict key r nonce q .number ≡ 0 → Genuine key r nonce q (readAttestation r)
@@ -130,7 +130,7 @@ module _ (key r nonce : List ℕ) (q : Question) where
     λ g. complete (g .0) (g .1) ∙ ap (answer 0) (g .2),
   )
 
--- an answer that is the verdict on a list of bytes accepts exactly
-pub verdict-exactly : {key r nonce : List ℕ} {q : Question} {given : Answer} → Bytes r → given ≡ verdict key r nonce q
-    → (given ≡ verdict key r nonce q) × AcceptsExactly key r nonce q given
-verdict-exactly {key} {r} {nonce} {q} {given} b e = (e, subst (AcceptsExactly key r nonce q) (sym e) (accepted-exactly key r nonce q b))
+-- an answer that is the verdict on a list of bytes accepts exactly; the blocks stand beside it
+pub verdict-exactly : {key r nonce : List ℕ} {q : Question} {given : Answer} {blocks : ℕ} → Bytes r → Judged key r nonce q given blocks
+    → (given ≡ verdict key r nonce q) × (AcceptsExactly key r nonce q given × (blocks ≡ verifyBlocks key r nonce))
+verdict-exactly {key} {r} {nonce} {q} b e = (e .0, (subst (AcceptsExactly key r nonce q) (sym (e .0)) (accepted-exactly key r nonce q b), e .1))

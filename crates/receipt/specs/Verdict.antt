@@ -3,13 +3,13 @@ use Prim.Native.Nat.{ℕ}
 use mathlib.Core.Path.{_≡_}
 use mathlib.Core.Logic.{_↔_}
 use mathlib.Core.Bool.{Bool, not, _&&_}
-use mathlib.Core.List.{List, [], _∷_}
+use mathlib.Core.List.{List, [], _∷_, _++_}
 use mathlib.Core.Option.{Option}
 use lib.ListN.{length}
 use lib.Dec.{eqb}
 use Rattle.octets.specs.Octets.{same}
 use Rattle.refusal.specs.Number.{numberOf}
-use Rattle.refusal.specs.Order.{fault, firstFault}
+use Rattle.refusal.specs.Order.{Fault, fault, firstFault, afterwards}
 use Rattle.hmac.specs.Hmac.{hmac}
 use Rattle.refusal.specs.Answer.{Answer, answer, answerWith}
 use Rattle.receipt.specs.Attestation.{receiptSize, Attestation, LOOKUP, END, readAttestation, attestedIn, tagIn, receiptBytes, Sized}
@@ -22,8 +22,13 @@ use Rattle.receipt.specs.declared.Verdict.the-variants.{Accepted, Refuse
 
 -- number and values of each verdict: an accepted one carries keeper, log, position, kind and reference
 abbrev pub verdictAnswer : Verdict → Answer
-verdictAnswer (Accepted keeper log position kind reference) = answer 0 (keeper ∷ log ∷ position ∷ kind ∷ reference ∷ [])
-verdictAnswer (Refused why) = answer (numberOf why) []
+verdictAnswer (Accepted keeper log position kind reference blocks) = answer 0 (keeper ∷ log ∷ position ∷ kind ∷ reference ∷ [])
+verdictAnswer (Refused why blocks) = answer (numberOf why) []
+
+-- the blocks hashed for it
+abbrev pub verdictBlocks : Verdict → ℕ
+verdictBlocks (Accepted keeper log position kind reference blocks) = blocks
+verdictBlocks (Refused why blocks) = blocks
 
 -- the values of an accepted receipt that attests a
 unfoldable pub carried : Attestation → List ℕ
@@ -49,16 +54,26 @@ answers a q nonce = eqb (a .keeper) (q .keeper) && (eqb (a .log) (q .log) && (sa
 unfoldable pub isTagged : List ℕ → List ℕ → Bool
 isTagged key r = same (tagIn r) (hmac key (attestedIn r))
 
--- "verifier 7, 9, 10, 11, its receipt's length falling under 9"
+-- what is asked before the tag is looked at: 7 and 9, "its receipt's length falling under 9"
+unfoldable pub unread : List ℕ → List ℕ → List ℕ → List Fault
+unread key r nonce =
+    fault 7 (not (eqb (length key) 32)) ∷
+    fault 7 (not (eqb (length nonce) 32)) ∷
+    fault 9 (not (eqb (length r) receiptSize)) ∷
+    fault 9 (not (possible (readAttestation r))) ∷ []
+
+-- "verifier 7, 9, 10, 11"
 unfoldable pub verifyRefusal : List ℕ → List ℕ → List ℕ → Question → Option ℕ
 verifyRefusal key r nonce q =
     firstFault
-    (fault 7 (not (eqb (length key) 32)) ∷
-    fault 7 (not (eqb (length nonce) 32)) ∷
-    fault 9 (not (eqb (length r) receiptSize)) ∷
-    fault 9 (not (possible (readAttestation r))) ∷
-    fault 10 (not (isTagged key r)) ∷
-    fault 11 (not (answers (readAttestation r) q nonce)) ∷ [])
+    (unread key r nonce ++
+    (fault 10 (not (isTagged key r)) ∷
+    fault 11 (not (answers (readAttestation r) q nonce)) ∷ []))
+
+-- document 02 [2], the blocks hashed: "a verification that reaches the tag 6", and "0 .. for whatever is refused before it
+-- hashes"
+unfoldable pub verifyBlocks : List ℕ → List ℕ → List ℕ → ℕ
+verifyBlocks key r nonce = afterwards (firstFault (unread key r nonce)) 6 0
 
 -- the verdict
 unfoldable pub verdict : List ℕ → List ℕ → List ℕ → Question → Answer

@@ -33,6 +33,7 @@ pub struct Question {
     pub ask: Ask,
 }
 
+// A verdict, with the blocks hashed for it.
 pub enum Verdict {
     Accepted {
         keeper: u64,
@@ -40,6 +41,10 @@ pub enum Verdict {
         position: u64,
         kind: u8,
         reference: u64,
+        blocks: u64,
     },
-    Refused(Refusal),
+    Refused {
+        why: Refusal,
+        blocks: u64,
+    },
 }

@@ -90,8 +90,8 @@ module _ (b b′ : List ℕ) (call : Call) (ch : Change) (sized : wrongLength ca
   change-named = go ch says
     where
       go : (c : Change) → changeReply c ≡ tableStep b call .reply → ChangeNamed b′ (logOf call) c
-      go (change.Done low high) h = tt
-      go (change.Refused why) h =
+      go (change.Done low high blocks) h = tt
+      go (change.Refused why blocks) h =
           let e : b′ ≡ b = after ∙ refused-unchanged b call (numberOf why) (sym h) .0 in
           subst (λ (x : List ℕ). Named x (logOf call) (numberOf why)) (sym e) (refused-named b call (numberOf why) sized (sym h))
 
@@ -103,10 +103,10 @@ module _ (b b′ : List ℕ) (call : Call) (ch : Change) (sized : wrongLength ca
       row = rowIn (readTable (tableStep b call .state)) (logOf call)
 
       go : (c : Change) → changeReply c ≡ tableStep b call .reply → changeAnswer c (rowIn (readTable b′) (logOf call)) ≡ replyAnswer (tableStep b call .reply) (rowIn (readTable (tableStep b call .state)) (logOf call))
-      go (change.Done low high) h =
+      go (change.Done low high blocks) h =
           let d = done-row b bytes call w is low high (sym h) in
           ap₂ (Bounded 0) (sym (d .0)) (sym (d .1)) ∙ ap (λ (r : Reply). replyAnswer r (rowIn (readTable (tableStep b call .state)) (logOf call))) h
-      go (change.Refused why) h = ap₂ (λ (r : Reply) (x : List ℕ). replyAnswer r (rowIn (readTable x) (logOf call))) h after
+      go (change.Refused why blocks) h = ap₂ (λ (r : Reply) (x : List ℕ). replyAnswer r (rowIn (readTable x) (logOf call))) h after
 
 -- ---- a call that only reads
 

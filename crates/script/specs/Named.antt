@@ -21,10 +21,10 @@ Named b g k = k ≢ 1 → k ≢ 2 → (whole b ≡ true) × (g < logsOf b)
 
 -- the same of a change that was refused
 abbrev pub ChangeNamed : List ℕ → ℕ → Change → Type 0
-ChangeNamed b g (change.Done low high) = Unit {0}
-ChangeNamed b g (change.Refused why) = Named b g (numberOf why)
+ChangeNamed b g (change.Done low high blocks) = Unit {0}
+ChangeNamed b g (change.Refused why blocks) = Named b g (numberOf why)
 
 -- the answer to a change: with the low and high position that it gives, or with those of the row
 abbrev pub changeAnswer : Change → Row → Answer
-changeAnswer (change.Done low high) r = Bounded 0 low high
-changeAnswer (change.Refused why) r = replyAnswer (refused (numberOf why)) r
+changeAnswer (change.Done low high blocks) r = Bounded 0 low high
+changeAnswer (change.Refused why blocks) r = replyAnswer (refused (numberOf why)) r

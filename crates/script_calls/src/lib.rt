@@ -1,4 +1,4 @@
-// The calls of a script on its table.
+// The calls of a script on its table. Its answers have no column for the blocks hashed.
 use a2m::Change;
 use a2m::Finding;
 use bigendian::get_u64;
@@ -11,8 +11,8 @@ use receipt_fields::kind_of;
 use receipt_fields::position_of;
 use receipt_fields::reference_of;
 use receipt_fields::value_of;
-use refusal::Outcome;
 use refusal::Refusal;
+use refusal::Worked;
 use script::Answer;
 ghost use mathlib.Core.Path.{_≡_};
 ghost use mathlib.Core.Bool.{true};
@@ -76,12 +76,16 @@ fn changed(table: &[u8], log: u64, change: Change) -> Answer
     ensures { λ r. ⌜ r ≡ changeAnswer change (rowIn (readTable (now (table .entry))) log) ⌝ }
 {
     match change {
-        Change::Done { low, high } => Answer::Bounded {
+        Change::Done {
+            low,
+            high,
+            blocks: _,
+        } => Answer::Bounded {
             number: 0,
             low,
             high,
         },
-        Change::Refused(why) => refused(table, log, why),
+        Change::Refused { why, blocks: _ } => refused(table, log, why),
     }
 }
 
@@ -156,8 +160,11 @@ pub fn lookup(table: &[u8], log: u64, position: u64) -> Answer
     let mut receipt = [0u8; 160];
     let finding = a2m_read::lookup::lookup(table, log, position, &nonce, &mut receipt);
     match finding {
-        Finding::Found { examined: _ } => attested(table, log, &receipt),
-        Finding::Refused(why) => refused(table, log, why),
+        Finding::Found {
+            examined: _,
+            blocks: _,
+        } => attested(table, log, &receipt),
+        Finding::Refused { why, blocks: _ } => refused(table, log, why),
     }
 }
 
@@ -166,9 +173,9 @@ pub fn end(table: &[u8], log: u64) -> Answer
 {
     let nonce = [0u8; 32];
     let mut receipt = [0u8; 160];
-    let outcome = a2m_read::end::end(table, log, &nonce, &mut receipt);
-    match outcome {
-        Outcome::Done => attested(table, log, &receipt),
-        Outcome::Refused(why) => refused(table, log, why),
+    let worked = a2m_read::end::end(table, log, &nonce, &mut receipt);
+    match worked {
+        Worked::Done { blocks: _ } => attested(table, log, &receipt),
+        Worked::Refused { why, blocks: _ } => refused(table, log, why),
     }
 }

@@ -1,8 +1,8 @@
 // A command carried out on the table at the start of a buffer.
 use layout::places::table_size;
 use line::Command;
-use refusal::Outcome;
 use refusal::Refusal;
+use refusal::Worked;
 use script::Answer;
 use script::Turn;
 use script_calls::advance;
@@ -34,13 +34,13 @@ fn format(buffer: &mut [u8], size: usize, logs: u64, slots: u64, keeper: u64) ->
     }
     let n = table_size(logs as usize, slots as usize);
     let key = [0u8; 32];
-    let outcome = table_format::format(&mut buffer[0..n], logs, slots, keeper, &key);
-    match outcome {
-        Outcome::Done => Turn {
+    let worked = table_format::format(&mut buffer[0..n], logs, slots, keeper, &key);
+    match worked {
+        Worked::Done { blocks: _ } => Turn {
             answer: Answer::Plain(0),
             size: n,
         },
-        Outcome::Refused(why) => Turn {
+        Worked::Refused { why, blocks: _ } => Turn {
             answer: Answer::Plain(octets::wide(why.number())),
             size,
         },

@@ -8,13 +8,13 @@ use layout_header::in_range;
 use layout_header::write_header;
 use layout_rows::write_row;
 use layout_slots::write_slot;
-use refusal::Outcome;
 use refusal::Refusal;
+use refusal::Worked;
 ghost use mathlib.Core.Path.{_≡_};
 ghost use Prim.Native.Nat.{_*_, _≤_};
 ghost use lib.ListN.{length, replicate};
-ghost use Rattle.refusal.specs.Number.{outcomeNumber};
 ghost use Rattle.refusal.specs.Order.{answerOf};
+ghost use Rattle.refusal.specs.Work.{workedNumber, workedBlocks};
 ghost use Rattle.layout.specs.Lists.{flat};
 ghost use Rattle.layout.specs.Image.{freshRow, freeSlot};
 ghost use Rattle.layout.specs.Layout.{rowSize, slotSize, tableSize, rowBytes, slotBytes};
@@ -88,22 +88,33 @@ fn fill(table: &mut [u8], logs: usize, slots: usize, keeper: u64, key: &[u8])
     fill_slots(&mut table[start..end], slots);
 }
 
-// Writes the table of so many logs and slots, every log fresh and every slot free; or refuses, and changes nothing.
-pub fn format(table: &mut [u8], logs: u64, slots: u64, keeper: u64, key: &[u8]) -> Outcome
-    ensures answer { λ r. ⌜ outcomeNumber r ≡ answerOf (formatRefusal (length (now (table .entry))) logs slots (length (now (key .entry)))) ⌝ }
+// Writes the table of so many logs and slots, every log fresh and every slot free; or refuses, and changes nothing. It hashes
+// nothing.
+pub fn format(table: &mut [u8], logs: u64, slots: u64, keeper: u64, key: &[u8]) -> Worked
+    ensures answer { λ r. ⌜ workedNumber r ≡ answerOf (formatRefusal (length (now (table .entry))) logs slots (length (now (key .entry)))) ⌝ }
+    ensures blocks { λ r. ⌜ workedBlocks r ≡ 0 ⌝ }
     ensures bytes { λ _. ⌜ now (table .exit) ≡ formatBytes (now (table .entry)) logs slots keeper (now (key .entry)) ⌝ }
 {
     if !in_range(logs, slots) {
-        return Outcome::Refused(Refusal::Counts);
+        return Worked::Refused {
+            why: Refusal::Counts,
+            blocks: 0,
+        };
     }
     let g = logs as usize;
     let s = slots as usize;
     if key.len() != 32 {
-        return Outcome::Refused(Refusal::Length);
+        return Worked::Refused {
+            why: Refusal::Length,
+            blocks: 0,
+        };
     }
     if table.len() != table_size(g, s) {
-        return Outcome::Refused(Refusal::Length);
+        return Worked::Refused {
+            why: Refusal::Length,
+            blocks: 0,
+        };
     }
     fill(table, g, s, keeper, key);
-    Outcome::Done
+    Worked::Done { blocks: 0 }
 }

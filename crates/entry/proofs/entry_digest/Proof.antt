@@ -44,6 +44,7 @@ use denote.Triple.Table.{entered, cited}
 use denote.Triple.Walked.{says, needs, Stays, stay-none, stay-none-slice, walkOf, goes-none, goes-none-slice, Walks, ends-at, walked, walk-meets}
 use denote.Exit.{yes}
 use denote.Signature.{plain}
+use mathlib.Core.Bool.{true}
 use Rattle.bigendian.specs.BigEndian.{be}
 use Rattle.bigendian.proofs.Laws.{length-be}
 use Rattle.sha256.specs.declared.Digest.{Digest}
@@ -77,6 +78,8 @@ use Rattle.entry.proofs.entry_digest.Key.{name as #entry·entry-digest}
 use Rattle.entry.proofs.entry_digest as entry-digest
 use Rattle.entry.proofs.entry_digest.Statement as stated
 use Rattle.entry.proofs.entry_digest.Code as code
+use Rattle.refusal.specs.Unwritten.{unwritten, counts}
+use Rattle.entry.proofs.entry_digest.Code.Mir.{function}
 
 abbrev stayed : Stays (entry-digest.ended .signature .params) (entry-digest.ended .kept)
 stayed = (stay-none (λ _. u64) yes, (stay-none-slice (0 ∷ []) tt (plain (λ _. u8)) yes, (stay-none-slice (1 ∷ []) tt (plain (λ _. u8)) yes, tt)))
@@ -287,3 +290,7 @@ entry-digest-spec 𝓤 H 𝓜 𝓖 𝓡 =
     (cited 𝓤 H (New 𝓤 H (𝓖 .A) (𝓜 .mem) (𝓡 .run)) 𝓜 𝓡 code.env #sha256·new new-def.routine code.calls-sha256-digest·Running·new (new-thm.met 𝓤 H 𝓜 𝓖 𝓡))
     (cited 𝓤 H (Feed 𝓤 H (𝓖 .A) (𝓜 .mem) (𝓡 .run)) 𝓜 𝓡 code.env #entry·feed feed-def.routine code.calls-entry·feed (feed-thm.met 𝓤 H 𝓜 𝓖 𝓡))
     (cited 𝓤 H (Finish 𝓤 H (𝓖 .A) (𝓜 .mem) (𝓡 .run)) 𝓜 𝓡 code.env #sha256·finish finish-def.routine code.calls-sha256-digest·Running·finish (finish-thm.met 𝓤 H 𝓜 𝓖 𝓡)))
+
+-- no literal of the body becomes the count
+pub counted : unwritten counts (function .body) ≡ true
+counted = refl

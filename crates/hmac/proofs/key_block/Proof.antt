@@ -5,10 +5,13 @@ use Rattle.hmac.specs.Hmac.{padded}
 use Rattle.sha256.proofs.Sizes.{length-sha256}
 use native.Mathlib.Omega.{arith}
 use lib.ListN.{length}
-use mathlib.Core.Path.{ap, _∙_}
+use mathlib.Core.Path.{ap, _∙_, _≡_, refl}
 use borrow.Author.Needs.{needs}
+use mathlib.Core.Bool.{true}
 use Rattle.hmac.proofs.key_block.Statement.{statement}
 use Rattle.hmac.proofs.key_block.Tie as tie
+use Rattle.refusal.specs.Unwritten.{unwritten, counts}
+use Rattle.hmac.proofs.key_block.Code.Mir.{function}
 
 slice-aggregate-put : tie.Need-slice-aggregate-put
 slice-aggregate-put c = search needs
@@ -53,3 +56,7 @@ key-block-spec =
     slice-aggregate-put-3
     put-requires-2
     returns-2)
+
+-- no literal of the body becomes the count
+pub counted : unwritten counts (function .body) ≡ true
+counted = refl

@@ -1,6 +1,6 @@
 -- `hmac::tag` meets its contract.
 use native.Mathlib.Omega.{arith}
-use mathlib.Core.Path.{sym, ap, _∙_}
+use mathlib.Core.Path.{sym, ap, _∙_, _≡_, refl}
 use lib.ListN.{length}
 use Rattle.octets.specs.Octets.{splice}
 use Rattle.octets.proofs.Parts.{splice-whole}
@@ -9,8 +9,11 @@ use Rattle.hmac.specs.Hmac.{hmac, tagBlocks}
 use Rattle.hmac.proofs.Sizes.{length-hmac}
 use Rattle.hmac.proofs.TagCases.{other-length, long-key-refused, long-text-refused, accepted}
 use borrow.Author.Needs.{needs}
+use mathlib.Core.Bool.{true}
 use Rattle.hmac.proofs.tag.Statement.{statement}
 use Rattle.hmac.proofs.tag.Tie as tie
+use Rattle.refusal.specs.Unwritten.{unwritten, counts}
+use Rattle.hmac.proofs.tag.Code.Mir.{function}
 
 returns : tie.Need-returns
 returns c =
@@ -66,3 +69,7 @@ tag-spec =
     put-requires
     same-length
     returns-4)
+
+-- no literal of the body becomes the count
+pub counted : unwritten counts (function .body) ≡ true
+counted = refl

@@ -4,11 +4,14 @@ use Rattle.hmac.specs.Hmac.{hmac, tagBlocks}
 use Rattle.hmac.proofs.BlockLaws.{tag-fits, tag-is}
 use native.Mathlib.Omega.{arith}
 use lib.ListN.{length}
-use mathlib.Core.Path.{_≡_, ap, _∙_}
+use mathlib.Core.Path.{_≡_, ap, _∙_, refl}
 use Prim.Native.Nat.{_+_}
 use borrow.Author.Needs.{needs}
+use mathlib.Core.Bool.{true}
 use Rattle.hmac.proofs.tag_of.Statement.{statement}
 use Rattle.hmac.proofs.tag_of.Tie as tie
+use Rattle.refusal.specs.Unwritten.{unwritten, counts}
+use Rattle.hmac.proofs.tag_of.Code.Mir.{function}
 
 key-block-requires : tie.Need-key-block-requires
 key-block-requires c κs = search needs
@@ -70,3 +73,7 @@ tag-of-spec =
     add-blocks
     add-blocks-2
     returns)
+
+-- no literal of the body becomes the count
+pub counted : unwritten counts (function .body) ≡ true
+counted = refl

@@ -1,8 +1,12 @@
 -- `receipt_verify::accepted` meets its contract.
 use Rattle.receipt.specs.Verdict.{carried}
+use mathlib.Core.Path.{refl, _≡_}
 use borrow.Author.Needs.{needs}
+use mathlib.Core.Bool.{true}
 use Rattle.receipt_verify.proofs.accepted.Statement.{statement}
 use Rattle.receipt_verify.proofs.accepted.Tie as tie
+use Rattle.refusal.specs.Unwritten.{unwritten, counts}
+use Rattle.receipt_verify.proofs.accepted.Code.Mir.{function}
 
 keeper-of-requires : tie.Need-keeper-of-requires
 keeper-of-requires c κs = search needs
@@ -21,7 +25,7 @@ kind-of-requires c κs = search needs
 
 returns : tie.Need-returns
 unfolding carried
-returns c = cc (c .before .before .before .before .keeper-of .ensures, c .before .before .before .position-of .ensures, c .before .before .reference-of .ensures, c .before .log-of .ensures, c .kind-of .ensures)
+returns c = (cc (c .before .before .before .before .keeper-of .ensures, c .before .before .before .position-of .ensures, c .before .before .reference-of .ensures, c .before .log-of .ensures, c .kind-of .ensures), refl)
 
 pub accepted-spec : {M : Type 1} → statement M
 accepted-spec =
@@ -33,3 +37,7 @@ accepted-spec =
     log-of-requires
     kind-of-requires
     returns)
+
+-- no literal of the body becomes the count
+pub counted : unwritten counts (function .body) ≡ true
+counted = refl

@@ -3,10 +3,13 @@ use Rattle.receipt.proofs.Cases.{key-length, nonce-length, receipt-length, impo
 use Rattle.receipt.proofs.Verifier.{verdict-exactly}
 use native.Mathlib.Omega.{arith}
 use borrow.Author.Tests.{not-true, not-false}
-use mathlib.Core.Path.{sym, _∙_}
+use mathlib.Core.Path.{sym, _∙_, _≡_, refl}
 use borrow.Author.Needs.{needs}
+use mathlib.Core.Bool.{true}
 use Rattle.receipt_verify.proofs.verify.Statement.{statement}
 use Rattle.receipt_verify.proofs.verify.Tie as tie
+use Rattle.refusal.specs.Unwritten.{unwritten, counts}
+use Rattle.receipt_verify.proofs.verify.Code.Mir.{function}
 
 returns : tie.Need-returns
 returns c =
@@ -40,27 +43,36 @@ is-tagged-requires c κs = search needs
 
 returns-5 : tie.Need-returns-5
 returns-5 c =
-    let a = c .before .before .before .before .before .before .before .before .before .before .args in
-    verdict-exactly (λ i. omega (arith, c .before .before .before .before .before .before .before .before .shared-slice-known2 .given i))
-    (wrong-tag (a .key .now) (a .receipt .now) (a .nonce .now) (a .q) (c .before .before .before .before .before .before .if1 .left) (c .before .before .before .before .before .if2 .left) (c .before .before .before .before .if3 .left) (sym (c .before .before .before .is-possible .ensures) ∙ not-false _ (c .before .before .if4 .left)) (sym (c .before .is-tagged .ensures) ∙ not-true _ (c .if5 .taken)))
+    let p3 = c .before .before .before in
+    let p7 = p3 .before .before .before .before in
+    let a = p7 .before .before .before .before .args in
+    let tag = c .before .before .is-tagged in
+    let w = wrong-tag (a .key .now) (a .receipt .now) (a .nonce .now) (a .q) (p7 .if1 .left) (p3 .before .before .before .if2 .left) (p3 .before .before .if3 .left) (sym (p3 .before .is-possible .ensures) ∙ not-false _ (p3 .if4 .left)) (sym (tag .ensures .0) ∙ not-true _ (c .if5 .taken)) in
+    verdict-exactly (λ i. omega (arith, p7 .before .before .shared-slice-known2 .given i)) (w .0, tag .ensures .1 ∙ w .1)
 
 is-answer-requires : tie.Need-is-answer-requires
 is-answer-requires c κs = search needs
 
 returns-6 : tie.Need-returns-6
 returns-6 c =
-    let a = c .before .before .before .before .before .before .before .before .before .before .before .before .args in
-    verdict-exactly (λ i. omega (arith, c .before .before .before .before .before .before .before .before .before .before .shared-slice-known2 .given i))
-    (other-question (a .key .now) (a .receipt .now) (a .nonce .now) (a .q) (c .before .before .before .before .before .before .before .before .if1 .left) (c .before .before .before .before .before .before .before .if2 .left) (c .before .before .before .before .before .before .if3 .left) (sym (c .before .before .before .before .before .is-possible .ensures) ∙ not-false _ (c .before .before .before .before .if4 .left)) (sym (c .before .before .before .is-tagged .ensures) ∙ not-false _ (c .before .before .if5 .left)) (sym (c .before .is-answer .ensures) ∙ not-true _ (c .if6 .taken)))
+    let p5 = c .before .before .before .before .before in
+    let p9 = p5 .before .before .before .before in
+    let a = p9 .before .before .before .before .args in
+    let tag = c .before .before .before .before .is-tagged in
+    let w = other-question (a .key .now) (a .receipt .now) (a .nonce .now) (a .q) (p9 .if1 .left) (p5 .before .before .before .if2 .left) (p5 .before .before .if3 .left) (sym (p5 .before .is-possible .ensures) ∙ not-false _ (p5 .if4 .left)) (sym (tag .ensures .0) ∙ not-false _ (c .before .before .if5 .left)) (sym (c .before .is-answer .ensures) ∙ not-true _ (c .if6 .taken)) in
+    verdict-exactly (λ i. omega (arith, p9 .before .before .shared-slice-known2 .given i)) (w .0, tag .ensures .1 ∙ w .1)
 
 accepted-requires : tie.Need-accepted-requires
 accepted-requires c κs = search needs
 
 returns-7 : tie.Need-returns-7
 returns-7 c =
-    let a = c .before .before .before .before .before .before .before .before .before .before .before .before .before .args in
-    verdict-exactly (λ i. omega (arith, c .before .before .before .before .before .before .before .before .before .before .before .shared-slice-known2 .given i))
-    (c .accepted .ensures ∙ accepts (a .key .now) (a .receipt .now) (a .nonce .now) (a .q) (c .before .before .before .before .before .before .before .before .before .if1 .left) (c .before .before .before .before .before .before .before .before .if2 .left) (c .before .before .before .before .before .before .before .if3 .left) (sym (c .before .before .before .before .before .before .is-possible .ensures) ∙ not-false _ (c .before .before .before .before .before .if4 .left)) (sym (c .before .before .before .before .is-tagged .ensures) ∙ not-false _ (c .before .before .before .if5 .left)) (sym (c .before .before .is-answer .ensures) ∙ not-false _ (c .before .if6 .left)))
+    let p6 = c .before .before .before .before .before .before in
+    let p10 = p6 .before .before .before .before in
+    let a = p10 .before .before .before .before .args in
+    let tag = c .before .before .before .before .before .is-tagged in
+    let w = accepts (a .key .now) (a .receipt .now) (a .nonce .now) (a .q) (p10 .if1 .left) (p6 .before .before .before .if2 .left) (p6 .before .before .if3 .left) (sym (p6 .before .is-possible .ensures) ∙ not-false _ (p6 .if4 .left)) (sym (tag .ensures .0) ∙ not-false _ (c .before .before .before .if5 .left)) (sym (c .before .before .is-answer .ensures) ∙ not-false _ (c .before .if6 .left)) in
+    verdict-exactly (λ i. omega (arith, p10 .before .before .shared-slice-known2 .given i)) (c .accepted .ensures .0 ∙ w .0, c .accepted .ensures .1 ∙ tag .ensures .1 ∙ w .1)
 
 pub verify-spec : {M : Type 1} → statement M
 verify-spec =
@@ -77,3 +89,7 @@ verify-spec =
     returns-6
     accepted-requires
     returns-7)
+
+-- no literal of the body becomes the count
+pub counted : unwritten counts (function .body) ≡ true
+counted = refl

@@ -2,8 +2,12 @@
 use Rattle.receipt.specs.Writer.{attestationOf}
 use Rattle.receipt.proofs.Writing.{tag-behind, written-length}
 use borrow.Author.Needs.{needs}
+use mathlib.Core.Path.{_≡_, refl}
+use mathlib.Core.Bool.{true}
 use Rattle.receipt_write.proofs.put_receipt.Statement.{statement}
 use Rattle.receipt_write.proofs.put_receipt.Tie as tie
+use Rattle.refusal.specs.Unwritten.{unwritten, counts}
+use Rattle.receipt_write.proofs.put_receipt.Code.Mir.{function}
 
 put-attested-requires : tie.Need-put-attested-requires
 put-attested-requires c κs = search needs
@@ -27,3 +31,7 @@ returns c =
 
 pub put-receipt-spec : {M : Type 1} → statement M
 put-receipt-spec = tie.close (tie.spec put-attested-requires put-tag-requires same-length returns)
+
+-- no literal of the body becomes the count
+pub counted : unwritten counts (function .body) ≡ true
+counted = refl

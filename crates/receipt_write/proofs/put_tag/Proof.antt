@@ -1,13 +1,16 @@
 -- `receipt_write::put_tag` meets its contract.
 use native.Mathlib.Omega.{arith}
-use mathlib.Core.Path.{refl, _∙_}
+use mathlib.Core.Path.{refl, _∙_, _≡_}
 use Rattle.octets.proofs.Parts.{length-part}
 use Rattle.octets.specs.Octets.{part}
 use lib.ListN.{replicate}
 use Rattle.receipt.proofs.Writing.{tag-lent}
 use borrow.Author.Needs.{needs}
+use mathlib.Core.Bool.{true}
 use Rattle.receipt_write.proofs.put_tag.Statement.{statement}
 use Rattle.receipt_write.proofs.put_tag.Tie as tie
+use Rattle.refusal.specs.Unwritten.{unwritten, counts}
+use Rattle.receipt_write.proofs.put_tag.Code.Mir.{function}
 
 slice-aggregate-put : tie.Need-slice-aggregate-put
 slice-aggregate-put c = search needs
@@ -71,3 +74,7 @@ put-tag-spec =
     blocks-requires
     same-length
     returns)
+
+-- no literal of the body becomes the count
+pub counted : unwritten counts (function .body) ≡ true
+counted = refl

@@ -1,12 +1,15 @@
 -- `receipt_write::write` meets its contract.
-use mathlib.Core.Path.{_∙_}
+use mathlib.Core.Path.{_∙_, _≡_, refl}
 use Rattle.receipt.specs.Writer.{attestationOf}
 use Rattle.receipt.specs.Attestation.{receiptBytes}
 use Rattle.refusal.proofs.WorkLaws.{refused-works, done-works}
 use Rattle.receipt.proofs.Writing.{other-key, other-nonce, other-value, other-digest, other-buffer, writes}
 use borrow.Author.Needs.{needs}
+use mathlib.Core.Bool.{true}
 use Rattle.receipt_write.proofs.write.Statement.{statement}
 use Rattle.receipt_write.proofs.write.Tie as tie
+use Rattle.refusal.specs.Unwritten.{unwritten, counts}
+use Rattle.receipt_write.proofs.write.Code.Mir.{function}
 
 returns : tie.Need-returns
 returns c =
@@ -61,3 +64,7 @@ write-spec =
     put-receipt-requires
     same-length
     returns-6)
+
+-- no literal of the body becomes the count
+pub counted : unwritten counts (function .body) ≡ true
+counted = refl

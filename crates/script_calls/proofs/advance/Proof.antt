@@ -35,7 +35,7 @@ changed-requires c κs = let a = c .before .before .before .before .before .befo
     let q = c .before .before .before .before .before .before .before .placed2 .ensures in
     change-named b (r .last .0) (advance (a .log) (a .position) (placed (a .digest)) (placed (a .value))) (r .result) (advance-sized (a .log) (a .position) (a .digest) (a .value))
     (r .ensures .0 ∙ ap₂ (λ (d x : List ℕ). tableStep b (advance (a .log) (a .position) d x) .reply) p q)
-    (r .ensures .1 ∙ ap₂ (λ (d x : List ℕ). tableStep b (advance (a .log) (a .position) d x) .state) p q)
+    (r .ensures .1 .1 ∙ ap₂ (λ (d x : List ℕ). tableStep b (advance (a .log) (a .position) d x) .state) p q)
 
 same-length : tie.Need-same-length
 same-length c = search needs
@@ -46,7 +46,7 @@ returns c = let a = c .before .before .before .before .before .before .before .b
     let b = a .table .now in
     let p = c .before .before .before .before .before .before .before .before .before .placed .ensures in
     let q = c .before .before .before .before .before .before .before .before .placed2 .ensures in
-    let s = r .ensures .1 ∙ ap₂ (λ (d x : List ℕ). tableStep b (advance (a .log) (a .position) d x) .state) p q in (
+    let s = r .ensures .1 .1 ∙ ap₂ (λ (d x : List ℕ). tableStep b (advance (a .log) (a .position) d x) .state) p q in (
       c .changed .ensures
           ∙ change-answers b (r .last .0) (advance (a .log) (a .position) (placed (a .digest)) (placed (a .value))) (r .result) (advance-sized (a .log) (a .position) (a .digest) (a .value))
           (r .ensures .0 ∙ ap₂ (λ (d x : List ℕ). tableStep b (advance (a .log) (a .position) d x) .reply) p q) s (λ i. omega (arith, c .before .before .before .before .before .before .before .before .before .before .slice-known .given i)) (omega arith) (advance-changes (a .log) (a .position) (placed (a .digest)) (placed (a .value))),

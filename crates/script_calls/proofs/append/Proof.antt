@@ -28,7 +28,7 @@ changed-requires c κs = let a = c .before .before .before .before .before .befo
     let p = c .before .before .before .before .before .before .placed .ensures in
     change-named b (r .last .0) (append (a .log) (placed (a .value))) (r .result) (append-sized (a .log) (a .value))
     (r .ensures .0 ∙ ap (λ (x : List ℕ). tableStep b (append (a .log) x) .reply) p)
-    (r .ensures .1 ∙ ap (λ (x : List ℕ). tableStep b (append (a .log) x) .state) p)
+    (r .ensures .1 .1 ∙ ap (λ (x : List ℕ). tableStep b (append (a .log) x) .state) p)
 
 same-length : tie.Need-same-length
 same-length c = search needs
@@ -38,7 +38,7 @@ returns c = let a = c .before .before .before .before .before .before .before .b
     let r = c .before .before .before .before .append in
     let b = a .table .now in
     let p = c .before .before .before .before .before .before .before .placed .ensures in
-    let s = r .ensures .1 ∙ ap (λ (x : List ℕ). tableStep b (append (a .log) x) .state) p in (
+    let s = r .ensures .1 .1 ∙ ap (λ (x : List ℕ). tableStep b (append (a .log) x) .state) p in (
       c .changed .ensures
           ∙ change-answers b (r .last .0) (append (a .log) (placed (a .value))) (r .result) (append-sized (a .log) (a .value))
           (r .ensures .0 ∙ ap (λ (x : List ℕ). tableStep b (append (a .log) x) .reply) p) s (λ i. omega (arith, c .before .before .before .before .before .before .before .before .slice-known .given i)) tt (append-changes (a .log) (placed (a .value))),

@@ -1,7 +1,7 @@
 -- `script_calls::end` meets its contract.
 use native.Mathlib.Omega.{arith}
 use Rattle.script.proofs.CallLaws.{refused-named}
-use Rattle.refusal.specs.declared.Outcome.{Outcome}
+use Rattle.refusal.specs.declared.Worked.{Worked}
 use Rattle.octets.specs.Octets.{zeros}
 use Rattle.a2m.specs.ImageCalls.{wrongLength}
 use Rattle.a2m.specs.Opened.{endReply}
@@ -31,31 +31,31 @@ attested-requires : tie.Need-attested-requires
 unfolding zeros
 attested-requires c κs = let a = c .before .before .before .before .before .before .before .before .args in
     let l = c .before .before .before .before .end in
-    let e = ap (λ (x : Outcome). endReply x (l .last .1 .1 .1 .0)) (sym (c .before .enum-told .given .1)) ∙ l .ensures .0 in
+    let e = ap (λ (x : Worked). endReply x (l .last .1 .1 .1 .0)) (sym (c .before .enum-told .given .1)) ∙ l .ensures .0 in
     (reply-accepted (a .table .now) (end (a .log) (zeros 32) 160) (λ k h. ended-not (l .last .1 .1 .1 .0) k (e ∙ h)), search needs)
 
-enum-known-outcome : tie.Need-enum-known-outcome
-enum-known-outcome c = search needs
+enum-known-worked : tie.Need-enum-known-worked
+enum-known-worked c = search needs
 
 refused-requires : tie.Need-refused-requires
 unfolding zeros wrongLength
 refused-requires c κs = let a = c .before .before .before .before .before .before .before .before .args in
     let l = c .before .before .before .before .end in
-    let e = ap (λ (x : Outcome). endReply x (l .last .1 .1 .1 .0)) (sym (c .before .outcome .given .1)) ∙ l .ensures .0 in
+    let e = ap (λ (x : Worked). endReply x (l .last .1 .1 .1 .0)) (sym (c .before .worked .given .1)) ∙ l .ensures .0 in
     refused-named (a .table .now) (end (a .log) (zeros 32) 160) _ refl (sym e)
 
 returns : tie.Need-returns
 unfolding zeros
 returns c = let a = c .before .before .before .before .before .before .before .before .before .args in
     let l = c .before .before .before .before .before .end in
-    let e = ap (λ (x : Outcome). endReply x (l .last .1 .1 .1 .0)) (sym (c .before .before .enum-told .given .1)) ∙ l .ensures .0 in
+    let e = ap (λ (x : Worked). endReply x (l .last .1 .1 .1 .0)) (sym (c .before .before .enum-told .given .1)) ∙ l .ensures .0 in
     c .attested .ensures ∙ reply-answers (a .table .now) (λ i. omega (arith, c .before .before .before .before .before .before .before .before .shared-slice-known .given i)) (end (a .log) (zeros 32) 160) tt _ e
 
 returns-2 : tie.Need-returns-2
 unfolding zeros
 returns-2 c = let a = c .before .before .before .before .before .before .before .before .before .args in
     let l = c .before .before .before .before .before .end in
-    let e = ap (λ (x : Outcome). endReply x (l .last .1 .1 .1 .0)) (sym (c .before .before .outcome .given .1)) ∙ l .ensures .0 in
+    let e = ap (λ (x : Worked). endReply x (l .last .1 .1 .1 .0)) (sym (c .before .before .worked .given .1)) ∙ l .ensures .0 in
     c .refused .ensures ∙ reply-answers (a .table .now) (λ i. omega (arith, c .before .before .before .before .before .before .before .before .shared-slice-known .given i)) (end (a .log) (zeros 32) 160) tt _ e
 
 pub end-spec : {M : Type 1} → statement M
@@ -68,7 +68,7 @@ end-spec =
     enum-told
     slice-aggregate-attested
     attested-requires
-    enum-known-outcome
+    enum-known-worked
     refused-requires
     returns
     returns-2)

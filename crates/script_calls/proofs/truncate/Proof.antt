@@ -16,7 +16,7 @@ changed-requires : tie.Need-changed-requires
 unfolding wrongLength
 changed-requires c κs = let a = c .before .before .before .before .before .before .args in
     let r = c .before .before .before .truncate in
-    change-named (a .table .now) (r .last .0) (truncate (a .log) (a .position)) (r .result) refl (r .ensures .0) (r .ensures .1)
+    change-named (a .table .now) (r .last .0) (truncate (a .log) (a .position)) (r .result) refl (r .ensures .0) (r .ensures .1 .1)
 
 same-length : tie.Need-same-length
 same-length c = search needs
@@ -25,7 +25,7 @@ returns : tie.Need-returns
 unfolding wrongLength
 returns c = let a = c .before .before .before .before .before .before .before .args in
     let r = c .before .before .before .before .truncate in
-    (c .changed .ensures ∙ change-answers (a .table .now) (r .last .0) (truncate (a .log) (a .position)) (r .result) refl (r .ensures .0) (r .ensures .1) (λ i. omega (arith, c .before .before .before .before .before .before .slice-known .given i)) (omega arith) (truncate-changes (a .log) (a .position)), r .ensures .1)
+    (c .changed .ensures ∙ change-answers (a .table .now) (r .last .0) (truncate (a .log) (a .position)) (r .result) refl (r .ensures .0) (r .ensures .1 .1) (λ i. omega (arith, c .before .before .before .before .before .before .slice-known .given i)) (omega arith) (truncate-changes (a .log) (a .position)), r .ensures .1 .1)
 
 pub truncate-spec : {M : Type 1} → statement M
 truncate-spec = tie.close (tie.spec truncate-requires changed-requires same-length returns)

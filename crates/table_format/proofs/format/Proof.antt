@@ -1,6 +1,6 @@
 -- `table_format::format` meets its contract.
 use borrow.Author.Tests.{not-true, not-false}
-use mathlib.Core.Path.{sym, _∙_}
+use mathlib.Core.Path.{refl, sym, _∙_}
 use Rattle.layout.proofs.HeaderLaws.{in-range}
 use Rattle.table.proofs.FormatLaws.{refused-counts, refused-key, refused-buffer, accepted}
 use borrow.Author.Needs.{needs}
@@ -11,16 +11,22 @@ in-range-requires : tie.Need-in-range-requires
 in-range-requires c κs = search needs
 
 returns : tie.Need-returns
-returns c = let a = c .before .before .before .before .args in refused-counts (a .table .now) (a .logs) (a .slots) (a .keeper) (a .key .now) (sym (c .before .in-range .ensures) ∙ not-true _ (c .if1 .taken))
+returns c = let a = c .before .before .before .before .args in
+    let e = refused-counts (a .table .now) (a .logs) (a .slots) (a .keeper) (a .key .now) (sym (c .before .in-range .ensures) ∙ not-true _ (c .if1 .taken)) in
+    (e .0, (refl, e .1))
 
 returns-2 : tie.Need-returns-2
-returns-2 c = let a = c .before .before .before .before .before .args in refused-key (a .table .now) (a .logs) (a .slots) (a .keeper) (a .key .now) (sym (c .before .before .in-range .ensures) ∙ not-false _ (c .before .if1 .left)) (c .if2 .taken)
+returns-2 c = let a = c .before .before .before .before .before .args in
+    let e = refused-key (a .table .now) (a .logs) (a .slots) (a .keeper) (a .key .now) (sym (c .before .before .in-range .ensures) ∙ not-false _ (c .before .if1 .left)) (c .if2 .taken) in
+    (e .0, (refl, e .1))
 
 table-size-requires : tie.Need-table-size-requires
 table-size-requires c κs = let a = c .before .before .before .before .before .args in let r = in-range (a .logs) (a .slots) (sym (c .before .before .in-range .ensures) ∙ not-false _ (c .before .if1 .left)) in (r .logs-most, r .slots-most)
 
 returns-3 : tie.Need-returns-3
-returns-3 c = let a = c .before .before .before .before .before .before .before .args in refused-buffer (a .table .now) (a .logs) (a .slots) (a .keeper) (a .key .now) (sym (c .before .before .before .before .in-range .ensures) ∙ not-false _ (c .before .before .before .if1 .left)) (λ e. c .if3 .taken (e ∙ sym (c .before .table-size .ensures)))
+returns-3 c = let a = c .before .before .before .before .before .before .before .args in
+    let e = refused-buffer (a .table .now) (a .logs) (a .slots) (a .keeper) (a .key .now) (sym (c .before .before .before .before .in-range .ensures) ∙ not-false _ (c .before .before .before .if1 .left)) (λ e. c .if3 .taken (e ∙ sym (c .before .table-size .ensures))) in
+    (e .0, (refl, e .1))
 
 fill-requires : tie.Need-fill-requires
 fill-requires c κs = let a = c .before .before .before .before .before .before .before .before .args in let r = in-range (a .logs) (a .slots) (sym (c .before .before .before .before .before .in-range .ensures) ∙ not-false _ (c .before .before .before .before .if1 .left)) in ((r .logs-most, r .slots-most), (c .before .if3 .left ∙ c .before .before .table-size .ensures, c .before .before .before .if2 .left))
@@ -29,7 +35,9 @@ same-length : tie.Need-same-length
 same-length c = search needs
 
 returns-4 : tie.Need-returns-4
-returns-4 c = let a = c .before .before .before .before .before .before .before .before .before .before .before .args in accepted (a .table .now) (a .logs) (a .slots) (a .keeper) (a .key .now) (c .before .before .fill .last .0) (sym (c .before .before .before .before .before .before .before .before .in-range .ensures) ∙ not-false _ (c .before .before .before .before .before .before .before .if1 .left)) (c .before .before .before .before .before .before .if2 .left) (c .before .before .before .before .if3 .left ∙ c .before .before .before .before .before .table-size .ensures) (c .before .before .fill .ensures)
+returns-4 c = let a = c .before .before .before .before .before .before .before .before .before .before .before .args in
+    let e = accepted (a .table .now) (a .logs) (a .slots) (a .keeper) (a .key .now) (c .before .before .fill .last .0) (sym (c .before .before .before .before .before .before .before .before .in-range .ensures) ∙ not-false _ (c .before .before .before .before .before .before .before .if1 .left)) (c .before .before .before .before .before .before .if2 .left) (c .before .before .before .before .if3 .left ∙ c .before .before .before .before .before .table-size .ensures) (c .before .before .fill .ensures) in
+    (e .0, (refl, e .1))
 
 pub format-spec : {M : Type 1} → statement M
 format-spec =

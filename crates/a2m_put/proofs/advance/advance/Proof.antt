@@ -4,10 +4,13 @@ use Rattle.a2m.specs.Opened.{changeReply, changeBlocks}
 use Rattle.a2m.specs.Call.{advance}
 use Rattle.a2m.proofs.CallLaws.{advance-digest, advance-value, advance-sized, unopened, at-log}
 use Rattle.a2m.proofs.OpenedLaws.{opened}
-use mathlib.Core.Path.{refl, sym, _∙_}
+use mathlib.Core.Path.{refl, sym, _∙_, _≡_}
 use borrow.Author.Needs.{needs}
+use mathlib.Core.Bool.{true}
 use Rattle.a2m_put.proofs.advance.advance.Statement.{statement}
 use Rattle.a2m_put.proofs.advance.advance.Tie as tie
+use Rattle.refusal.specs.Unwritten.{unwritten, counts}
+use Rattle.a2m_put.proofs.advance.advance.Code.Mir.{function}
 
 returns : tie.Need-returns
 returns c = let a = c .before .before .before .before .args in advance-digest (a .table .now) (a .position) (a .digest .now) (a .value .now) (a .log) (c .if1 .taken)
@@ -54,3 +57,7 @@ advance-spec =
     returns-3
     same-length-2
     returns-4)
+
+-- no literal of the body becomes the count
+pub counted : unwritten counts (function .body) ≡ true
+counted = refl

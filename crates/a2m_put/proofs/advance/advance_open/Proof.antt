@@ -5,10 +5,13 @@ use Rattle.a2m.proofs.CallLaws.{advance-position, advance-full, advance-done, a
 use Rattle.entry.proofs.DigestLaws.{length-entryDigest}
 use mathlib.Core.Logic.{_≢_}
 use native.Mathlib.Omega.{arith}
-use mathlib.Core.Path.{ap, _∙_}
+use mathlib.Core.Path.{ap, _∙_, _≡_, refl}
 use borrow.Author.Needs.{needs}
+use mathlib.Core.Bool.{true}
 use Rattle.a2m_put.proofs.advance.advance_open.Statement.{statement}
 use Rattle.a2m_put.proofs.advance.advance_open.Tie as tie
+use Rattle.refusal.specs.Unwritten.{unwritten, counts}
+use Rattle.a2m_put.proofs.advance.advance_open.Code.Mir.{function}
 
 returns : tie.Need-returns
 returns c = let a = c .before .before .before .before .before .before .args in let p = c .before .before .before .before .before .before .pre in advance-position (a .table .now) (a .position) (a .digest .now) (a .value .now) (a .view) (p .0) (p .1 .0) (p .1 .1) (c .if1 .taken)
@@ -62,3 +65,7 @@ advance-open-spec =
     enter-requires
     same-length
     returns-3)
+
+-- no literal of the body becomes the count
+pub counted : unwritten counts (function .body) ≡ true
+counted = refl

@@ -4,10 +4,13 @@ use Rattle.a2m.specs.Opened.{changeReply, changeBlocks}
 use Rattle.a2m.specs.Call.{append}
 use Rattle.a2m.proofs.CallLaws.{append-length, append-sized, unopened, at-log}
 use Rattle.a2m.proofs.OpenedLaws.{opened}
-use mathlib.Core.Path.{refl, sym, _∙_}
+use mathlib.Core.Path.{refl, sym, _∙_, _≡_}
 use borrow.Author.Needs.{needs}
+use mathlib.Core.Bool.{true}
 use Rattle.a2m_put.proofs.append.append.Statement.{statement}
 use Rattle.a2m_put.proofs.append.append.Tie as tie
+use Rattle.refusal.specs.Unwritten.{unwritten, counts}
+use Rattle.a2m_put.proofs.append.append.Code.Mir.{function}
 
 returns : tie.Need-returns
 returns c = append-length (c .before .before .before .args .table .now) (c .before .before .before .args .value .now) (c .before .before .before .args .log) (c .if1 .taken)
@@ -52,3 +55,7 @@ append-spec =
     returns-2
     same-length-2
     returns-3)
+
+-- no literal of the body becomes the count
+pub counted : unwritten counts (function .body) ≡ true
+counted = refl

@@ -6,10 +6,13 @@ use Rattle.entry.proofs.DigestLaws.{length-entryDigest}
 use Rattle.a2m.proofs.OpenedLaws.{opened-counted, last-most}
 use mathlib.Core.Logic.{_≢_}
 use native.Mathlib.Omega.{arith}
-use mathlib.Core.Path.{ap, _∙_}
+use mathlib.Core.Path.{ap, _∙_, _≡_, refl}
 use borrow.Author.Needs.{needs}
+use mathlib.Core.Bool.{true}
 use Rattle.a2m_put.proofs.append.append_open.Statement.{statement}
 use Rattle.a2m_put.proofs.append.append_open.Tie as tie
+use Rattle.refusal.specs.Unwritten.{unwritten, counts}
+use Rattle.a2m_put.proofs.append.append_open.Code.Mir.{function}
 
 returns : tie.Need-returns
 returns c = let a = c .before .before .before .before .before .args in append-spent (a .table .now) (a .value .now) (a .view) (c .before .before .before .before .before .pre .0) (c .before .before .before .before .before .pre .1) (c .if1 .taken)
@@ -60,3 +63,7 @@ append-open-spec =
     enter-requires
     same-length
     returns-3)
+
+-- no literal of the body becomes the count
+pub counted : unwritten counts (function .body) ≡ true
+counted = refl

@@ -4,10 +4,13 @@ use Prim.Native.Nat.{ℕ}
 use mathlib.Core.List.{List}
 use Rattle.entry.specs.Digest.{entryDigest}
 use Rattle.a2m.proofs.SlotLaws.{none-before, digest-long}
-use mathlib.Core.Path.{ap, _∙_}
+use mathlib.Core.Path.{ap, _∙_, _≡_, refl}
 use borrow.Author.Needs.{needs}
+use mathlib.Core.Bool.{true}
 use Rattle.a2m_put.proofs.digest.digest_after.Statement.{statement}
 use Rattle.a2m_put.proofs.digest.digest_after.Tie as tie
+use Rattle.refusal.specs.Unwritten.{unwritten, counts}
+use Rattle.a2m_put.proofs.digest.digest_after.Code.Mir.{function}
 
 slice-aggregate-entry-digest : tie.Need-slice-aggregate-entry-digest
 slice-aggregate-entry-digest c = search needs
@@ -38,3 +41,7 @@ digest-after-spec =
     digest-at-requires
     entry-digest-requires-2
     returns-2)
+
+-- no literal of the body becomes the count
+pub counted : unwritten counts (function .body) ≡ true
+counted = refl

@@ -3,10 +3,13 @@ use Rattle.octets.specs.Octets.{zeros}
 use lib.ListN.{length}
 use Rattle.a2m.proofs.ReadLaws.{key-size, attest-slot, attest-none}
 use Rattle.a2m.proofs.SlotLaws.{value-size, digest-size}
-use mathlib.Core.Path.{refl, ap, _∙_}
+use mathlib.Core.Path.{refl, ap, _∙_, _≡_}
 use borrow.Author.Needs.{needs}
+use mathlib.Core.Bool.{true}
 use Rattle.a2m_read.proofs.attest.attest.Statement.{statement}
 use Rattle.a2m_read.proofs.attest.attest.Tie as tie
+use Rattle.refusal.specs.Unwritten.{unwritten, counts}
+use Rattle.a2m_read.proofs.attest.attest.Code.Mir.{function}
 
 key-of-requires : tie.Need-key-of-requires
 key-of-requires c κs = search needs
@@ -59,3 +62,7 @@ attest-spec =
     put-receipt-requires-2
     same-length-2
     returns-2)
+
+-- no literal of the body becomes the count
+pub counted : unwritten counts (function .body) ≡ true
+counted = refl

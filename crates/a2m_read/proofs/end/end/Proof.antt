@@ -6,10 +6,13 @@ use Rattle.a2m.specs.Opened.{endReply}
 use Rattle.a2m.specs.Call.{end}
 use Rattle.a2m.proofs.ReadLaws.{end-nonce, end-receipt, end-sized, read-unopened, read-at-log}
 use Rattle.a2m.proofs.OpenedLaws.{opened}
-use mathlib.Core.Path.{refl, sym, _∙_}
+use mathlib.Core.Path.{refl, sym, _∙_, _≡_}
 use borrow.Author.Needs.{needs}
+use mathlib.Core.Bool.{true}
 use Rattle.a2m_read.proofs.end.end.Statement.{statement}
 use Rattle.a2m_read.proofs.end.end.Tie as tie
+use Rattle.refusal.specs.Unwritten.{unwritten, counts}
+use Rattle.a2m_read.proofs.end.end.Code.Mir.{function}
 
 returns : tie.Need-returns
 returns c = let a = c .before .before .before .before .args in end-nonce (a .table .now) (a .nonce .now) (a .receipt .now) (a .log) (c .if1 .taken)
@@ -52,3 +55,7 @@ end-spec =
     same-length
     returns-3
     returns-4)
+
+-- no literal of the body becomes the count
+pub counted : unwritten counts (function .body) ≡ true
+counted = refl

@@ -3,8 +3,12 @@ use Rattle.a2m.proofs.ReadLaws.{end-fresh, end-done}
 use Rattle.a2m.proofs.OpenedLaws.{opened-counted, opened-long, opened-log, last-most}
 use native.Mathlib.Omega.{arith}
 use borrow.Author.Needs.{needs}
+use mathlib.Core.Path.{_≡_, refl}
+use mathlib.Core.Bool.{true}
 use Rattle.a2m_read.proofs.end.end_open.Statement.{statement}
 use Rattle.a2m_read.proofs.end.end_open.Tie as tie
+use Rattle.refusal.specs.Unwritten.{unwritten, counts}
+use Rattle.a2m_read.proofs.end.end_open.Code.Mir.{function}
 
 returns : tie.Need-returns
 returns c = let a = c .before .before .before .before .before .before .args in let p = c .before .before .before .before .before .before .pre in end-fresh (a .table .now) (a .nonce .now) (a .receipt .now) (a .view) (p .0) (p .1 .0) (p .1 .1) (c .if1 .taken)
@@ -30,3 +34,7 @@ returns-2 c = let p12 = c .before .before .before .before .before .before .befor
 pub end-open-spec : {M : Type 1} → statement M
 end-open-spec =
     tie.close (tie.spec returns keeper-of-requires cast-t12 attest-requires same-length returns-2)
+
+-- no literal of the body becomes the count
+pub counted : unwritten counts (function .body) ≡ true
+counted = refl

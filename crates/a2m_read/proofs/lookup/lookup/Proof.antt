@@ -5,10 +5,13 @@ use Rattle.a2m.specs.Opened.{findingReply, findingBlocks}
 use Rattle.a2m.specs.Call.{lookup}
 use Rattle.a2m.proofs.ReadLaws.{lookup-nonce, lookup-receipt, lookup-sized, read-unopened, read-at-log}
 use Rattle.a2m.proofs.OpenedLaws.{opened}
-use mathlib.Core.Path.{refl, sym, _∙_}
+use mathlib.Core.Path.{refl, sym, _∙_, _≡_}
 use borrow.Author.Needs.{needs}
+use mathlib.Core.Bool.{true}
 use Rattle.a2m_read.proofs.lookup.lookup.Statement.{statement}
 use Rattle.a2m_read.proofs.lookup.lookup.Tie as tie
+use Rattle.refusal.specs.Unwritten.{unwritten, counts}
+use Rattle.a2m_read.proofs.lookup.lookup.Code.Mir.{function}
 
 returns : tie.Need-returns
 returns c = let a = c .before .before .before .before .args in lookup-nonce (a .table .now) (a .nonce .now) (a .receipt .now) (a .position) (a .log) (c .if1 .taken)
@@ -51,3 +54,7 @@ lookup-spec =
     same-length
     returns-3
     returns-4)
+
+-- no literal of the body becomes the count
+pub counted : unwritten counts (function .body) ≡ true
+counted = refl

@@ -3,8 +3,12 @@ use Rattle.a2m.proofs.ReadLaws.{lookup-zero, lookup-done}
 use Rattle.a2m.proofs.OpenedLaws.{opened-counted, opened-long, opened-log}
 use native.Mathlib.Omega.{arith}
 use borrow.Author.Needs.{needs}
+use mathlib.Core.Path.{_≡_, refl}
+use mathlib.Core.Bool.{true}
 use Rattle.a2m_read.proofs.lookup.lookup_open.Statement.{statement}
 use Rattle.a2m_read.proofs.lookup.lookup_open.Tie as tie
+use Rattle.refusal.specs.Unwritten.{unwritten, counts}
+use Rattle.a2m_read.proofs.lookup.lookup_open.Code.Mir.{function}
 
 returns : tie.Need-returns
 returns c = let a = c .before .before .before .before .args in let p = c .before .before .before .before .pre in lookup-zero (a .table .now) (a .nonce .now) (a .receipt .now) (a .position) (a .view) (p .0) (p .1 .0) (p .1 .1) (c .if1 .taken)
@@ -40,3 +44,7 @@ lookup-open-spec =
     attest-requires
     same-length
     returns-2)
+
+-- no literal of the body becomes the count
+pub counted : unwritten counts (function .body) ≡ true
+counted = refl

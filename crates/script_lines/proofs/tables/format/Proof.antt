@@ -1,6 +1,7 @@
 -- `script_lines::tables::format` meets its contract.
 use Rattle.layout.specs.Layout.{largest}
-use Rattle.refusal.specs.Number.{numberOf, outcomeNumber}
+use Rattle.refusal.specs.Number.{numberOf}
+use Rattle.refusal.specs.Work.{workedNumber}
 use Rattle.octets.specs.Octets.{zeros}
 use Prim.Native.Nat.{_≤_}
 use Rattle.script.proofs.TurnLaws.{many-logs, many-slots, format-counts, format-done, format-refused}
@@ -38,8 +39,8 @@ format-requires c κs = search needs
 enum-told : tie.Need-enum-told
 enum-told c = search needs
 
-enum-known-outcome : tie.Need-enum-known-outcome
-enum-known-outcome c = search needs
+enum-known-worked : tie.Need-enum-known-worked
+enum-known-worked c = search needs
 
 number-requires : tie.Need-number-requires
 number-requires c κs = search needs
@@ -56,8 +57,8 @@ returns-3 c = let a = c .before .before .before .before .before .before .before 
     let n = c .before .before .before .before .before .before .before .table-size .result in
     let f = c .before .before .before .before .format in
     let k : n ≤ largest = omega (arith, c .before .before .before .before .before .before .before .table-size .ensures) in
-    format-done (a .buffer .now) (f .last .0) (a .size) n (a .logs) (a .slots) (a .keeper) (c .before .before .before .before .before .before .before .table-size .ensures) (omega arith) k (f .kept .0) (f .ensures .1)
-    (ap outcomeNumber (sym (c .enum-told .given .1)) ∙ f .ensures .0)
+    format-done (a .buffer .now) (f .last .0) (a .size) n (a .logs) (a .slots) (a .keeper) (c .before .before .before .before .before .before .before .table-size .ensures) (omega arith) k (f .kept .0) (f .ensures .1 .1)
+    (ap workedNumber (sym (c .enum-told .given .1)) ∙ f .ensures .0)
 
 same-length-2 : tie.Need-same-length-2
 same-length-2 c = search needs
@@ -68,9 +69,9 @@ returns-4 c = let a = c .before .before .before .before .before .before .before 
     let n = c .before .before .before .before .before .before .before .before .before .before .table-size .result in
     let f = c .before .before .before .before .before .before .before .format in
     let k : n ≤ largest = omega (arith, c .before .before .before .before .before .before .before .before .before .before .table-size .ensures) in
-    let e : c .wide .result ≡ numberOf (c .before .before .before .outcome .given .0 .0) = c .wide .ensures .0 ∙ c .before .number .ensures in
-    format-refused (a .buffer .now) (f .last .0) (a .size) n (a .logs) (a .slots) (a .keeper) (c .before .before .before .before .before .before .before .before .before .before .table-size .ensures) (omega arith) k (f .kept .0) (f .ensures .1)
-    (c .wide .result) (omega (arith, numberOf-positive (c .before .before .before .outcome .given .0 .0))) (omega arith) (omega arith) (e ∙ ap outcomeNumber (sym (c .before .before .before .outcome .given .1)) ∙ f .ensures .0)
+    let e : c .wide .result ≡ numberOf (c .before .before .before .worked .given .0 .0) = c .wide .ensures .0 ∙ c .before .number .ensures in
+    format-refused (a .buffer .now) (f .last .0) (a .size) n (a .logs) (a .slots) (a .keeper) (c .before .before .before .before .before .before .before .before .before .before .table-size .ensures) (omega arith) k (f .kept .0) (f .ensures .1 .1)
+    (c .wide .result) (omega (arith, numberOf-positive (c .before .before .before .worked .given .0 .0))) (omega arith) (omega arith) (e ∙ ap workedNumber (sym (c .before .before .before .worked .given .1)) ∙ f .ensures .0)
 
 pub format-spec : {M : Type 1} → statement M
 format-spec =
@@ -85,7 +86,7 @@ format-spec =
     slice-aggregate-format
     format-requires
     enum-told
-    enum-known-outcome
+    enum-known-worked
     number-requires
     wide-requires
     same-length
