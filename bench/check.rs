@@ -1,5 +1,5 @@
-//! The differential check: the same calls on both sides, and every number, result and lent byte compared.
-use crate::sides::{Random, Run, Side, Verdict, KEEPER, PLAIN};
+//! The differential check: the same calls on both sides, and every number, block count, result and lent byte compared.
+use crate::sides::{KeeperResult, Random, Run, Side, Verdict, KEEPER, PLAIN};
 use crate::tables::*;
 
 pub const CALLS: [&str; 14] = [
@@ -25,6 +25,7 @@ const COMPARE: usize = 13;
 #[derive(Clone, Copy, PartialEq, Debug)]
 pub enum Part {
     Number,
+    Blocks,
     Result,
     Byte,
     BehindTheBuffer,
@@ -68,7 +69,8 @@ impl Lent {
 
 /// What both sides answered.
 struct Answer {
-    number: u8,
+    number: u64,
+    blocks: u64,
     results: [u64; 5],
     lent: Vec<Vec<u8>>,
 }
@@ -90,6 +92,30 @@ fn hex(bytes: &[u8]) -> String {
     bytes.iter().map(|b| format!("{b:02x}")).collect()
 }
 
+/// What a call returns that counts no blocks.
+fn alone(number: u8) -> KeeperResult {
+    KeeperResult { number: number as u64, blocks: 0 }
+}
+
+/// The blocks of a padded message: a byte, zero bytes and the length in 8 follow it.
+fn padded(bytes: usize) -> u64 {
+    (bytes as u64 + 1 + 8).div_ceil(64)
+}
+
+/// The answer, if it reports so many blocks.
+fn reports(call: usize, answer: Answer, blocks: u64) -> Checked<Answer> {
+    if answer.blocks == blocks {
+        return Ok(answer);
+    }
+    Err(format!("{}: answer {} with {} blocks, not {blocks}", CALLS[call], answer.number, answer.blocks))
+}
+
+/// The same, of a call that hashes where it is accepted and only there.
+fn reports_if_done(call: usize, answer: Answer, blocks: u64) -> Checked<Answer> {
+    let due = if answer.number == 0 { blocks } else { 0 };
+    reports(call, answer, due)
+}
+
 impl Check {
     pub fn new(seed: u64, spoil: Option<(usize, Part)>) -> Check {
         Check {
@@ -108,7 +134,7 @@ impl Check {
 
     /// Runs one call on both sides, each on its own copy of what is lent.
     fn case(
-        &mut self, call: usize, lent: &[&[u8]], run: impl Fn(&Side, &mut [Lent], &mut [u64; 5]) -> u8,
+        &mut self, call: usize, lent: &[&[u8]], run: impl Fn(&Side, &mut [Lent], &mut [u64; 5]) -> KeeperResult,
         says: impl Fn() -> String,
     ) -> Checked<Answer> {
         let shifts: Vec<usize> = lent.iter().map(|_| self.random.below(32) as usize).collect();
@@ -116,15 +142,16 @@ impl Check {
         for side in [&KEEPER, &PLAIN] {
             let mut own: Vec<Lent> = lent.iter().zip(&shifts).map(|(b, s)| Lent::new(b, *s)).collect();
             let mut results = [UNTOUCHED; 5];
-            let number = run(side, &mut own, &mut results);
-            both.push((number, results, own));
+            let returned = run(side, &mut own, &mut results);
+            both.push((returned, results, own));
         }
         let (mut plain, keeper) = (both.pop().unwrap(), both.pop().unwrap());
         if let Some((at, part)) = self.spoil {
-            if at == call && plain.0 == 0 {
+            if at == call && plain.0.number == 0 {
                 self.spoil = None;
                 match part {
-                    Part::Number => plain.0 = 1,
+                    Part::Number => plain.0.number = 1,
+                    Part::Blocks => plain.0.blocks += 1,
                     Part::Result => plain.1[0] ^= 1,
                     Part::Byte => *plain.2[0].get_mut().last_mut().unwrap() ^= 1,
                     Part::BehindTheBuffer => *plain.2[0].bytes.last_mut().unwrap() ^= 1,
@@ -132,8 +159,11 @@ impl Check {
             }
         }
         let mut wrong = Vec::new();
-        if keeper.0 != plain.0 {
+        if keeper.0.number != plain.0.number {
             wrong.push("the numbers differ".to_string());
+        }
+        if keeper.0.blocks != plain.0.blocks {
+            wrong.push("the blocks differ".to_string());
         }
         if keeper.1 != plain.1 {
             wrong.push("the results differ".to_string());
@@ -144,15 +174,15 @@ impl Check {
                 wrong.push(format!("the bytes of buffer {i} differ, first at {at}"));
             }
         }
-        for (side, (number, results, own)) in [(&KEEPER, &keeper), (&PLAIN, &plain)] {
-            if *number > 14 {
+        for (side, (returned, results, own)) in [(&KEEPER, &keeper), (&PLAIN, &plain)] {
+            if returned.number > 14 {
                 wrong.push(format!("{}: no number of a call", side.name));
             }
             if own.iter().any(|b| !b.guarded()) {
                 wrong.push(format!("{}: wrote outside a buffer", side.name));
             }
             let same = own.iter().zip(lent).all(|(now, before)| now.get() == *before) && *results == [UNTOUCHED; 5];
-            if *number != 0 && !same {
+            if returned.number != 0 && !same {
                 wrong.push(format!("{}: refused, and changed something", side.name));
             }
         }
@@ -161,8 +191,9 @@ impl Check {
             for (i, b) in lent.iter().enumerate() {
                 text += &format!("  buffer {i} before, {} bytes at alignment {}: {}\n", b.len(), shifts[i], hex(b));
             }
-            for (side, (number, results, own)) in [(&KEEPER, &keeper), (&PLAIN, &plain)] {
-                text += &format!("  {}: number {number}, results {results:x?}\n", side.name);
+            for (side, (returned, results, own)) in [(&KEEPER, &keeper), (&PLAIN, &plain)] {
+                let KeeperResult { number, blocks } = returned;
+                text += &format!("  {}: number {number}, blocks {blocks}, results {results:x?}\n", side.name);
                 for (i, b) in own.iter().enumerate() {
                     if b.get() != lent[i] {
                         text += &format!("    buffer {i} after: {}\n", hex(b.get()));
@@ -171,9 +202,10 @@ impl Check {
             }
             return Err(text);
         }
-        self.counts[call][keeper.0 as usize] += 1;
+        let KeeperResult { number, blocks } = keeper.0;
+        self.counts[call][number as usize] += 1;
         let lent = keeper.2.iter().map(|b| b.get().to_vec()).collect();
-        Ok(Answer { number: keeper.0, results: keeper.1, lent })
+        Ok(Answer { number, blocks, results: keeper.1, lent })
     }
 
     // ---- one function for each call; the first lent buffer is the one that it writes ----
@@ -185,7 +217,9 @@ impl Check {
             let (digest, message) = b.split_at_mut(1);
             side.hash(message[0].get(), digest[0].get_mut())
         };
-        self.case(HASH, &[&digest, message], run, || format!("digest {digest_bytes}, message {}", message.len()))
+        let says = || format!("digest {digest_bytes}, message {}", message.len());
+        let answer = self.case(HASH, &[&digest, message], run, says)?;
+        reports_if_done(HASH, answer, padded(message.len()))
     }
 
     fn tag(&mut self, key: &[u8], text: &[u8], tag_bytes: usize) -> Checked<Answer> {
@@ -194,22 +228,26 @@ impl Check {
             let (tag, rest) = b.split_at_mut(1);
             side.tag(rest[0].get(), rest[1].get(), tag[0].get_mut())
         };
-        self.case(TAG, &[&tag, key, text], run, || "tag, key, text".to_string())
+        let answer = self.case(TAG, &[&tag, key, text], run, || "tag, key, text".to_string())?;
+        let long = if key.len() > 64 { padded(key.len()) } else { 0 };
+        reports_if_done(TAG, answer, long + padded(64 + text.len()) + padded(64 + 32))
     }
 
     fn format(&mut self, table: &[u8], g: u64, s: u64, keeper: u64, key: &[u8]) -> Checked<Answer> {
         let run =
             |side: &Side, b: &mut [Lent], _: &mut [u64; 5]| side.format(b[0].get_mut(), g, s, keeper, key);
-        self.case(FORMAT, &[table], run, || format!("logs {g}, slots {s}, keeper {keeper}, key {}", hex(key)))
+        let says = || format!("logs {g}, slots {s}, keeper {keeper}, key {}", hex(key));
+        let answer = self.case(FORMAT, &[table], run, says)?;
+        reports(FORMAT, answer, 0)
     }
 
     fn check(&mut self, table: &[u8]) -> Checked<Answer> {
-        let run = |side: &Side, b: &mut [Lent], _: &mut [u64; 5]| side.check(b[0].get());
+        let run = |side: &Side, b: &mut [Lent], _: &mut [u64; 5]| alone(side.check(b[0].get()));
         self.case(CHECK, &[table], run, String::new)
     }
 
     fn free(&mut self, table: &[u8]) -> Checked<Answer> {
-        let run = |side: &Side, b: &mut [Lent], r: &mut [u64; 5]| side.free(b[0].get(), &mut r[0]);
+        let run = |side: &Side, b: &mut [Lent], r: &mut [u64; 5]| alone(side.free(b[0].get(), &mut r[0]));
         self.case(FREE, &[table], run, String::new)
     }
 
@@ -228,7 +266,8 @@ impl Check {
             let (low, high) = r.split_at_mut(1);
             side.append(b[0].get_mut(), log, value, &mut low[0], &mut high[0])
         };
-        self.case(APPEND, &[table], run, || format!("log {log}, value {}", hex(value)))
+        let answer = self.case(APPEND, &[table], run, || format!("log {log}, value {}", hex(value)))?;
+        reports_if_done(APPEND, answer, 2)
     }
 
     fn advance(&mut self, table: &[u8], log: u64, n: u64, digest: &[u8], value: &[u8]) -> Checked<Answer> {
@@ -237,7 +276,8 @@ impl Check {
             side.advance(b[0].get_mut(), log, n, digest, value, &mut low[0], &mut high[0])
         };
         let says = || format!("log {log}, position {n}, digest {}, value {}", hex(digest), hex(value));
-        self.case(ADVANCE, &[table], run, says)
+        let answer = self.case(ADVANCE, &[table], run, says)?;
+        reports_if_done(ADVANCE, answer, 2)
     }
 
     fn truncate(&mut self, table: &[u8], log: u64, n: u64) -> Checked<Answer> {
@@ -245,7 +285,8 @@ impl Check {
             let (low, high) = r.split_at_mut(1);
             side.truncate(b[0].get_mut(), log, n, &mut low[0], &mut high[0])
         };
-        self.case(TRUNCATE, &[table], run, || format!("log {log}, position {n}"))
+        let answer = self.case(TRUNCATE, &[table], run, || format!("log {log}, position {n}"))?;
+        reports(TRUNCATE, answer, 0)
     }
 
     fn lookup(&mut self, table: &[u8], log: u64, n: u64, nonce: &[u8], receipt_bytes: usize) -> Checked<Answer> {
@@ -259,7 +300,7 @@ impl Check {
         if answer.number == 0 {
             self.kinds[answer.lent[0][6] as usize] += 1;
         }
-        Ok(answer)
+        reports_if_done(LOOKUP, answer, 6)
     }
 
     fn end(&mut self, table: &[u8], log: u64, nonce: &[u8], receipt_bytes: usize) -> Checked<Answer> {
@@ -268,7 +309,9 @@ impl Check {
             let (receipt, table) = b.split_at_mut(1);
             side.end(table[0].get(), log, nonce, receipt[0].get_mut())
         };
-        self.case(END, &[&receipt, table], run, || format!("receipt, table; log {log}, nonce {}", hex(nonce)))
+        let says = || format!("receipt, table; log {log}, nonce {}", hex(nonce));
+        let answer = self.case(END, &[&receipt, table], run, says)?;
+        reports_if_done(END, answer, 6)
     }
 
     fn verify(
@@ -276,21 +319,23 @@ impl Check {
     ) -> Checked<Answer> {
         let run = |side: &Side, b: &mut [Lent], r: &mut [u64; 5]| {
             let mut v = Verdict { keeper: r[0], log: r[1], position: r[2], kind: r[3], reference: r[4] };
-            let number = side.verify(b[0].get(), b[1].get(), b[2].get(), keeper, log, position, &mut v);
+            let returned = side.verify(b[0].get(), b[1].get(), b[2].get(), keeper, log, position, &mut v);
             *r = [v.keeper, v.log, v.position, v.kind, v.reference];
-            number
+            returned
         };
         let call = if position.is_some() { VERIFY } else { VERIFY_END };
         let says = || format!("key, receipt, nonce; keeper {keeper}, log {log}, position {position:?}");
-        self.case(call, &[key, receipt, nonce], run, says)
+        let answer = self.case(call, &[key, receipt, nonce], run, says)?;
+        let due = if [0, 10, 11].contains(&answer.number) { 6 } else { 0 };
+        reports(call, answer, due)
     }
 
     fn certify(&mut self, roster: &[u8], nonce: &[u8], log: u64, n: u64, certificate: &[u8]) -> Checked<Answer> {
         let run = |side: &Side, b: &mut [Lent], r: &mut [u64; 5]| {
             let mut mask = r[1] as u32;
-            let number = side.certify(b[0].get(), b[1].get(), log, n, b[2].get(), &mut r[0], &mut mask);
+            let returned = side.certify(b[0].get(), b[1].get(), log, n, b[2].get(), &mut r[0], &mut mask);
             r[1] = r[1] >> 32 << 32 | mask as u64;
-            number
+            returned
         };
         let says = || format!("roster, nonce, certificate; log {log}, position {n}");
         self.case(CERTIFY, &[roster, nonce, certificate], run, says)
@@ -300,9 +345,9 @@ impl Check {
         let collision = self.random.bytes(collision_bytes);
         let run = |side: &Side, b: &mut [Lent], r: &mut [u64; 5]| {
             let mut verdict = r[0] as u8;
-            let number = side.compare(run1, run2, b[0].get_mut(), &mut verdict);
+            let returned = side.compare(run1, run2, b[0].get_mut(), &mut verdict);
             r[0] = r[0] >> 8 << 8 | verdict as u64;
-            number
+            returned
         };
         let says = || {
             let one = |r: &Run| format!("start {}, first {}, values {}", hex(&r.start), r.first, hex(&r.values));
@@ -316,7 +361,7 @@ impl Check {
                 return Err("compare: another verdict than collision wrote the buffer".to_string());
             }
         }
-        Ok(answer)
+        reports_if_done(COMPARE, answer, 2 * ((run1.values.len() + run2.values.len()) / 32) as u64)
     }
 
     // ---- inputs ----
@@ -380,6 +425,10 @@ impl Check {
         ] {
             known(&self.hash(message, 32)?, digest)?;
         }
+        for (n, blocks) in [(0, 1), (55, 1), (56, 2), (64, 2), (119, 2), (120, 3), (1_000_000, 15626)] {
+            let answer = self.hash(&vec![0; n], 32)?;
+            reports(HASH, answer, blocks)?;
+        }
         for n in 0..=300 {
             let message = self.random.bytes(n);
             self.hash(&message, 32)?;
@@ -418,6 +467,10 @@ impl Check {
             (&[0xaa; 131], long, "9b09ffa71b942fcb27635fbcd5b0e944bfdc63644f0713938a7f51535c3a35e2"),
         ] {
             known(&self.tag(key, text, 32)?, tag)?;
+        }
+        for (k, n, blocks) in [(0, 0, 4), (32, 128, 6), (64, 128, 6), (65, 128, 8), (131, 54, 7), (131, 152, 9)] {
+            let answer = self.tag(&vec![0; k], &vec![0; n], 32)?;
+            reports(TAG, answer, blocks)?;
         }
         for n in 0..=200 {
             let key = self.random.bytes(n);
@@ -714,7 +767,7 @@ impl Check {
         };
         let zeros = vec![0; 32];
         let mut t = vec![0; table_bytes(2, 3)];
-        let expect = |answer: Answer, number: u8, results: &[u64], receipt: &[u64]| -> Checked<Answer> {
+        let expect = |answer: Answer, number: u64, results: &[u64], receipt: &[u64]| -> Checked<Answer> {
             let mut good = answer.number == number && (number != 0 || answer.results[..results.len()] == *results);
             if let [kind, position, reference, value] = receipt {
                 let c = &answer.lent[0];
@@ -807,7 +860,32 @@ impl Check {
         Ok(())
     }
 
+    /// Of a station of three: a good receipt, a member's that is no possible entry, a stranger's, and a member's of an
+    /// end. The first and the last are hashed.
+    fn mixed(&mut self) -> Checked<()> {
+        let (keys, nonce, pair) = (self.random.bytes(96), self.random.bytes(32), self.random.bytes(64));
+        let key = |m: usize| &keys[32 * m..32 * (m + 1)];
+        let (mut roster, mut certificate) = (Vec::new(), Vec::new());
+        for m in 0..3 {
+            roster.extend_from_slice(&(m as u64 + 5).to_be_bytes());
+            roster.extend_from_slice(key(m));
+        }
+        let good = |keeper: u64| Receipt::assigned(keeper, 0, 9, &nonce, &pair);
+        let impossible = Receipt { reference: 8, ..good(6) };
+        let end = Receipt { name: *b"END\0\0\0", ..good(7) };
+        for (receipt, m) in [(good(5), 0), (impossible, 1), (good(8), 1), (end, 2)] {
+            certificate.extend(receipt.write(key(m)));
+        }
+        let answer = self.certify(&roster, &nonce, 0, 9, &certificate)?;
+        if answer.number != 13 {
+            return Err(format!("certify: one good receipt of three members gives {}", answer.number));
+        }
+        reports(CERTIFY, answer, 12)?;
+        Ok(())
+    }
+
     fn certificates(&mut self, times: u64) -> Checked<()> {
+        self.mixed()?;
         for _ in 0..120 * times {
             let members = match self.random.below(8) {
                 0 => self.random.below(34),
@@ -1114,10 +1192,14 @@ pub fn run(seed: u64, times: u64) -> bool {
 pub fn self_test(seed: u64) -> bool {
     let mut found = 0;
     for call in 0..CALLS.len() {
-        for part in [Part::Number, Part::Result, Part::Byte, Part::BehindTheBuffer] {
+        for part in [Part::Number, Part::Blocks, Part::Result, Part::Byte, Part::BehindTheBuffer] {
+            if part == Part::Blocks && [CHECK, FREE].contains(&call) {
+                continue;
+            }
             let mut check = Check::new(seed, Some((call, part)));
             let finding = match part {
                 Part::Number => "the numbers differ",
+                Part::Blocks => "the blocks differ",
                 Part::Result => "the results differ",
                 Part::Byte => "the bytes of buffer 0 differ",
                 Part::BehindTheBuffer => "plain C: wrote outside a buffer",

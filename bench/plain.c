@@ -1,8 +1,20 @@
-/* The keeper in plain C: the bench's yardstick, and an independent reading of document 01 and request [1]. Portable C, no
- * intrinsics. Where document 01 leaves the free slot open it does as the keeper does: the free chain is a queue. */
+/* The keeper in plain C: the bench's yardstick, and an independent reading of document 01 and requests [1] and [2]. Portable C,
+ * no intrinsics. Where document 01 leaves the free slot open it does as the keeper does: the free chain is a queue. Blocks are
+ * counted where they are compressed, and added up on the way out. */
 #include "plain.h"
 
 #include <string.h>
+
+static inline keeper_result done(uint64_t blocks)
+{
+    return (keeper_result){KEEPER_DONE, blocks};
+}
+
+/* Before anything was hashed. */
+static inline keeper_result refused(uint64_t number)
+{
+    return (keeper_result){number, 0};
+}
 
 /* ---- big-endian numbers ---- */
 
@@ -45,10 +57,11 @@ static inline void put64(uint8_t *p, uint64_t x)
 
 typedef struct {
     uint32_t h[8];
+    uint64_t blocks; /* compressed so far */
 } sha_state;
 
 static const sha_state sha_initial = {
-    {0x6a09e667, 0xbb67ae85, 0x3c6ef372, 0xa54ff53a, 0x510e527f, 0x9b05688c, 0x1f83d9ab, 0x5be0cd19}};
+    {0x6a09e667, 0xbb67ae85, 0x3c6ef372, 0xa54ff53a, 0x510e527f, 0x9b05688c, 0x1f83d9ab, 0x5be0cd19}, 0};
 
 static const uint32_t sha_k[64] = {
     0x428a2f98, 0x71374491, 0xb5c0fbcf, 0xe9b5dba5, 0x3956c25b, 0x59f111f1, 0x923f82a4, 0xab1c5ed5,
@@ -129,11 +142,13 @@ static void sha_blocks(sha_state *s, const uint8_t *block, size_t count)
         s->h[5] += f;
         s->h[6] += g;
         s->h[7] += h;
+        s->blocks++;
     }
 }
 
-/* Hashes the last part of a message and writes the digest; before is what was hashed already, whole blocks. */
-static void sha_finish(sha_state *s, uint64_t before, const uint8_t *message, size_t bytes, uint8_t *digest)
+/* Hashes the last part of a message and writes the digest; before is what was hashed already, whole blocks. Gives the number of
+ * blocks of the whole message. */
+static uint64_t sha_finish(sha_state *s, uint64_t before, const uint8_t *message, size_t bytes, uint8_t *digest)
 {
     size_t whole = bytes / 64, rest = bytes % 64;
     sha_blocks(s, message, whole);
@@ -145,32 +160,34 @@ static void sha_finish(sha_state *s, uint64_t before, const uint8_t *message, si
     sha_blocks(s, last, blocks);
     for (int i = 0; i < 8; i++)
         put32(digest + 4 * i, s->h[i]);
+    return s->blocks;
 }
 
-static void sha256(const uint8_t *message, size_t bytes, uint8_t *digest)
+static uint64_t sha256(const uint8_t *message, size_t bytes, uint8_t *digest)
 {
     sha_state s = sha_initial;
-    sha_finish(&s, 0, message, bytes, digest);
+    return sha_finish(&s, 0, message, bytes, digest);
 }
 
 /* FIPS 180-4 allows fewer than 2^64 bits. */
 static const uint64_t too_long = UINT64_C(1) << 61;
 
-uint8_t plain_hash(const uint8_t *message, size_t message_bytes, uint8_t *digest, size_t digest_bytes)
+keeper_result plain_hash(const uint8_t *message, size_t message_bytes, uint8_t *digest, size_t digest_bytes)
 {
     if (digest_bytes != 32 || message_bytes >= too_long)
-        return KEEPER_LENGTH;
-    sha256(message, message_bytes, digest);
-    return KEEPER_DONE;
+        return refused(KEEPER_LENGTH);
+    return done(sha256(message, message_bytes, digest));
 }
 
 /* ---- HMAC, RFC 2104 ---- */
 
-static void hmac(const uint8_t *key, size_t key_bytes, const uint8_t *text, size_t text_bytes, uint8_t *tag)
+/* Gives the number of blocks hashed, a long key's own among them. */
+static uint64_t hmac(const uint8_t *key, size_t key_bytes, const uint8_t *text, size_t text_bytes, uint8_t *tag)
 {
     uint8_t pad[64] = {0}, inner[32];
+    uint64_t blocks = 0;
     if (key_bytes > 64)
-        sha256(key, key_bytes, pad);
+        blocks = sha256(key, key_bytes, pad);
     else
         memcpy(pad, key, key_bytes);
 
@@ -178,22 +195,21 @@ static void hmac(const uint8_t *key, size_t key_bytes, const uint8_t *text, size
         pad[i] ^= 0x36;
     sha_state s = sha_initial;
     sha_blocks(&s, pad, 1);
-    sha_finish(&s, 64, text, text_bytes, inner);
+    blocks += sha_finish(&s, 64, text, text_bytes, inner);
 
     for (int i = 0; i < 64; i++)
         pad[i] ^= 0x36 ^ 0x5c;
     s = sha_initial;
     sha_blocks(&s, pad, 1);
-    sha_finish(&s, 64, inner, 32, tag);
+    return blocks + sha_finish(&s, 64, inner, 32, tag);
 }
 
-uint8_t plain_tag(const uint8_t *key, size_t key_bytes, const uint8_t *text, size_t text_bytes, uint8_t *tag,
-                  size_t tag_bytes)
+keeper_result plain_tag(const uint8_t *key, size_t key_bytes, const uint8_t *text, size_t text_bytes, uint8_t *tag,
+                        size_t tag_bytes)
 {
     if (tag_bytes != 32 || key_bytes >= too_long || text_bytes >= too_long - 64)
-        return KEEPER_LENGTH;
-    hmac(key, key_bytes, text, text_bytes, tag);
-    return KEEPER_DONE;
+        return refused(KEEPER_LENGTH);
+    return done(hmac(key, key_bytes, text, text_bytes, tag));
 }
 
 /* ---- the table's bytes ---- */
@@ -311,13 +327,13 @@ uint64_t plain_two_bytes(const uint8_t *table)
     return get16(table + H_COUNT);
 }
 
-uint8_t plain_format(uint8_t *table, size_t table_bytes, uint64_t logs, uint64_t slots, uint64_t keeper,
-                     const uint8_t *key, size_t key_bytes)
+keeper_result plain_format(uint8_t *table, size_t table_bytes, uint64_t logs, uint64_t slots, uint64_t keeper,
+                           const uint8_t *key, size_t key_bytes)
 {
     if (logs < 1 || logs > MAX_LOGS || slots < 1 || slots > MAX_SLOTS)
-        return KEEPER_COUNTS;
+        return refused(KEEPER_COUNTS);
     if (table_bytes != KEEPER_TABLE_BYTES(logs, slots) || key_bytes != 32)
-        return KEEPER_LENGTH;
+        return refused(KEEPER_LENGTH);
     memset(table, 0, table_bytes);
     memcpy(table, mark, 4);
     table[H_LOGS] = (uint8_t)logs;
@@ -330,7 +346,7 @@ uint8_t plain_format(uint8_t *table, size_t table_bytes, uint64_t logs, uint64_t
         put64(table + row_at(g) + R_LOW, 1);
     for (uint32_t i = 1; i < slots; i++)
         put16(table + slot_at((uint32_t)logs, i) + S_NEXT, i + 1);
-    return KEEPER_DONE;
+    return done(0);
 }
 
 /* ---- the calls that change a table ---- */
@@ -343,9 +359,9 @@ static void block_of(uint8_t *block, uint64_t position, const uint8_t *value, co
     memcpy(block + 40, previous, 32);
 }
 
-/* Puts an entry into the first free slot, which exists, at the end of the log's chain. */
-static void put_entry(uint8_t *t, uint32_t logs, uint64_t log, uint64_t position, const uint8_t *value,
-                      const uint8_t *previous, uint64_t *low, uint64_t *high)
+/* Puts an entry into the first free slot, which exists, at the end of the log's chain. Gives the number of blocks hashed. */
+static uint64_t put_entry(uint8_t *t, uint32_t logs, uint64_t log, uint64_t position, const uint8_t *value,
+                          const uint8_t *previous, uint64_t *low, uint64_t *high)
 {
     uint8_t *r = t + row_at(log);
     uint32_t i = get16(t + H_FREE), last = get16(r + R_LAST);
@@ -358,67 +374,66 @@ static void put_entry(uint8_t *t, uint32_t logs, uint64_t log, uint64_t position
     s[S_OWNER] = (uint8_t)(log + 1);
     put16(s + S_NEXT, 0);
     memcpy(s + S_POSITION, block, 40);
-    sha256(block, 72, s + S_DIGEST);
+    uint64_t blocks = sha256(block, 72, s + S_DIGEST);
     put16(last == 0 ? r + R_FIRST : t + slot_at(logs, last) + S_NEXT, i);
     put16(r + R_LAST, i);
     put64(r + R_HIGH, position);
     *low = get64(r + R_LOW);
     *high = position;
+    return blocks;
 }
 
-uint8_t plain_append(uint8_t *table, size_t table_bytes, uint64_t log, const uint8_t *value, size_t value_bytes,
-                     uint64_t *low, uint64_t *high)
+keeper_result plain_append(uint8_t *table, size_t table_bytes, uint64_t log, const uint8_t *value, size_t value_bytes,
+                           uint64_t *low, uint64_t *high)
 {
     static const uint8_t zeros[32];
     whole_table found;
     if (value_bytes != 32)
-        return KEEPER_LENGTH;
+        return refused(KEEPER_LENGTH);
     if (!whole(table, table_bytes, &found))
-        return KEEPER_TORN;
+        return refused(KEEPER_TORN);
     if (log >= found.logs)
-        return KEEPER_NO_LOG;
+        return refused(KEEPER_NO_LOG);
     const uint8_t *r = table + row_at(log);
     uint64_t top = get64(r + R_HIGH);
     if (top == UINT64_MAX)
-        return KEEPER_SPENT;
+        return refused(KEEPER_SPENT);
     if (found.free_last == 0)
-        return KEEPER_FULL;
+        return refused(KEEPER_FULL);
     uint32_t last = get16(r + R_LAST);
     const uint8_t *previous = last == 0 ? zeros : table + slot_at(found.logs, last) + S_DIGEST;
-    put_entry(table, found.logs, log, top + 1, value, previous, low, high);
-    return KEEPER_DONE;
+    return done(put_entry(table, found.logs, log, top + 1, value, previous, low, high));
 }
 
-uint8_t plain_advance(uint8_t *table, size_t table_bytes, uint64_t log, uint64_t position, const uint8_t *digest,
-                      size_t digest_bytes, const uint8_t *value, size_t value_bytes, uint64_t *low, uint64_t *high)
+keeper_result plain_advance(uint8_t *table, size_t table_bytes, uint64_t log, uint64_t position, const uint8_t *digest,
+                            size_t digest_bytes, const uint8_t *value, size_t value_bytes, uint64_t *low, uint64_t *high)
 {
     whole_table found;
     if (digest_bytes != 32 || value_bytes != 32)
-        return KEEPER_LENGTH;
+        return refused(KEEPER_LENGTH);
     if (!whole(table, table_bytes, &found))
-        return KEEPER_TORN;
+        return refused(KEEPER_TORN);
     if (log >= found.logs)
-        return KEEPER_NO_LOG;
+        return refused(KEEPER_NO_LOG);
     if (position <= get64(table + row_at(log) + R_HIGH))
-        return KEEPER_POSITION;
+        return refused(KEEPER_POSITION);
     if (found.free_last == 0)
-        return KEEPER_FULL;
-    put_entry(table, found.logs, log, position, value, digest, low, high);
-    return KEEPER_DONE;
+        return refused(KEEPER_FULL);
+    return done(put_entry(table, found.logs, log, position, value, digest, low, high));
 }
 
-uint8_t plain_truncate(uint8_t *table, size_t table_bytes, uint64_t log, uint64_t position, uint64_t *low,
-                       uint64_t *high)
+keeper_result plain_truncate(uint8_t *table, size_t table_bytes, uint64_t log, uint64_t position, uint64_t *low,
+                             uint64_t *high)
 {
     whole_table found;
     if (!whole(table, table_bytes, &found))
-        return KEEPER_TORN;
+        return refused(KEEPER_TORN);
     if (log >= found.logs)
-        return KEEPER_NO_LOG;
+        return refused(KEEPER_NO_LOG);
     uint8_t *r = table + row_at(log);
     uint64_t top = get64(r + R_HIGH);
     if (position <= get64(r + R_LOW) || position > top)
-        return KEEPER_POSITION;
+        return refused(KEEPER_POSITION);
 
     /* The freed slots are the front of the log's chain. They keep their links and go behind the last free slot; the
      * entry at H stays, so the walk ends inside the chain. */
@@ -442,7 +457,7 @@ uint8_t plain_truncate(uint8_t *table, size_t table_bytes, uint64_t log, uint64_
     put64(r + R_LOW, position);
     *low = position;
     *high = top;
-    return KEEPER_DONE;
+    return done(0);
 }
 
 /* ---- receipts ---- */
@@ -453,9 +468,9 @@ enum { C_VALUE = 64, C_TAG = 128 };
 static const uint8_t name_lookup[6] = {'L', 'O', 'O', 'K', 'U', 'P'};
 static const uint8_t name_end[6] = {'E', 'N', 'D', 0, 0, 0};
 
-/* entry is the slot shown, or NULL where value and digest are zero bytes. */
-static void put_receipt(uint8_t *receipt, const uint8_t *table, const uint8_t *name, uint8_t kind, uint64_t log,
-                        uint64_t position, uint64_t reference, const uint8_t *nonce, const uint8_t *entry)
+/* entry is the slot shown, or NULL where value and digest are zero bytes. Gives the number of blocks hashed. */
+static uint64_t put_receipt(uint8_t *receipt, const uint8_t *table, const uint8_t *name, uint8_t kind, uint64_t log,
+                            uint64_t position, uint64_t reference, const uint8_t *nonce, const uint8_t *entry)
 {
     memcpy(receipt + C_NAME, name, 6);
     receipt[C_KIND] = kind;
@@ -468,21 +483,21 @@ static void put_receipt(uint8_t *receipt, const uint8_t *table, const uint8_t *n
         memcpy(receipt + C_VALUE, entry + S_VALUE, 64);
     else
         memset(receipt + C_VALUE, 0, 64);
-    hmac(table + H_KEY, 32, receipt, C_TAG, receipt + C_TAG);
+    return hmac(table + H_KEY, 32, receipt, C_TAG, receipt + C_TAG);
 }
 
-uint8_t plain_lookup(const uint8_t *table, size_t table_bytes, uint64_t log, uint64_t position, const uint8_t *nonce,
-                     size_t nonce_bytes, uint8_t *receipt, size_t receipt_bytes, uint64_t *examined)
+keeper_result plain_lookup(const uint8_t *table, size_t table_bytes, uint64_t log, uint64_t position, const uint8_t *nonce,
+                           size_t nonce_bytes, uint8_t *receipt, size_t receipt_bytes, uint64_t *examined)
 {
     whole_table found;
     if (nonce_bytes != 32 || receipt_bytes != 160)
-        return KEEPER_LENGTH;
+        return refused(KEEPER_LENGTH);
     if (!whole(table, table_bytes, &found))
-        return KEEPER_TORN;
+        return refused(KEEPER_TORN);
     if (log >= found.logs)
-        return KEEPER_NO_LOG;
+        return refused(KEEPER_NO_LOG);
     if (position == 0)
-        return KEEPER_POSITION;
+        return refused(KEEPER_POSITION);
     const uint8_t *r = table + row_at(log);
     uint64_t low = get64(r + R_LOW), high = get64(r + R_HIGH);
     uint64_t looked_at = 0, reference;
@@ -504,29 +519,27 @@ uint8_t plain_lookup(const uint8_t *table, size_t table_bytes, uint64_t log, uin
         kind = reference == position ? KEEPER_ASSIGNED : KEEPER_SKIPPED;
         shown = s;
     }
-    put_receipt(receipt, table, name_lookup, kind, log, position, reference, nonce, shown);
     *examined = looked_at;
-    return KEEPER_DONE;
+    return done(put_receipt(receipt, table, name_lookup, kind, log, position, reference, nonce, shown));
 }
 
-uint8_t plain_end(const uint8_t *table, size_t table_bytes, uint64_t log, const uint8_t *nonce, size_t nonce_bytes,
-                  uint8_t *receipt, size_t receipt_bytes)
+keeper_result plain_end(const uint8_t *table, size_t table_bytes, uint64_t log, const uint8_t *nonce, size_t nonce_bytes,
+                        uint8_t *receipt, size_t receipt_bytes)
 {
     whole_table found;
     if (nonce_bytes != 32 || receipt_bytes != 160)
-        return KEEPER_LENGTH;
+        return refused(KEEPER_LENGTH);
     if (!whole(table, table_bytes, &found))
-        return KEEPER_TORN;
+        return refused(KEEPER_TORN);
     if (log >= found.logs)
-        return KEEPER_NO_LOG;
+        return refused(KEEPER_NO_LOG);
     const uint8_t *r = table + row_at(log);
     uint32_t last = get16(r + R_LAST);
     if (last == 0)
-        return KEEPER_NOTHING_HELD;
+        return refused(KEEPER_NOTHING_HELD);
     uint64_t high = get64(r + R_HIGH);
-    put_receipt(receipt, table, name_end, KEEPER_ASSIGNED, log, high, high, nonce,
-                table + slot_at(found.logs, last));
-    return KEEPER_DONE;
+    return done(put_receipt(receipt, table, name_end, KEEPER_ASSIGNED, log, high, high, nonce,
+                            table + slot_at(found.logs, last)));
 }
 
 /* ---- the verifier ---- */
@@ -567,40 +580,40 @@ static int same_tag(const uint8_t *x, const uint8_t *y)
 }
 
 /* position is NULL for the question for an end. */
-static uint8_t verify(const uint8_t *key, size_t key_bytes, const uint8_t *c, size_t bytes, const uint8_t *nonce,
-                      size_t nonce_bytes, uint64_t keeper, uint64_t log, const uint64_t *position,
-                      keeper_verdict *verdict)
+static keeper_result verify(const uint8_t *key, size_t key_bytes, const uint8_t *c, size_t bytes, const uint8_t *nonce,
+                            size_t nonce_bytes, uint64_t keeper, uint64_t log, const uint64_t *position,
+                            keeper_verdict *verdict)
 {
     uint8_t tag[32];
     if (key_bytes != 32 || nonce_bytes != 32)
-        return KEEPER_LENGTH;
+        return refused(KEEPER_LENGTH);
     if (bytes != 160 || !possible(c))
-        return KEEPER_NO_RECEIPT;
-    hmac(key, 32, c, C_TAG, tag);
+        return refused(KEEPER_NO_RECEIPT);
+    uint64_t blocks = hmac(key, 32, c, C_TAG, tag);
     if (!same_tag(tag, c + C_TAG))
-        return KEEPER_TAG;
+        return (keeper_result){KEEPER_TAG, blocks};
     uint64_t n = get64(c + C_POSITION);
     if (memcmp(c + C_NAME, position != NULL ? name_lookup : name_end, 6) != 0 || c[C_LOG] != log ||
         get64(c + C_KEEPER) != keeper || memcmp(c + C_NONCE, nonce, 32) != 0 || (position != NULL && n != *position))
-        return KEEPER_OTHER_QUESTION;
+        return (keeper_result){KEEPER_OTHER_QUESTION, blocks};
     verdict->keeper = keeper;
     verdict->log = log;
     verdict->position = n;
     verdict->kind = c[C_KIND];
     verdict->reference = get64(c + C_REFERENCE);
-    return KEEPER_DONE;
+    return done(blocks);
 }
 
-uint8_t plain_verify_lookup(const uint8_t *key, size_t key_bytes, const uint8_t *receipt, size_t receipt_bytes,
-                            const uint8_t *nonce, size_t nonce_bytes, uint64_t keeper, uint64_t log, uint64_t position,
-                            keeper_verdict *verdict)
+keeper_result plain_verify_lookup(const uint8_t *key, size_t key_bytes, const uint8_t *receipt, size_t receipt_bytes,
+                                  const uint8_t *nonce, size_t nonce_bytes, uint64_t keeper, uint64_t log, uint64_t position,
+                                  keeper_verdict *verdict)
 {
     return verify(key, key_bytes, receipt, receipt_bytes, nonce, nonce_bytes, keeper, log, &position, verdict);
 }
 
-uint8_t plain_verify_end(const uint8_t *key, size_t key_bytes, const uint8_t *receipt, size_t receipt_bytes,
-                         const uint8_t *nonce, size_t nonce_bytes, uint64_t keeper, uint64_t log,
-                         keeper_verdict *verdict)
+keeper_result plain_verify_end(const uint8_t *key, size_t key_bytes, const uint8_t *receipt, size_t receipt_bytes,
+                               const uint8_t *nonce, size_t nonce_bytes, uint64_t keeper, uint64_t log,
+                               keeper_verdict *verdict)
 {
     return verify(key, key_bytes, receipt, receipt_bytes, nonce, nonce_bytes, keeper, log, NULL, verdict);
 }
@@ -609,24 +622,24 @@ uint8_t plain_verify_end(const uint8_t *key, size_t key_bytes, const uint8_t *re
 
 enum { MEMBER = 40, MAX_MEMBERS = 31, MAX_RECEIPTS = 32 };
 
-uint8_t plain_certify(const uint8_t *roster, size_t roster_bytes, const uint8_t *nonce, size_t nonce_bytes,
-                      uint64_t log, uint64_t position, const uint8_t *certificate, size_t certificate_bytes,
-                      uint64_t *place, uint32_t *mask)
+keeper_result plain_certify(const uint8_t *roster, size_t roster_bytes, const uint8_t *nonce, size_t nonce_bytes,
+                            uint64_t log, uint64_t position, const uint8_t *certificate, size_t certificate_bytes,
+                            uint64_t *place, uint32_t *mask)
 {
     if (nonce_bytes != 32)
-        return KEEPER_LENGTH;
+        return refused(KEEPER_LENGTH);
     size_t members = roster_bytes / MEMBER, receipts = certificate_bytes / 160;
     if (roster_bytes % MEMBER != 0 || members > MAX_MEMBERS || members % 2 == 0)
-        return KEEPER_ROSTER;
+        return refused(KEEPER_ROSTER);
     uint64_t number[MAX_MEMBERS];
     for (size_t i = 0; i < members; i++) {
         number[i] = get64(roster + MEMBER * i);
         for (size_t j = 0; j < i; j++)
             if (number[j] == number[i])
-                return KEEPER_ROSTER;
+                return refused(KEEPER_ROSTER);
     }
     if (certificate_bytes % 160 != 0 || receipts > MAX_RECEIPTS)
-        return KEEPER_NO_RECEIPT;
+        return refused(KEEPER_NO_RECEIPT);
 
     /* One row for each pair of value and digest that a good receipt shows, by the first place that shows it. */
     struct {
@@ -635,6 +648,7 @@ uint8_t plain_certify(const uint8_t *roster, size_t roster_bytes, const uint8_t 
         uint32_t mask;
     } shown[MAX_RECEIPTS];
     size_t pairs = 0;
+    uint64_t blocks = 0;
     for (size_t p = 0; p < receipts; p++) {
         const uint8_t *c = certificate + 160 * p;
         uint64_t keeper = get64(c + C_KEEPER);
@@ -644,8 +658,9 @@ uint8_t plain_certify(const uint8_t *roster, size_t roster_bytes, const uint8_t 
         if (m == members)
             continue;
         keeper_verdict verdict;
-        if (verify(roster + MEMBER * m + 8, 32, c, 160, nonce, 32, keeper, log, &position, &verdict) != KEEPER_DONE ||
-            verdict.kind != KEEPER_ASSIGNED)
+        keeper_result checked = verify(roster + MEMBER * m + 8, 32, c, 160, nonce, 32, keeper, log, &position, &verdict);
+        blocks += checked.blocks;
+        if (checked.number != KEEPER_DONE || verdict.kind != KEEPER_ASSIGNED)
             continue;
         size_t k = 0;
         while (k < pairs && memcmp(shown[k].pair, c + C_VALUE, 64) != 0)
@@ -662,10 +677,10 @@ uint8_t plain_certify(const uint8_t *roster, size_t roster_bytes, const uint8_t 
         if ((size_t)__builtin_popcount(shown[k].mask) >= (members + 1) / 2) {
             *place = shown[k].place;
             *mask = shown[k].mask;
-            return KEEPER_DONE;
+            return done(blocks);
         }
     }
-    return KEEPER_TOO_FEW;
+    return (keeper_result){KEEPER_TOO_FEW, blocks};
 }
 
 /* ---- runs ---- */
@@ -675,29 +690,30 @@ static int no_run(uint64_t first, size_t bytes)
     return bytes == 0 || bytes % 32 != 0 || first == 0 || bytes / 32 - 1 > UINT64_MAX - first;
 }
 
-uint8_t plain_compare(const uint8_t *start1, size_t start1_bytes, uint64_t first1, const uint8_t *values1,
-                      size_t values1_bytes, const uint8_t *start2, size_t start2_bytes, uint64_t first2,
-                      const uint8_t *values2, size_t values2_bytes, uint8_t *collision, size_t collision_bytes,
-                      uint8_t *verdict)
+keeper_result plain_compare(const uint8_t *start1, size_t start1_bytes, uint64_t first1, const uint8_t *values1,
+                            size_t values1_bytes, const uint8_t *start2, size_t start2_bytes, uint64_t first2,
+                            const uint8_t *values2, size_t values2_bytes, uint8_t *collision, size_t collision_bytes,
+                            uint8_t *verdict)
 {
     if (start1_bytes != 32 || start2_bytes != 32 || collision_bytes != 144)
-        return KEEPER_LENGTH;
+        return refused(KEEPER_LENGTH);
     if (no_run(first1, values1_bytes) || no_run(first2, values2_bytes))
-        return KEEPER_NO_RUN;
+        return refused(KEEPER_NO_RUN);
     size_t count1 = values1_bytes / 32, count2 = values2_bytes / 32, i1 = 0, i2 = 0;
     uint8_t block1[72], block2[72], unequal[144];
     uint8_t digest1[32], digest2[32];
+    uint64_t blocks = 0;
     memcpy(digest1, start1, 32);
     memcpy(digest2, start2, 32);
 
     /* First what the longer run has before the shorter one's first entry, then both in step. */
     for (; count1 - i1 > count2; i1++) {
         block_of(block1, first1 + i1, values1 + 32 * i1, digest1);
-        sha256(block1, 72, digest1);
+        blocks += sha256(block1, 72, digest1);
     }
     for (; count2 - i2 > count1; i2++) {
         block_of(block2, first2 + i2, values2 + 32 * i2, digest2);
-        sha256(block2, 72, digest2);
+        blocks += sha256(block2, 72, digest2);
     }
     int differ = 0;
     for (; i1 < count1; i1++, i2++) {
@@ -708,8 +724,8 @@ uint8_t plain_compare(const uint8_t *start1, size_t start1_bytes, uint64_t first
             memcpy(unequal + 72, block2, 72);
             differ = 1;
         }
-        sha256(block1, 72, digest1);
-        sha256(block2, 72, digest2);
+        blocks += sha256(block1, 72, digest1);
+        blocks += sha256(block2, 72, digest2);
     }
     if (memcmp(digest1, digest2, 32) != 0) {
         *verdict = KEEPER_DIFFER;
@@ -719,5 +735,5 @@ uint8_t plain_compare(const uint8_t *start1, size_t start1_bytes, uint64_t first
         memcpy(collision, unequal, 144);
         *verdict = KEEPER_COLLISION;
     }
-    return KEEPER_DONE;
+    return done(blocks);
 }

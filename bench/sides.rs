@@ -1,5 +1,13 @@
 //! The two sides, the keeper's static library and the plain C, as one set of functions over slices.
 
+/// `keeper_result` of keeper.h.
+#[repr(C)]
+#[derive(Clone, Copy, PartialEq, Debug)]
+pub struct KeeperResult {
+    pub number: u64,
+    pub blocks: u64,
+}
+
 /// `keeper_verdict` of keeper.h.
 #[repr(C)]
 #[derive(Clone, Copy, PartialEq, Debug, Default)]
@@ -14,24 +22,24 @@ pub struct Verdict {
 type In = *const u8;
 type Out = *mut u8;
 type Num = *mut u64;
-type Verify = unsafe extern "C" fn(In, usize, In, usize, In, usize, u64, u64, u64, *mut Verdict) -> u8;
-type VerifyEnd = unsafe extern "C" fn(In, usize, In, usize, In, usize, u64, u64, *mut Verdict) -> u8;
-type Certify = unsafe extern "C" fn(In, usize, In, usize, u64, u64, In, usize, Num, *mut u32) -> u8;
+type Verify = unsafe extern "C" fn(In, usize, In, usize, In, usize, u64, u64, u64, *mut Verdict) -> KeeperResult;
+type VerifyEnd = unsafe extern "C" fn(In, usize, In, usize, In, usize, u64, u64, *mut Verdict) -> KeeperResult;
+type Certify = unsafe extern "C" fn(In, usize, In, usize, u64, u64, In, usize, Num, *mut u32) -> KeeperResult;
 type Compare =
-    unsafe extern "C" fn(In, usize, u64, In, usize, In, usize, u64, In, usize, Out, usize, *mut u8) -> u8;
+    unsafe extern "C" fn(In, usize, u64, In, usize, In, usize, u64, In, usize, Out, usize, *mut u8) -> KeeperResult;
 
 pub struct Side {
     pub name: &'static str,
-    hash: unsafe extern "C" fn(In, usize, Out, usize) -> u8,
-    tag: unsafe extern "C" fn(In, usize, In, usize, Out, usize) -> u8,
-    format: unsafe extern "C" fn(Out, usize, u64, u64, u64, In, usize) -> u8,
+    hash: unsafe extern "C" fn(In, usize, Out, usize) -> KeeperResult,
+    tag: unsafe extern "C" fn(In, usize, In, usize, Out, usize) -> KeeperResult,
+    format: unsafe extern "C" fn(Out, usize, u64, u64, u64, In, usize) -> KeeperResult,
     check: unsafe extern "C" fn(In, usize) -> u8,
     free: unsafe extern "C" fn(In, usize, Num) -> u8,
-    append: unsafe extern "C" fn(Out, usize, u64, In, usize, Num, Num) -> u8,
-    advance: unsafe extern "C" fn(Out, usize, u64, u64, In, usize, In, usize, Num, Num) -> u8,
-    truncate: unsafe extern "C" fn(Out, usize, u64, u64, Num, Num) -> u8,
-    lookup: unsafe extern "C" fn(In, usize, u64, u64, In, usize, Out, usize, Num) -> u8,
-    end: unsafe extern "C" fn(In, usize, u64, In, usize, Out, usize) -> u8,
+    append: unsafe extern "C" fn(Out, usize, u64, In, usize, Num, Num) -> KeeperResult,
+    advance: unsafe extern "C" fn(Out, usize, u64, u64, In, usize, In, usize, Num, Num) -> KeeperResult,
+    truncate: unsafe extern "C" fn(Out, usize, u64, u64, Num, Num) -> KeeperResult,
+    lookup: unsafe extern "C" fn(In, usize, u64, u64, In, usize, Out, usize, Num) -> KeeperResult,
+    end: unsafe extern "C" fn(In, usize, u64, In, usize, Out, usize) -> KeeperResult,
     verify_lookup: Verify,
     verify_end: VerifyEnd,
     certify: Certify,
@@ -43,41 +51,45 @@ macro_rules! side {
      $advance:ident, $truncate:ident, $lookup:ident, $end:ident, $verify_lookup:ident, $verify_end:ident,
      $certify:ident, $compare:ident) => {
         extern "C" {
-            fn $hash(message: In, message_bytes: usize, digest: Out, digest_bytes: usize) -> u8;
-            fn $tag(key: In, key_bytes: usize, text: In, text_bytes: usize, tag: Out, tag_bytes: usize) -> u8;
-            fn $format(t: Out, t_bytes: usize, logs: u64, slots: u64, keeper: u64, key: In, key_bytes: usize) -> u8;
+            fn $hash(message: In, message_bytes: usize, digest: Out, digest_bytes: usize) -> KeeperResult;
+            fn $tag(key: In, key_bytes: usize, text: In, text_bytes: usize, tag: Out, tag_bytes: usize) -> KeeperResult;
+            fn $format(
+                t: Out, t_bytes: usize, logs: u64, slots: u64, keeper: u64, key: In, key_bytes: usize,
+            ) -> KeeperResult;
             fn $check(t: In, t_bytes: usize) -> u8;
             fn $free(t: In, t_bytes: usize, free: Num) -> u8;
-            fn $append(t: Out, t_bytes: usize, log: u64, value: In, value_bytes: usize, low: Num, high: Num) -> u8;
+            fn $append(
+                t: Out, t_bytes: usize, log: u64, value: In, value_bytes: usize, low: Num, high: Num,
+            ) -> KeeperResult;
             fn $advance(
                 t: Out, t_bytes: usize, log: u64, position: u64, digest: In, digest_bytes: usize, value: In,
                 value_bytes: usize, low: Num, high: Num,
-            ) -> u8;
-            fn $truncate(t: Out, t_bytes: usize, log: u64, position: u64, low: Num, high: Num) -> u8;
+            ) -> KeeperResult;
+            fn $truncate(t: Out, t_bytes: usize, log: u64, position: u64, low: Num, high: Num) -> KeeperResult;
             fn $lookup(
                 t: In, t_bytes: usize, log: u64, position: u64, nonce: In, nonce_bytes: usize, receipt: Out,
                 receipt_bytes: usize, examined: Num,
-            ) -> u8;
+            ) -> KeeperResult;
             fn $end(
                 t: In, t_bytes: usize, log: u64, nonce: In, nonce_bytes: usize, receipt: Out, receipt_bytes: usize,
-            ) -> u8;
+            ) -> KeeperResult;
             fn $verify_lookup(
                 key: In, key_bytes: usize, receipt: In, receipt_bytes: usize, nonce: In, nonce_bytes: usize,
                 keeper: u64, log: u64, position: u64, verdict: *mut Verdict,
-            ) -> u8;
+            ) -> KeeperResult;
             fn $verify_end(
                 key: In, key_bytes: usize, receipt: In, receipt_bytes: usize, nonce: In, nonce_bytes: usize,
                 keeper: u64, log: u64, verdict: *mut Verdict,
-            ) -> u8;
+            ) -> KeeperResult;
             fn $certify(
                 roster: In, roster_bytes: usize, nonce: In, nonce_bytes: usize, log: u64, position: u64,
                 certificate: In, certificate_bytes: usize, place: Num, mask: *mut u32,
-            ) -> u8;
+            ) -> KeeperResult;
             fn $compare(
                 start1: In, start1_bytes: usize, first1: u64, values1: In, values1_bytes: usize, start2: In,
                 start2_bytes: usize, first2: u64, values2: In, values2_bytes: usize, collision: Out,
                 collision_bytes: usize, verdict: *mut u8,
-            ) -> u8;
+            ) -> KeeperResult;
         }
         pub static $side: Side = Side {
             name: $label,
@@ -111,17 +123,17 @@ side!(
 // What keeper.h asks holds of slices and references: pointers that are not null, bytes that can be read or written, and
 // nothing written that overlaps something else.
 impl Side {
-    pub fn hash(&self, message: &[u8], digest: &mut [u8]) -> u8 {
+    pub fn hash(&self, message: &[u8], digest: &mut [u8]) -> KeeperResult {
         unsafe { (self.hash)(message.as_ptr(), message.len(), digest.as_mut_ptr(), digest.len()) }
     }
 
-    pub fn tag(&self, key: &[u8], text: &[u8], tag: &mut [u8]) -> u8 {
+    pub fn tag(&self, key: &[u8], text: &[u8], tag: &mut [u8]) -> KeeperResult {
         unsafe {
             (self.tag)(key.as_ptr(), key.len(), text.as_ptr(), text.len(), tag.as_mut_ptr(), tag.len())
         }
     }
 
-    pub fn format(&self, table: &mut [u8], logs: u64, slots: u64, keeper: u64, key: &[u8]) -> u8 {
+    pub fn format(&self, table: &mut [u8], logs: u64, slots: u64, keeper: u64, key: &[u8]) -> KeeperResult {
         unsafe { (self.format)(table.as_mut_ptr(), table.len(), logs, slots, keeper, key.as_ptr(), key.len()) }
     }
 
@@ -133,13 +145,13 @@ impl Side {
         unsafe { (self.free)(table.as_ptr(), table.len(), free) }
     }
 
-    pub fn append(&self, table: &mut [u8], log: u64, value: &[u8], low: &mut u64, high: &mut u64) -> u8 {
+    pub fn append(&self, table: &mut [u8], log: u64, value: &[u8], low: &mut u64, high: &mut u64) -> KeeperResult {
         unsafe { (self.append)(table.as_mut_ptr(), table.len(), log, value.as_ptr(), value.len(), low, high) }
     }
 
     pub fn advance(
         &self, table: &mut [u8], log: u64, position: u64, digest: &[u8], value: &[u8], low: &mut u64, high: &mut u64,
-    ) -> u8 {
+    ) -> KeeperResult {
         unsafe {
             (self.advance)(
                 table.as_mut_ptr(), table.len(), log, position, digest.as_ptr(), digest.len(), value.as_ptr(),
@@ -148,13 +160,13 @@ impl Side {
         }
     }
 
-    pub fn truncate(&self, table: &mut [u8], log: u64, position: u64, low: &mut u64, high: &mut u64) -> u8 {
+    pub fn truncate(&self, table: &mut [u8], log: u64, position: u64, low: &mut u64, high: &mut u64) -> KeeperResult {
         unsafe { (self.truncate)(table.as_mut_ptr(), table.len(), log, position, low, high) }
     }
 
     pub fn lookup(
         &self, table: &[u8], log: u64, position: u64, nonce: &[u8], receipt: &mut [u8], examined: &mut u64,
-    ) -> u8 {
+    ) -> KeeperResult {
         unsafe {
             (self.lookup)(
                 table.as_ptr(), table.len(), log, position, nonce.as_ptr(), nonce.len(), receipt.as_mut_ptr(),
@@ -163,7 +175,7 @@ impl Side {
         }
     }
 
-    pub fn end(&self, table: &[u8], log: u64, nonce: &[u8], receipt: &mut [u8]) -> u8 {
+    pub fn end(&self, table: &[u8], log: u64, nonce: &[u8], receipt: &mut [u8]) -> KeeperResult {
         unsafe {
             (self.end)(
                 table.as_ptr(), table.len(), log, nonce.as_ptr(), nonce.len(), receipt.as_mut_ptr(), receipt.len(),
@@ -175,7 +187,7 @@ impl Side {
     pub fn verify(
         &self, key: &[u8], receipt: &[u8], nonce: &[u8], keeper: u64, log: u64, position: Option<u64>,
         verdict: &mut Verdict,
-    ) -> u8 {
+    ) -> KeeperResult {
         unsafe {
             match position {
                 Some(n) => (self.verify_lookup)(
@@ -193,7 +205,7 @@ impl Side {
     pub fn certify(
         &self, roster: &[u8], nonce: &[u8], log: u64, position: u64, certificate: &[u8], place: &mut u64,
         mask: &mut u32,
-    ) -> u8 {
+    ) -> KeeperResult {
         unsafe {
             (self.certify)(
                 roster.as_ptr(), roster.len(), nonce.as_ptr(), nonce.len(), log, position, certificate.as_ptr(),
@@ -202,7 +214,7 @@ impl Side {
         }
     }
 
-    pub fn compare(&self, run1: &Run, run2: &Run, collision: &mut [u8], verdict: &mut u8) -> u8 {
+    pub fn compare(&self, run1: &Run, run2: &Run, collision: &mut [u8], verdict: &mut u8) -> KeeperResult {
         unsafe {
             (self.compare)(
                 run1.start.as_ptr(), run1.start.len(), run1.first, run1.values.as_ptr(), run1.values.len(),

@@ -14,22 +14,25 @@ static uint8_t table[KEEPER_TABLE_BYTES(2, 6)], key[100], nonce[32], value[32], 
 static uint8_t roster[3 * KEEPER_MEMBER_BYTES], certificate[32 * 160], values[4 * 32];
 static uint64_t low, high, examined, place;
 static uint32_t mask;
-static uint8_t found, answer;
+static uint8_t found;
+static uint64_t number;
 static keeper_verdict verdict;
 
 /* Compiled with -maccumulate-outgoing-args, so that the stack pointer does not move between the two statements. */
-#define CALL(name, ...) \
+#define CALL_FOR(field, name, ...) \
     static void run_##name(void) \
     { \
         __asm__ volatile("mov %%rsp, %0" : "=m"(at_call)); \
-        answer = name(__VA_ARGS__); \
+        number = name(__VA_ARGS__) field; \
     }
+#define CALL(name, ...) CALL_FOR(.number, name, __VA_ARGS__)
+#define CALL_ALONE(name, ...) CALL_FOR(, name, __VA_ARGS__)
 
 CALL(keeper_hash, values, sizeof values, collision, 32)
 CALL(keeper_tag, key, sizeof key, values, sizeof values, collision, 32)
 CALL(keeper_format, table, sizeof table, 2, 6, 7, key, 32)
-CALL(keeper_check, table, sizeof table)
-CALL(keeper_free, table, sizeof table, &low)
+CALL_ALONE(keeper_check, table, sizeof table)
+CALL_ALONE(keeper_free, table, sizeof table, &low)
 CALL(keeper_append, table, sizeof table, 0, value, 32, &low, &high)
 CALL(keeper_advance, table, sizeof table, 0, 9, nonce, 32, value, 32, &low, &high)
 CALL(keeper_lookup, table, sizeof table, 0, 9, nonce, 32, receipt, 160, &examined)
@@ -54,8 +57,8 @@ static void measure(const char *name, void (*run)(void))
     for (lowest = stack; *lowest == 0xa5;)
         lowest++;
     printf("%s %ld\n", name, (long)(at_call - lowest));
-    if (answer != KEEPER_DONE) {
-        fprintf(stderr, "%s was refused, %d: that is not its longest path\n", name, answer);
+    if (number != KEEPER_DONE) {
+        fprintf(stderr, "%s was refused, %d: that is not its longest path\n", name, (int)number);
         exit(1);
     }
 }

@@ -1,5 +1,5 @@
 //! The table of ratios. Both sides are timed in turn, batch by batch, so that a slow spell of the machine meets both.
-use crate::sides::{Random, Run, Verdict, KEEPER, PLAIN};
+use crate::sides::{KeeperResult, Random, Run, Verdict, KEEPER, PLAIN};
 use crate::tables::*;
 use std::hint::black_box;
 use std::os::raw::c_char;
@@ -10,7 +10,7 @@ extern "C" {
     fn openssl_sha256(message: *const u8, bytes: usize, digest: *mut u8);
     fn openssl_version() -> *const c_char;
     /// plain.c's hash with the standard's own formulas.
-    fn book_hash(message: *const u8, bytes: usize, digest: *mut u8, digest_bytes: usize) -> u8;
+    fn book_hash(message: *const u8, bytes: usize, digest: *mut u8, digest_bytes: usize) -> KeeperResult;
     /// The number of free slots with nothing tested.
     fn plain_two_bytes(table: *const u8) -> u64;
 }
@@ -34,6 +34,8 @@ fn now() -> f64 {
     time[0] as f64 * 1e9 + time[1] as f64
 }
 
+/// Not inlined, so that two calls of one type are timed by the same code.
+#[inline(never)]
 fn batch(n: u64, call: &mut impl FnMut()) -> f64 {
     let start = now();
     for _ in 0..n {
@@ -198,7 +200,7 @@ impl Table {
     /// A call that may change the table: the bytes that it changes are put back after each call, on both sides alike.
     fn call(
         &mut self, label: &str, aim: Option<f64>, prepared: &[u8],
-        one: &mut dyn FnMut(&mut [u8]) -> u8, two: &mut dyn FnMut(&mut [u8]) -> u8,
+        one: &mut dyn FnMut(&mut [u8]) -> u64, two: &mut dyn FnMut(&mut [u8]) -> u64,
     ) {
         let (mut t1, mut t2) = (prepared.to_vec(), prepared.to_vec());
         let (number, other) = (one(&mut t1), two(&mut t2));
@@ -244,31 +246,31 @@ impl Table {
         let cut = low + positions(prepared, 0).len() as u64 / 2;
         let (mut l, mut h, mut receipt) = (0, 0, [0; 160]);
         let (mut l2, mut h2, mut receipt2) = (0, 0, [0; 160]);
-        self.call(&label("check"), aim, prepared, &mut |t| KEEPER.check(t), &mut |t| PLAIN.check(t));
+        self.call(&label("check"), aim, prepared, &mut |t| KEEPER.check(t) as u64, &mut |t| PLAIN.check(t) as u64);
         self.call(
             &label("append"), aim, prepared,
-            &mut |t| KEEPER.append(t, 0, &value, &mut l, &mut h),
-            &mut |t| PLAIN.append(t, 0, &value, &mut l2, &mut h2),
+            &mut |t| KEEPER.append(t, 0, &value, &mut l, &mut h).number,
+            &mut |t| PLAIN.append(t, 0, &value, &mut l2, &mut h2).number,
         );
         self.call(
             &label("advance"), aim, prepared,
-            &mut |t| KEEPER.advance(t, 0, high + 3, &digest, &value, &mut l, &mut h),
-            &mut |t| PLAIN.advance(t, 0, high + 3, &digest, &value, &mut l2, &mut h2),
+            &mut |t| KEEPER.advance(t, 0, high + 3, &digest, &value, &mut l, &mut h).number,
+            &mut |t| PLAIN.advance(t, 0, high + 3, &digest, &value, &mut l2, &mut h2).number,
         );
         self.call(
             &label("truncate"), aim, prepared,
-            &mut |t| KEEPER.truncate(t, 0, cut, &mut l, &mut h),
-            &mut |t| PLAIN.truncate(t, 0, cut, &mut l2, &mut h2),
+            &mut |t| KEEPER.truncate(t, 0, cut, &mut l, &mut h).number,
+            &mut |t| PLAIN.truncate(t, 0, cut, &mut l2, &mut h2).number,
         );
         self.call(
             &label("lookup"), aim, prepared,
-            &mut |t| KEEPER.lookup(t, 0, middle, &nonce, &mut receipt, &mut l),
-            &mut |t| PLAIN.lookup(t, 0, middle, &nonce, &mut receipt2, &mut l2),
+            &mut |t| KEEPER.lookup(t, 0, middle, &nonce, &mut receipt, &mut l).number,
+            &mut |t| PLAIN.lookup(t, 0, middle, &nonce, &mut receipt2, &mut l2).number,
         );
         self.call(
             &label("end"), aim, prepared,
-            &mut |t| KEEPER.end(t, 0, &nonce, &mut receipt),
-            &mut |t| PLAIN.end(t, 0, &nonce, &mut receipt2),
+            &mut |t| KEEPER.end(t, 0, &nonce, &mut receipt).number,
+            &mut |t| PLAIN.end(t, 0, &nonce, &mut receipt2).number,
         );
     }
 
@@ -315,10 +317,11 @@ impl Table {
             self.row(label, &times, None, "");
         }
         self.head("The status screen's read, by size of table", "keeper (1,1)");
-        let times = self.timer.pair(
-            || assert_eq!((KEEPER.free(black_box(&large), &mut n1), n1), (0, 400)),
-            || assert_eq!((KEEPER.free(black_box(&small), &mut n2), n2), (0, 1)),
-        );
+        fn read(t: &[u8], n: u64) -> impl FnMut() + '_ {
+            let mut found = 0;
+            move || assert_eq!((KEEPER.free(black_box(t), &mut found), found), (0, n))
+        }
+        let times = self.timer.pair(read(&large, 400), read(&small, 1));
         self.row("free slots (16,800) half / (1,1) empty", &times, Some(1.0), "");
     }
 
@@ -342,8 +345,8 @@ impl Table {
             ("verify a lookup, no possible entry", &impossible, Some(99), 9),
         ] {
             let times = self.timer.pair(
-                || assert_eq!(KEEPER.verify(&key, black_box(receipt), &nonce, 7, 3, position, &mut v1), number),
-                || assert_eq!(PLAIN.verify(&key, black_box(receipt), &nonce, 7, 3, position, &mut v2), number),
+                || assert_eq!(KEEPER.verify(&key, black_box(receipt), &nonce, 7, 3, position, &mut v1).number, number),
+                || assert_eq!(PLAIN.verify(&key, black_box(receipt), &nonce, 7, 3, position, &mut v2).number, number),
             );
             self.row(label, &times, None, "");
         }
@@ -352,7 +355,7 @@ impl Table {
         let mut digest = [0; 32];
         self.head("The verifier, against six compressions", "keeper's hash");
         let times = self.timer.pair(
-            || assert_eq!(KEEPER.verify(&key, black_box(&lookup), &nonce, 7, 3, Some(99), &mut v1), 0),
+            || assert_eq!(KEEPER.verify(&key, black_box(&lookup), &nonce, 7, 3, Some(99), &mut v1).number, 0),
             || { KEEPER.hash(black_box(&six), &mut digest); },
         );
         self.row("verify a lookup / hash of 375 bytes", &times, Some(1.1), "");
@@ -363,19 +366,19 @@ impl Table {
         let mut random = Random(7);
         let (nonce, pair) = (random.bytes(32), random.bytes(64));
         for (members, receipts) in [(1, 1), (31, 16), (31, 31)] {
-            let (mut roster, mut certificate) = (Vec::new(), Vec::new());
+            let (mut roster, mut pile) = (Vec::new(), Vec::new());
             for m in 0..members {
                 let key = random.bytes(32);
                 roster.extend_from_slice(&(m as u64 + 100).to_be_bytes());
                 roster.extend_from_slice(&key);
                 if m < receipts {
-                    certificate.extend(Receipt::assigned(m as u64 + 100, 3, 99, &nonce, &pair).write(&key));
+                    pile.extend(Receipt::assigned(m as u64 + 100, 3, 99, &nonce, &pair).write(&key));
                 }
             }
             let (mut p1, mut p2, mut m1, mut m2) = (0, 0, 0, 0);
             let times = self.timer.pair(
-                || assert_eq!(KEEPER.certify(&roster, &nonce, 3, 99, black_box(&certificate), &mut p1, &mut m1), 0),
-                || assert_eq!(PLAIN.certify(&roster, &nonce, 3, 99, black_box(&certificate), &mut p2, &mut m2), 0),
+                || assert_eq!(KEEPER.certify(&roster, &nonce, 3, 99, black_box(&pile), &mut p1, &mut m1).number, 0),
+                || assert_eq!(PLAIN.certify(&roster, &nonce, 3, 99, black_box(&pile), &mut p2, &mut m2).number, 0),
             );
             self.row(&format!("{receipts} receipts, roster of {members}"), &times, None, "");
         }
@@ -389,8 +392,8 @@ impl Table {
             let (mut b1, mut b2, mut v1, mut v2) = ([0; 144], [0; 144], 0, 0);
             let other = run.clone();
             let times = self.timer.pair(
-                || assert_eq!(KEEPER.compare(&run, black_box(&other), &mut b1, &mut v1), 0),
-                || assert_eq!(PLAIN.compare(&run, black_box(&other), &mut b2, &mut v2), 0),
+                || assert_eq!(KEEPER.compare(&run, black_box(&other), &mut b1, &mut v1).number, 0),
+                || assert_eq!(PLAIN.compare(&run, black_box(&other), &mut b2, &mut v2).number, 0),
             );
             assert!(v1 == 1 && v2 == 1);
             self.row(label, &times, None, "");

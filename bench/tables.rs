@@ -96,10 +96,10 @@ pub fn shuffle(t: &mut [u8], random: &mut Random) {
 pub fn filled(g: u64, s: u64, entries: u64, random: &mut Random) -> Vec<u8> {
     let mut t = vec![0; table_bytes(g, s)];
     let key = random.bytes(32);
-    assert_eq!(PLAIN.format(&mut t, g, s, 7, &key), 0);
+    assert_eq!(PLAIN.format(&mut t, g, s, 7, &key).number, 0);
     let (mut low, mut high) = (0, 0);
     for i in 0..entries {
-        assert_eq!(PLAIN.append(&mut t, i % g, &random.bytes(32), &mut low, &mut high), 0);
+        assert_eq!(PLAIN.append(&mut t, i % g, &random.bytes(32), &mut low, &mut high).number, 0);
     }
     t
 }
@@ -149,5 +149,5 @@ impl Receipt {
 /// Writes the tag that belongs to a receipt's first 128 bytes.
 pub fn retag(receipt: &mut [u8], key: &[u8]) {
     let (text, tag) = receipt.split_at_mut(128);
-    assert_eq!(PLAIN.tag(key, text, tag), 0);
+    assert_eq!(PLAIN.tag(key, text, tag).number, 0);
 }

@@ -6,7 +6,10 @@
  * What every function keeps:
  * - It returns a number: 0 done, or one of the KEEPER_ refusals below, which docs/SCRIPT.md, "Numbers returned", tells in
  *   full. Where several fit, the order given at the function decides.
- * - A refusal changes nothing: no byte of a lent buffer and no result. Results are written when 0 is returned, and only then.
+ * - A function that may hash returns with its number, by value, how many blocks of 64 bytes SHA-256 compressed for it
+ *   (keeper_result): those that were compressed, whatever the number. What is refused before it hashes counts 0.
+ * - A refusal changes nothing: no byte of a lent buffer and no result. Results are written when the number is 0, and only
+ *   then.
  * - It keeps no pointer, allocates nothing and has no state of its own: all that goes from call to call is the table. So
  *   threads may call at the same time, as long as none writes a buffer that another one lends: lookups of one table may run
  *   side by side, an append stands alone.
@@ -96,6 +99,13 @@ enum { KEEPER_UNASSIGNED = 0, KEEPER_ASSIGNED = 1, KEEPER_SKIPPED = 2, KEEPER_FO
 /* What a comparison of runs finds. */
 enum { KEEPER_DIFFER = 0, KEEPER_AGREE = 1, KEEPER_COLLISION = 2 };
 
+/* What a call returns that counts blocks: KEEPER_DONE or a refusal, and the blocks of 64 bytes that SHA-256 compressed. By
+ * value, in two registers: 16 bytes, without padding. */
+typedef struct {
+    uint64_t number;
+    uint64_t blocks;
+} keeper_result;
+
 /* What an accepted receipt says; its value and digest stand in the receipt. 40 bytes, without padding. */
 typedef struct {
     uint64_t keeper;
@@ -105,64 +115,70 @@ typedef struct {
     uint64_t reference;
 } keeper_verdict;
 
-/* SHA-256 of a message, into 32 bytes. Refused: 7 for another length of digest, or a message of 2^61 bytes or more. */
-uint8_t keeper_hash(const uint8_t *message, size_t message_bytes, uint8_t *digest, size_t digest_bytes);
+/* SHA-256 of a message, into 32 bytes. Blocks: those of the padded message, (message_bytes + 72) / 64; 0 where refused.
+ * Refused: 7 for another length of digest, or a message of 2^61 bytes or more. */
+keeper_result keeper_hash(const uint8_t *message, size_t message_bytes, uint8_t *digest, size_t digest_bytes);
 
-/* HMAC-SHA-256 of a text under a key of any length, into 32 bytes. Refused: 7 for another length of tag, or a key or text
- * that is too long to hash (the text with HMAC's pad block of 64 bytes before it). */
-uint8_t keeper_tag(const uint8_t *key, size_t key_bytes, const uint8_t *text, size_t text_bytes, uint8_t *tag,
-                   size_t tag_bytes);
+/* HMAC-SHA-256 of a text under a key of any length, into 32 bytes. Blocks: those of the two padded messages, each with its
+ * pad block of 64 bytes, (text_bytes + 136) / 64 and 2; for a key of more than 64 bytes those of its own hash as well; 0 where
+ * refused. Refused: 7 for another length of tag, or a key or text that is too long to hash (the text with the pad block before
+ * it). */
+keeper_result keeper_tag(const uint8_t *key, size_t key_bytes, const uint8_t *text, size_t text_bytes, uint8_t *tag,
+                         size_t tag_bytes);
 
 /* Writes a table of fresh logs and free slots over all of the buffer, which has KEEPER_TABLE_BYTES(logs, slots) bytes.
- * Refused, in this order: 8 unless 1 <= logs <= 16 and 1 <= slots <= 800; 7 for another length of table, or a key of
- * another length than 32. */
-uint8_t keeper_format(uint8_t *table, size_t table_bytes, uint64_t logs, uint64_t slots, uint64_t keeper,
-                      const uint8_t *key, size_t key_bytes);
+ * Blocks: 0. Refused, in this order: 8 unless 1 <= logs <= 16 and 1 <= slots <= 800; 7 for another length of table, or a key
+ * of another length than 32. */
+keeper_result keeper_format(uint8_t *table, size_t table_bytes, uint64_t logs, uint64_t slots, uint64_t keeper,
+                            const uint8_t *key, size_t key_bytes);
 
-/* Whether the table is whole: 0, or refused with 1. */
+/* Whether the table is whole: 0, or refused with 1. Hashes nothing. */
 uint8_t keeper_check(const uint8_t *table, size_t table_bytes);
 
 /* The number of free slots, for a status screen: free becomes the number that the header names, also that of a torn table;
- * of a whole one it is the number of free slots. Looks at the length and six bytes, and walks nothing. Refused: 1 for bytes
- * shorter than a header, 52, or without the mark A2MU. */
+ * of a whole one it is the number of free slots. Looks at the length and six bytes, walks nothing and hashes nothing. Refused:
+ * 1 for bytes shorter than a header, 52, or without the mark A2MU. */
 uint8_t keeper_free(const uint8_t *table, size_t table_bytes, uint64_t *free);
 
 /* Puts a value of 32 bytes at the log's next position; low and high become the log's lowest and highest position after it.
- * Refused, in this order: 7 the value's length; 1; 2; 4; 5. */
-uint8_t keeper_append(uint8_t *table, size_t table_bytes, uint64_t log, const uint8_t *value, size_t value_bytes,
-                      uint64_t *low, uint64_t *high);
+ * Blocks: 2, or 0 where refused. Refused, in this order: 7 the value's length; 1; 2; 4; 5. */
+keeper_result keeper_append(uint8_t *table, size_t table_bytes, uint64_t log, const uint8_t *value, size_t value_bytes,
+                            uint64_t *low, uint64_t *high);
 
 /* Puts a value at a position above the log's highest, chained to the given digest; positions between become skipped.
- * Refused, in this order: 7 the digest's or value's length; 1; 2; 3 unless position > H; 5. */
-uint8_t keeper_advance(uint8_t *table, size_t table_bytes, uint64_t log, uint64_t position, const uint8_t *digest,
-                       size_t digest_bytes, const uint8_t *value, size_t value_bytes, uint64_t *low, uint64_t *high);
+ * Blocks: 2, or 0 where refused. Refused, in this order: 7 the digest's or value's length; 1; 2; 3 unless position > H; 5. */
+keeper_result keeper_advance(uint8_t *table, size_t table_bytes, uint64_t log, uint64_t position, const uint8_t *digest,
+                             size_t digest_bytes, const uint8_t *value, size_t value_bytes, uint64_t *low,
+                             uint64_t *high);
 
-/* Forgets the log's entries below a position, and frees their slots. Refused, in this order: 1; 2; 3 unless
+/* Forgets the log's entries below a position, and frees their slots. Blocks: 0. Refused, in this order: 1; 2; 3 unless
  * L < position <= H. */
-uint8_t keeper_truncate(uint8_t *table, size_t table_bytes, uint64_t log, uint64_t position, uint64_t *low,
-                        uint64_t *high);
+keeper_result keeper_truncate(uint8_t *table, size_t table_bytes, uint64_t log, uint64_t position, uint64_t *low,
+                              uint64_t *high);
 
 /* Writes a receipt of 160 bytes on what stands at a position, on a skipped one with the entry that jumped over it; examined
- * becomes the number of held entries looked at.
+ * becomes the number of held entries looked at. Blocks: 6, or 0 where refused.
  * Refused, in this order: 7 the nonce's or receipt's length; 1; 2; 3 for position 0. */
-uint8_t keeper_lookup(const uint8_t *table, size_t table_bytes, uint64_t log, uint64_t position, const uint8_t *nonce,
-                      size_t nonce_bytes, uint8_t *receipt, size_t receipt_bytes, uint64_t *examined);
+keeper_result keeper_lookup(const uint8_t *table, size_t table_bytes, uint64_t log, uint64_t position,
+                            const uint8_t *nonce, size_t nonce_bytes, uint8_t *receipt, size_t receipt_bytes,
+                            uint64_t *examined);
 
-/* Writes a receipt of 160 bytes on the log's last entry. Refused, in this order: 7 the nonce's or receipt's length; 1; 2;
- * 6 for a log without an entry. */
-uint8_t keeper_end(const uint8_t *table, size_t table_bytes, uint64_t log, const uint8_t *nonce, size_t nonce_bytes,
-                   uint8_t *receipt, size_t receipt_bytes);
+/* Writes a receipt of 160 bytes on the log's last entry. Blocks: 6, or 0 where refused. Refused, in this order: 7 the nonce's
+ * or receipt's length; 1; 2; 6 for a log without an entry. */
+keeper_result keeper_end(const uint8_t *table, size_t table_bytes, uint64_t log, const uint8_t *nonce,
+                         size_t nonce_bytes, uint8_t *receipt, size_t receipt_bytes);
 
 /* Whether a receipt answers the question for a position of a keeper's log, with this nonce, under this key; verdict becomes
- * what it says. Refused, in this order: 7 the key's or nonce's length; 9 also for another length of receipt; 10; 11. */
-uint8_t keeper_verify_lookup(const uint8_t *key, size_t key_bytes, const uint8_t *receipt, size_t receipt_bytes,
-                             const uint8_t *nonce, size_t nonce_bytes, uint64_t keeper, uint64_t log, uint64_t position,
-                             keeper_verdict *verdict);
+ * what it says. Blocks: 6 once the tag is looked at, so with 10 and 11 too; with 7 and 9 none. Refused, in this order: 7 the
+ * key's or nonce's length; 9 also for another length of receipt; 10; 11. */
+keeper_result keeper_verify_lookup(const uint8_t *key, size_t key_bytes, const uint8_t *receipt, size_t receipt_bytes,
+                                   const uint8_t *nonce, size_t nonce_bytes, uint64_t keeper, uint64_t log,
+                                   uint64_t position, keeper_verdict *verdict);
 
 /* The same for the question for a log's end, which names no position. */
-uint8_t keeper_verify_end(const uint8_t *key, size_t key_bytes, const uint8_t *receipt, size_t receipt_bytes,
-                          const uint8_t *nonce, size_t nonce_bytes, uint64_t keeper, uint64_t log,
-                          keeper_verdict *verdict);
+keeper_result keeper_verify_end(const uint8_t *key, size_t key_bytes, const uint8_t *receipt, size_t receipt_bytes,
+                                const uint8_t *nonce, size_t nonce_bytes, uint64_t keeper, uint64_t log,
+                                keeper_verdict *verdict);
 
 /* Whether a certificate, 0 to 32 receipts on end, certifies a value and digest at a position of a log, for a roster: 1 to 31
  * members of KEEPER_MEMBER_BYTES, an odd number N of them with different keeper numbers. A receipt is good if it answers the
@@ -173,21 +189,24 @@ uint8_t keeper_verify_end(const uint8_t *key, size_t key_bytes, const uint8_t *r
  * place becomes the place, from 0, of the first good receipt that shows the certified pair, and mask the members whose good
  * receipts show it, the lowest bit for the roster's first. The certified value stands at
  * certificate + place * KEEPER_RECEIPT_BYTES + KEEPER_AT_VALUE, the digest at KEEPER_AT_DIGEST of the same receipt.
- * Refused, in this order: 7 the nonce's length; 12; 9; 13. */
-uint8_t keeper_certify(const uint8_t *roster, size_t roster_bytes, const uint8_t *nonce, size_t nonce_bytes, uint64_t log,
-                       uint64_t position, const uint8_t *certificate, size_t certificate_bytes, uint64_t *place,
-                       uint32_t *mask);
+ *
+ * Blocks: 6 for each receipt that is a possible entry with the keeper number of a member, good or not, with 13 too;
+ * with 7, 12 and 9 none. Refused, in this order: 7 the nonce's length; 12; 9; 13. */
+keeper_result keeper_certify(const uint8_t *roster, size_t roster_bytes, const uint8_t *nonce, size_t nonce_bytes,
+                             uint64_t log, uint64_t position, const uint8_t *certificate, size_t certificate_bytes,
+                             uint64_t *place, uint32_t *mask);
 
 /* Compares two runs, each a start digest, a first position and values of 32 bytes at consecutive positions. A value's block
  * is its position, the value and the digest before it, 72 bytes, and its digest SHA-256 of the block, as an append makes it.
  * verdict becomes KEEPER_DIFFER where the last digests differ; KEEPER_AGREE where all blocks are equal, from the ends back to
  * the shorter run's first; else KEEPER_COLLISION: then the unequal pair of blocks nearest the ends, which have one SHA-256,
  * fills the buffer of 144 bytes, the first run's before the second's. The other verdicts leave the buffer as it was.
- * Refused, in this order: 7 for another length of a start digest or the buffer; 14. */
-uint8_t keeper_compare(const uint8_t *start1, size_t start1_bytes, uint64_t first1, const uint8_t *values1,
-                       size_t values1_bytes, const uint8_t *start2, size_t start2_bytes, uint64_t first2,
-                       const uint8_t *values2, size_t values2_bytes, uint8_t *collision, size_t collision_bytes,
-                       uint8_t *verdict);
+ * Blocks: 2 for each value of either run, whatever the verdict; 0 where refused. Refused, in this order: 7 for another length
+ * of a start digest or the buffer; 14. */
+keeper_result keeper_compare(const uint8_t *start1, size_t start1_bytes, uint64_t first1, const uint8_t *values1,
+                             size_t values1_bytes, const uint8_t *start2, size_t start2_bytes, uint64_t first2,
+                             const uint8_t *values2, size_t values2_bytes, uint8_t *collision, size_t collision_bytes,
+                             uint8_t *verdict);
 
 #ifdef __cplusplus
 }

@@ -1,10 +1,11 @@
 /* A crest is put, looked up and verified; then what the receipt says is read out of its bytes. The status screen reads the
- * number of free slots before and after. */
+ * number of free slots before and after, and the battery sheet gets the blocks hashed. */
 #include "keeper.h"
 #include <inttypes.h>
 #include <stdio.h>
 #include <string.h>
 
+_Static_assert(sizeof(keeper_result) == 16, "the library returns two numbers of 8 bytes");
 _Static_assert(sizeof(keeper_verdict) == 40, "the library writes five numbers of 8 bytes");
 _Static_assert(KEEPER_MAX_TABLE_BYTES == 61172, "the largest table");
 
@@ -25,16 +26,21 @@ int main(void)
     uint64_t low, high, examined, free_before, free_after;
     keeper_verdict verdict;
 
-    int formatted = keeper_format(table, sizeof table, 2, 6, 7, key, sizeof key);
+    keeper_result formatted = keeper_format(table, sizeof table, 2, 6, 7, key, sizeof key);
     int screen = keeper_free(table, sizeof table, &free_before);
-    int appended = keeper_append(table, sizeof table, 0, crest, sizeof crest, &low, &high);
+    keeper_result appended = keeper_append(table, sizeof table, 0, crest, sizeof crest, &low, &high);
     screen |= keeper_free(table, sizeof table, &free_after);
-    int looked_up = keeper_lookup(table, sizeof table, 0, high, nonce, sizeof nonce, receipt, sizeof receipt, &examined);
-    int verified = keeper_verify_lookup(key, sizeof key, receipt, sizeof receipt, nonce, sizeof nonce, 7, 0, high, &verdict);
+    keeper_result looked_up =
+        keeper_lookup(table, sizeof table, 0, high, nonce, sizeof nonce, receipt, sizeof receipt, &examined);
+    keeper_result verified =
+        keeper_verify_lookup(key, sizeof key, receipt, sizeof receipt, nonce, sizeof nonce, 7, 0, high, &verdict);
 
-    printf("format %d, append %d, lookup %d, verify %d\n", formatted, appended, looked_up, verified);
-    if (verified != KEEPER_DONE || screen != KEEPER_DONE)
+    printf("format %" PRIu64 ", append %" PRIu64 ", lookup %" PRIu64 ", verify %" PRIu64 "\n", formatted.number,
+           appended.number, looked_up.number, verified.number);
+    if (verified.number != KEEPER_DONE || screen != KEEPER_DONE)
         return 1;
+    printf("battery sheet: format %" PRIu64 ", append %" PRIu64 ", lookup %" PRIu64 ", verify %" PRIu64 " blocks hashed\n",
+           formatted.blocks, appended.blocks, looked_up.blocks, verified.blocks);
     printf("status screen: %" PRIu64 " slots free, after the append %" PRIu64 "\n", free_before, free_after);
     printf("verdict: kind %" PRIu64 ", log %" PRIu64 ", keeper %" PRIu64 ", position %" PRIu64 ", reference %" PRIu64 "\n",
            verdict.kind, verdict.log, verdict.keeper, verdict.position, verdict.reference);

@@ -6,7 +6,7 @@
 #include <stdio.h>
 #include <string.h>
 
-_Static_assert(sizeof(keeper_verdict) == 40, "the library writes five numbers of 8 bytes");
+_Static_assert(sizeof(keeper_result) == 16, "the library returns two numbers of 8 bytes");
 
 enum { KEEPERS = 3, STAGE = 0, CREST = 3 };
 
@@ -38,39 +38,39 @@ static int record(void)
         uint64_t low, high;
         put_number(member, 8, 7 + k);
         put_number(key, KEEPER_KEY_BYTES, 1000 + k);
-        if (keeper_format(tables[k], sizeof tables[k], 1, 8, 7 + k, key, KEEPER_KEY_BYTES) != KEEPER_DONE)
+        if (keeper_format(tables[k], sizeof tables[k], 1, 8, 7 + k, key, KEEPER_KEY_BYTES).number != KEEPER_DONE)
             return 0;
         for (int i = 0; i < 3; i++) {
             put_number(value, sizeof value, readings[i]);
-            if (keeper_append(tables[k], sizeof tables[k], STAGE, value, sizeof value, &low, &high) != KEEPER_DONE)
+            if (keeper_append(tables[k], sizeof tables[k], STAGE, value, sizeof value, &low, &high).number != KEEPER_DONE)
                 return 0;
         }
     }
     return 1;
 }
 
-static int fetch(int k, const uint8_t *nonce, uint8_t *receipt)
+static int fetched(int k, const uint8_t *nonce, uint8_t *receipt)
 {
     uint64_t examined;
     return keeper_lookup(tables[k], sizeof tables[k], STAGE, CREST, nonce, KEEPER_NONCE_BYTES, receipt,
-                         KEEPER_RECEIPT_BYTES, &examined);
+                         KEEPER_RECEIPT_BYTES, &examined).number == KEEPER_DONE;
 }
 
 static void certify(const char *office, const uint8_t *nonce, const uint8_t *receipts, size_t count)
 {
     uint64_t place;
     uint32_t mask;
-    int answer = keeper_certify(roster, sizeof roster, nonce, KEEPER_NONCE_BYTES, STAGE, CREST, receipts,
-                                count * KEEPER_RECEIPT_BYTES, &place, &mask);
-    printf("%s: %zu receipts, answer %d", office, count, answer);
-    if (answer == KEEPER_DONE) {
+    keeper_result answer = keeper_certify(roster, sizeof roster, nonce, KEEPER_NONCE_BYTES, STAGE, CREST, receipts,
+                                          count * KEEPER_RECEIPT_BYTES, &place, &mask);
+    printf("%s: %zu receipts, %" PRIu64 " blocks hashed, answer %" PRIu64, office, count, answer.blocks, answer.number);
+    if (answer.number == KEEPER_DONE) {
         const uint8_t *receipt = receipts + place * KEEPER_RECEIPT_BYTES;
         printf(", certified value %" PRIu64 " in receipt %" PRIu64 ", shown by keepers",
                number_in(receipt + KEEPER_AT_VALUE, KEEPER_VALUE_BYTES), place);
         for (int k = 0; k < KEEPERS; k++)
             if (mask >> k & 1)
                 printf(" %" PRIu64, number_in(roster + k * KEEPER_MEMBER_BYTES, 8));
-    } else if (answer == KEEPER_TOO_FEW) {
+    } else if (answer.number == KEEPER_TOO_FEW) {
         printf(" (too few); value %" PRIu64 " is not certified", number_in(receipts + KEEPER_AT_VALUE, KEEPER_VALUE_BYTES));
     }
     printf("\n");
@@ -81,11 +81,13 @@ static void compare(const char *with, const uint8_t *ours, const uint8_t *theirs
     static const char *const words[] = {"differ", "agree", "collision"};
     const uint8_t start[KEEPER_DIGEST_BYTES] = {0};
     uint8_t collision[KEEPER_COLLISION_BYTES], verdict = 0;
-    int answer = keeper_compare(start, sizeof start, 1, ours, 3 * KEEPER_VALUE_BYTES, start, sizeof start, 1, theirs,
-                                3 * KEEPER_VALUE_BYTES, collision, sizeof collision, &verdict);
-    printf("office 3: its run ending in %" PRIu64 " and %s ending in %" PRIu64 ", answer %d, %s\n",
+    keeper_result answer =
+        keeper_compare(start, sizeof start, 1, ours, 3 * KEEPER_VALUE_BYTES, start, sizeof start, 1, theirs,
+                       3 * KEEPER_VALUE_BYTES, collision, sizeof collision, &verdict);
+    printf("office 3: its run ending in %" PRIu64 " and %s ending in %" PRIu64 ", %" PRIu64
+           " blocks hashed, answer %" PRIu64 ", %s\n",
            number_in(ours + 2 * KEEPER_VALUE_BYTES, KEEPER_VALUE_BYTES), with,
-           number_in(theirs + 2 * KEEPER_VALUE_BYTES, KEEPER_VALUE_BYTES), answer, words[verdict]);
+           number_in(theirs + 2 * KEEPER_VALUE_BYTES, KEEPER_VALUE_BYTES), answer.blocks, answer.number, words[verdict]);
 }
 
 int main(void)
@@ -98,12 +100,12 @@ int main(void)
         return 1;
 
     /* Office 1 reaches all three keepers. */
-    if (fetch(2, nonce1, receipts) || fetch(0, nonce1, second) || fetch(1, nonce1, third))
+    if (!fetched(2, nonce1, receipts) || !fetched(0, nonce1, second) || !fetched(1, nonce1, third))
         return 1;
     certify("office 1", nonce1, receipts, 3);
 
     /* Office 2 reaches keeper 7 twice, and keeper 8's receipt lost a bit on the way. */
-    if (fetch(0, nonce2, receipts) || fetch(0, nonce2, second) || fetch(1, nonce2, third))
+    if (!fetched(0, nonce2, receipts) || !fetched(0, nonce2, second) || !fetched(1, nonce2, third))
         return 1;
     third[KEEPER_AT_VALUE + 31] ^= 1;
     certify("office 2", nonce2, receipts, 3);

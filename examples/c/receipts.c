@@ -29,13 +29,14 @@ static void print_question(int position, size_t receipt_bytes)
     putchar('\n');
 }
 
-static int fetch(int position)
+static uint64_t fetch(int position)
 {
     uint64_t examined;
     nonce[0]++; /* a fresh one for each question; in earnest, random bytes */
     if (position > 0)
-        return keeper_lookup(table, sizeof table, STAGE, position, nonce, sizeof nonce, receipt, sizeof receipt, &examined);
-    return keeper_end(table, sizeof table, STAGE, nonce, sizeof nonce, receipt, sizeof receipt);
+        return keeper_lookup(table, sizeof table, STAGE, position, nonce, sizeof nonce, receipt, sizeof receipt, &examined)
+            .number;
+    return keeper_end(table, sizeof table, STAGE, nonce, sizeof nonce, receipt, sizeof receipt).number;
 }
 
 int main(void)
@@ -46,14 +47,14 @@ int main(void)
     uint64_t low, high;
 
     /* Readings 412, 431 and 455 at positions 1, 2 and 5, the first of which is then forgotten. */
-    int failed = keeper_format(table, sizeof table, LOGS, SLOTS, KEEPER, key, sizeof key);
+    uint64_t failed = keeper_format(table, sizeof table, LOGS, SLOTS, KEEPER, key, sizeof key).number;
     value[30] = 1, value[31] = 156;
-    failed |= keeper_append(table, sizeof table, STAGE, value, sizeof value, &low, &high);
+    failed |= keeper_append(table, sizeof table, STAGE, value, sizeof value, &low, &high).number;
     value[31] = 175;
-    failed |= keeper_append(table, sizeof table, STAGE, value, sizeof value, &low, &high);
+    failed |= keeper_append(table, sizeof table, STAGE, value, sizeof value, &low, &high).number;
     value[31] = 199;
-    failed |= keeper_advance(table, sizeof table, STAGE, 5, digest, sizeof digest, value, sizeof value, &low, &high);
-    failed |= keeper_truncate(table, sizeof table, STAGE, 2, &low, &high);
+    failed |= keeper_advance(table, sizeof table, STAGE, 5, digest, sizeof digest, value, sizeof value, &low, &high).number;
+    failed |= keeper_truncate(table, sizeof table, STAGE, 2, &low, &high).number;
 
     printf("# key,KEEPER,KEY; then questions: lookup,KEEPER,LOG,POSITION,NONCE,RECEIPT and end,KEEPER,LOG,NONCE,RECEIPT\n");
     printf("key,%d", KEEPER);

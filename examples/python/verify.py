@@ -20,6 +20,11 @@ KINDS = ["unassigned", "assigned", "skipped", "forgotten"]
 VALUE = slice(64, 96)
 
 
+class Result(ctypes.Structure):
+    """What a call returns: its number, and the blocks that it hashed."""
+    _fields_ = [(name, ctypes.c_uint64) for name in ("number", "blocks")]
+
+
 class Verdict(ctypes.Structure):
     _fields_ = [(name, ctypes.c_uint64) for name in ("keeper", "log", "position", "kind", "reference")]
 
@@ -31,12 +36,12 @@ def load(path):
     library.keeper_verify_lookup.argtypes = buffer * 3 + [number] * 3 + result
     library.keeper_verify_end.argtypes = buffer * 3 + [number] * 2 + result
     for call in (library.keeper_verify_lookup, library.keeper_verify_end):
-        call.restype = ctypes.c_uint8
+        call.restype = Result
     return library
 
 
 def verify(library, key, receipt, nonce, keeper, log, position=None):
-    """The number returned, and the verdict, which is filled where that is 0. Without a position: the log's end."""
+    """The result, and the verdict, which is filled where its number is 0. Without a position: the log's end."""
     verdict = Verdict()
     buffers = key, len(key), receipt, len(receipt), nonce, len(nonce)
     if position is None:
@@ -51,28 +56,28 @@ def number(text):
 
 
 def answer(library, keys, fields):
-    """What is found on a question, in words, and whether its receipt is accepted."""
+    """What is found on a question, in words, whether its receipt is accepted, and the blocks hashed to tell."""
     if len(fields) != {"lookup": 6, "end": 5}.get(fields[0]):
         raise ValueError("none of key, lookup and end with its fields")
     numbers = [number(n) for n in fields[1:-2]]
     nonce, receipt = [bytes.fromhex(f) for f in fields[-2:]]
     if numbers[0] not in keys:
         raise ValueError(f"no key of keeper {numbers[0]} stands before it")
-    refused, verdict = verify(library, keys[numbers[0]], receipt, nonce, *numbers)
+    result, verdict = verify(library, keys[numbers[0]], receipt, nonce, *numbers)
     asked = ",".join(fields[:-2])
-    if refused:
-        return f"{asked}: refused, {refused} ({WORDS[refused]})", False
+    if result.number:
+        return f"{asked}: refused, {result.number} ({WORDS[result.number]})", False, result.blocks
     found = f"{KINDS[verdict.kind]}, position {verdict.position}, reference {verdict.reference}"
     if KINDS[verdict.kind] in ("assigned", "skipped"):  # a skipped one shows the entry at its reference
         found += f", value {int.from_bytes(receipt[VALUE], 'big')}"
-    return f"{asked}: {found}", True
+    return f"{asked}: {found}", True, result.blocks
 
 
 def main():
     if len(sys.argv) != 3:
         print(__doc__.strip(), file=sys.stderr)
         return 2
-    library, keys, accepted = load(sys.argv[1]), {}, True
+    library, keys, accepted, hashed = load(sys.argv[1]), {}, True, 0
     with open(sys.argv[2], encoding="ascii", errors="replace") as lines:
         for place, line in enumerate(lines, 1):
             fields = line.rstrip("\n").split(",")
@@ -82,12 +87,13 @@ def main():
                 if fields[0] == "key" and len(fields) == 3:
                     keys[number(fields[1])] = bytes.fromhex(fields[2])
                 else:
-                    found, good = answer(library, keys, fields)
+                    found, good, blocks = answer(library, keys, fields)
                     print(f"line {place}: {found}")
-                    accepted = accepted and good
+                    accepted, hashed = accepted and good, hashed + blocks
             except ValueError as fault:
                 print(f"{sys.argv[2]}, line {place}: {fault}", file=sys.stderr)
                 return 2
+    print(f"{hashed} blocks hashed")
     return 0 if accepted else 1
 
 

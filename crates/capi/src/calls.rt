@@ -1,6 +1,9 @@
 // The five calls on a table.
 use a2m::Finding;
+use capi_results::KeeperResult;
 use capi_results::changed;
+use capi_results::refused;
+use capi_results::worked;
 ghost use mathlib.Core.Path.{_≡_};
 ghost use lib.ListN.{length};
 ghost use Rattle.a2m.specs.Call.{append as appends, advance as advances, truncate as truncates, lookup as looks, end as ends};
@@ -15,8 +18,9 @@ pub extern "C" fn keeper_append(
     value: &[u8],
     low: &mut u64,
     high: &mut u64,
-) -> u8
-    ensures answer { λ r. ⌜ r ≡ replyNumber (tableStep (now (table .entry)) (appends log (now (value .entry))) .reply) ⌝ }
+) -> KeeperResult
+    ensures answer { λ r. ⌜ r .number ≡ replyNumber (tableStep (now (table .entry)) (appends log (now (value .entry))) .reply) ⌝ }
+    ensures blocks { λ r. ⌜ r .blocks ≡ tableStep (now (table .entry)) (appends log (now (value .entry))) .blocks ⌝ }
     ensures bytes { λ _. ⌜ now (table .exit) ≡ tableStep (now (table .entry)) (appends log (now (value .entry))) .state ⌝ }
     ensures low { λ _. ⌜ now (low .exit) ≡ lowAfter (tableStep (now (table .entry)) (appends log (now (value .entry))) .reply) (now (low .entry)) ⌝ }
     ensures high { λ _. ⌜ now (high .exit) ≡ highAfter (tableStep (now (table .entry)) (appends log (now (value .entry))) .reply) (now (high .entry)) ⌝ }
@@ -34,8 +38,9 @@ pub extern "C" fn keeper_advance(
     value: &[u8],
     low: &mut u64,
     high: &mut u64,
-) -> u8
-    ensures answer { λ r. ⌜ r ≡ replyNumber (tableStep (now (table .entry)) (advances log position (now (digest .entry)) (now (value .entry))) .reply) ⌝ }
+) -> KeeperResult
+    ensures answer { λ r. ⌜ r .number ≡ replyNumber (tableStep (now (table .entry)) (advances log position (now (digest .entry)) (now (value .entry))) .reply) ⌝ }
+    ensures blocks { λ r. ⌜ r .blocks ≡ tableStep (now (table .entry)) (advances log position (now (digest .entry)) (now (value .entry))) .blocks ⌝ }
     ensures bytes { λ _. ⌜ now (table .exit) ≡ tableStep (now (table .entry)) (advances log position (now (digest .entry)) (now (value .entry))) .state ⌝ }
     ensures low { λ _. ⌜ now (low .exit) ≡ lowAfter (tableStep (now (table .entry)) (advances log position (now (digest .entry)) (now (value .entry))) .reply) (now (low .entry)) ⌝ }
     ensures high { λ _. ⌜ now (high .exit) ≡ highAfter (tableStep (now (table .entry)) (advances log position (now (digest .entry)) (now (value .entry))) .reply) (now (high .entry)) ⌝ }
@@ -51,8 +56,9 @@ pub extern "C" fn keeper_truncate(
     position: u64,
     low: &mut u64,
     high: &mut u64,
-) -> u8
-    ensures answer { λ r. ⌜ r ≡ replyNumber (tableStep (now (table .entry)) (truncates log position) .reply) ⌝ }
+) -> KeeperResult
+    ensures answer { λ r. ⌜ r .number ≡ replyNumber (tableStep (now (table .entry)) (truncates log position) .reply) ⌝ }
+    ensures blocks { λ r. ⌜ r .blocks ≡ tableStep (now (table .entry)) (truncates log position) .blocks ⌝ }
     ensures bytes { λ _. ⌜ now (table .exit) ≡ tableStep (now (table .entry)) (truncates log position) .state ⌝ }
     ensures low { λ _. ⌜ now (low .exit) ≡ lowAfter (tableStep (now (table .entry)) (truncates log position) .reply) (now (low .entry)) ⌝ }
     ensures high { λ _. ⌜ now (high .exit) ≡ highAfter (tableStep (now (table .entry)) (truncates log position) .reply) (now (high .entry)) ⌝ }
@@ -69,25 +75,35 @@ pub extern "C" fn keeper_lookup(
     nonce: &[u8],
     receipt: &mut [u8],
     examined: &mut u64,
-) -> u8
-    ensures answer { λ r. ⌜ r ≡ replyNumber (tableStep (now (table .entry)) (looks log position (now (nonce .entry)) (length (now (receipt .entry)))) .reply) ⌝ }
+) -> KeeperResult
+    ensures answer { λ r. ⌜ r .number ≡ replyNumber (tableStep (now (table .entry)) (looks log position (now (nonce .entry)) (length (now (receipt .entry)))) .reply) ⌝ }
+    ensures blocks { λ r. ⌜ r .blocks ≡ tableStep (now (table .entry)) (looks log position (now (nonce .entry)) (length (now (receipt .entry)))) .blocks ⌝ }
     ensures bytes { λ _. ⌜ now (receipt .exit) ≡ receiptAfter (tableStep (now (table .entry)) (looks log position (now (nonce .entry)) (length (now (receipt .entry)))) .reply) (now (receipt .entry)) ⌝ }
     ensures examined { λ _. ⌜ now (examined .exit) ≡ examinedAfter (tableStep (now (table .entry)) (looks log position (now (nonce .entry)) (length (now (receipt .entry)))) .reply) (now (examined .entry)) ⌝ }
 {
     match a2m_read::lookup::lookup(table, log, position, nonce, receipt) {
-        Finding::Found { examined: n } => {
+        Finding::Found {
+            examined: n,
+            blocks,
+        } => {
             *examined = n;
-            0
+            KeeperResult { number: 0, blocks }
         }
-        Finding::Refused(why) => why.number(),
+        Finding::Refused { why, blocks } => refused(why, blocks),
     }
 }
 
 #[no_mangle]
-pub extern "C" fn keeper_end(table: &[u8], log: u64, nonce: &[u8], receipt: &mut [u8]) -> u8
-    ensures answer { λ r. ⌜ r ≡ replyNumber (tableStep (now (table .entry)) (ends log (now (nonce .entry)) (length (now (receipt .entry)))) .reply) ⌝ }
+pub extern "C" fn keeper_end(
+    table: &[u8],
+    log: u64,
+    nonce: &[u8],
+    receipt: &mut [u8],
+) -> KeeperResult
+    ensures answer { λ r. ⌜ r .number ≡ replyNumber (tableStep (now (table .entry)) (ends log (now (nonce .entry)) (length (now (receipt .entry)))) .reply) ⌝ }
+    ensures blocks { λ r. ⌜ r .blocks ≡ tableStep (now (table .entry)) (ends log (now (nonce .entry)) (length (now (receipt .entry)))) .blocks ⌝ }
     ensures bytes { λ _. ⌜ now (receipt .exit) ≡ receiptAfter (tableStep (now (table .entry)) (ends log (now (nonce .entry)) (length (now (receipt .entry)))) .reply) (now (receipt .entry)) ⌝ }
 {
-    let outcome = a2m_read::end::end(table, log, nonce, receipt);
-    outcome.number()
+    let answer = a2m_read::end::end(table, log, nonce, receipt);
+    worked(answer)
 }

@@ -1,4 +1,6 @@
 // Format, the check of a table, and the status screen's read.
+use capi_results::KeeperResult;
+use capi_results::worked;
 use table::Screen;
 ghost use mathlib.Core.Path.{_≡_};
 ghost use lib.ListN.{length};
@@ -15,12 +17,13 @@ pub extern "C" fn keeper_format(
     slots: u64,
     keeper: u64,
     key: &[u8],
-) -> u8
-    ensures answer { λ r. ⌜ r ≡ answerOf (formatRefusal (length (now (table .entry))) logs slots (length (now (key .entry)))) ⌝ }
+) -> KeeperResult
+    ensures answer { λ r. ⌜ r .number ≡ answerOf (formatRefusal (length (now (table .entry))) logs slots (length (now (key .entry)))) ⌝ }
+    ensures blocks { λ r. ⌜ r .blocks ≡ 0 ⌝ }
     ensures bytes { λ _. ⌜ now (table .exit) ≡ formatBytes (now (table .entry)) logs slots keeper (now (key .entry)) ⌝ }
 {
-    let outcome = table_format::format(table, logs, slots, keeper, key);
-    outcome.number()
+    let answer = table_format::format(table, logs, slots, keeper, key);
+    worked(answer)
 }
 
 #[no_mangle]

@@ -1,11 +1,13 @@
 // The verifier and certificates.
+use capi_results::KeeperResult;
 use capi_results::judged;
+use capi_results::refused;
 use quorum::Station;
 use receipt::Ask;
 use receipt::Question;
 ghost use mathlib.Core.Path.{_≡_};
-ghost use Rattle.receipt.specs.Verdict.{verdict as verdictOn, lookupOf, endOf};
-ghost use Rattle.quorum.specs.Certificate.{certificate as certificateFor};
+ghost use Rattle.receipt.specs.Verdict.{verdict as verdictOn, verifyBlocks, lookupOf, endOf};
+ghost use Rattle.quorum.specs.Certificate.{certificate as certificateFor, certificateBlocks};
 ghost use Rattle.capi_results.specs.Results.{verdictAfter, placeAfter, maskAfter};
 
 #[no_mangle]
@@ -17,8 +19,9 @@ pub extern "C" fn keeper_verify_lookup(
     log: u64,
     position: u64,
     verdict: &mut [u64; 5],
-) -> u8
-    ensures answer { λ r. ⌜ r ≡ verdictOn (now (key .entry)) (now (receipt .entry)) (now (nonce .entry)) (lookupOf keeper log position) .number ⌝ }
+) -> KeeperResult
+    ensures answer { λ r. ⌜ r .number ≡ verdictOn (now (key .entry)) (now (receipt .entry)) (now (nonce .entry)) (lookupOf keeper log position) .number ⌝ }
+    ensures blocks { λ r. ⌜ r .blocks ≡ verifyBlocks (now (key .entry)) (now (receipt .entry)) (now (nonce .entry)) ⌝ }
     ensures verdict { λ _. ⌜ now (verdict .exit) ≡ verdictAfter (verdictOn (now (key .entry)) (now (receipt .entry)) (now (nonce .entry)) (lookupOf keeper log position)) (now (verdict .entry)) ⌝ }
 {
     let question = Question {
@@ -38,8 +41,9 @@ pub extern "C" fn keeper_verify_end(
     keeper: u64,
     log: u64,
     verdict: &mut [u64; 5],
-) -> u8
-    ensures answer { λ r. ⌜ r ≡ verdictOn (now (key .entry)) (now (receipt .entry)) (now (nonce .entry)) (endOf keeper log) .number ⌝ }
+) -> KeeperResult
+    ensures answer { λ r. ⌜ r .number ≡ verdictOn (now (key .entry)) (now (receipt .entry)) (now (nonce .entry)) (endOf keeper log) .number ⌝ }
+    ensures blocks { λ r. ⌜ r .blocks ≡ verifyBlocks (now (key .entry)) (now (receipt .entry)) (now (nonce .entry)) ⌝ }
     ensures verdict { λ _. ⌜ now (verdict .exit) ≡ verdictAfter (verdictOn (now (key .entry)) (now (receipt .entry)) (now (nonce .entry)) (endOf keeper log)) (now (verdict .entry)) ⌝ }
 {
     let question = Question {
@@ -60,17 +64,22 @@ pub extern "C" fn keeper_certify(
     certificate: &[u8],
     place: &mut u64,
     mask: &mut u32,
-) -> u8
-    ensures answer { λ r. ⌜ r ≡ certificateFor (now (roster .entry)) (now (nonce .entry)) log position (now (certificate .entry)) .number ⌝ }
+) -> KeeperResult
+    ensures answer { λ r. ⌜ r .number ≡ certificateFor (now (roster .entry)) (now (nonce .entry)) log position (now (certificate .entry)) .number ⌝ }
+    ensures blocks { λ r. ⌜ r .blocks ≡ certificateBlocks (now (roster .entry)) (now (nonce .entry)) (now (certificate .entry)) ⌝ }
     ensures place { λ _. ⌜ now (place .exit) ≡ placeAfter (certificateFor (now (roster .entry)) (now (nonce .entry)) log position (now (certificate .entry))) (now (place .entry)) ⌝ }
     ensures mask { λ _. ⌜ now (mask .exit) ≡ maskAfter (certificateFor (now (roster .entry)) (now (nonce .entry)) log position (now (certificate .entry))) (now (mask .entry)) ⌝ }
 {
     match quorum::certify(roster, nonce, log, position, certificate) {
-        Station::Certified { place: p, mask: m } => {
+        Station::Certified {
+            place: p,
+            mask: m,
+            blocks,
+        } => {
             *place = p as u64;
             *mask = m;
-            0
+            KeeperResult { number: 0, blocks }
         }
-        Station::Refused(why) => why.number(),
+        Station::Refused { why, blocks } => refused(why, blocks),
     }
 }

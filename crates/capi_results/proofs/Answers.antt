@@ -7,48 +7,67 @@ use native.Mathlib.Nat.{ne-of-gt}
 use borrow.Author.Tests.{ne-eqb}
 use lib.Dec.{eqb}
 use lib.ListN.{getD}
-use Rattle.refusal.specs.Number.{numberOf, outcomeNumber}
+use Rattle.refusal.specs.Number.{numberOf}
+use Rattle.refusal.specs.Work.{workedNumber}
 use Rattle.refusal.specs.declared.Refusal.{Refusal}
 use Rattle.refusal.proofs.NumberLaws.{numberOf-positive}
-use Rattle.refusal.specs.declared.Outcome.{Outcome}
-use Rattle.refusal.specs.declared.Outcome.the-variants.{Done, Refused}
+use Rattle.refusal.specs.declared.Worked.{Worked}
+use Rattle.refusal.specs.declared.Worked.the-variants.{Done, Refused}
 use Rattle.a2m.specs.Call.{Reply}
-use Rattle.a2m.specs.Opened.{changeReply, endReply}
+use Rattle.a2m.specs.Opened.{changeReply, changeBlocks, findingReply, findingBlocks, endReply}
 use Rattle.a2m.specs.declared.Change.{Change}
 use Rattle.a2m.specs.declared.Change.the-variants as change
+use Rattle.a2m.specs.declared.Finding.{Finding}
 use Rattle.refusal.specs.Answer.{Answer, answer}
-use Rattle.receipt.specs.Verdict.{verdictAnswer}
+use Rattle.receipt.specs.Verdict.{verdictAnswer, verdictBlocks}
 use Rattle.receipt.specs.declared.Verdict.{Verdict}
 use Rattle.receipt.specs.declared.Verdict.the-variants as verdict
-use Rattle.capi_results.specs.Results.{replyNumber, lowAfter, highAfter, examinedAfter, freeAfter, verdictAfter, placeAfter, maskAfter}
+use Rattle.runs.specs.Call.{comparisonAnswer, comparisonBlocks, Answer as Compared}
+use Rattle.runs.specs.declared.Comparison.{Comparison}
+use Rattle.capi_results.specs.Results.{replyNumber, lowAfter, highAfter, examinedAfter, freeAfter, verdictAfter, placeAfter, maskAfter, codeAfter}
 
 -- no refusal has the number 0
 not-done : (why : Refusal) → eqb (numberOf why) 0 ≡ false
 not-done why = ne-eqb (numberOf why) 0 (λ (e : numberOf why ≡ 0). ne-of-gt (numberOf-positive why) e)
 
+-- a result of the number m and the blocks j is one of what a call's contract says them to be, what else it says beside them
+pub joined : {n b m j a k : ℕ} {B : Type 0} → (n ≡ m) × (b ≡ j) → (m ≡ a) × ((j ≡ k) × B) → (n ≡ a) × ((b ≡ k) × B)
+joined e f = (e .0 ∙ f .0, (e .1 ∙ f .1 .0, f .1 .1))
+
 -- ---- the calls on a table
 
-pub end-number : (o : Outcome) (receipt : List ℕ) → outcomeNumber o ≡ replyNumber (endReply o receipt)
+pub end-number : (w : Worked) (receipt : List ℕ) → workedNumber w ≡ replyNumber (endReply w receipt)
 unfolding replyNumber
-end-number Done receipt = refl
-end-number (Refused why) receipt = refl
+end-number (Done blocks) receipt = refl
+end-number (Refused why blocks) receipt = refl
 
--- what a change gives
-abbrev pub Changed : (n l h low high : ℕ) → Reply → Type 0
-Changed n l h low high r = (n ≡ replyNumber r) × ((l ≡ lowAfter r low) × (h ≡ highAfter r high))
+-- what a change gives: its number n, the blocks b, and the results l and h
+abbrev pub Changed : (n b l h low high : ℕ) → Reply → ℕ → Type 0
+Changed n b l h low high r k = (n ≡ replyNumber r) × ((b ≡ k) × ((l ≡ lowAfter r low) × (h ≡ highAfter r high)))
 
 module _ (v : Change) (low high : ℕ) where
-  pub done-changed : (l h : ℕ) → v ≡ change.Done l h → Changed 0 l h low high (changeReply v)
+  pub done-changed : (l h b : ℕ) → v ≡ change.Done l h b → Changed 0 b l h low high (changeReply v) (changeBlocks v)
   unfolding replyNumber lowAfter highAfter
-  done-changed l h e = subst (λ (x : Change). Changed 0 l h low high (changeReply x)) (sym e) (refl, (refl, refl))
+  done-changed l h b e = subst (λ (x : Change). Changed 0 b l h low high (changeReply x) (changeBlocks x)) (sym e) (refl, (refl, (refl, refl)))
 
-  pub refused-changed : {n : ℕ} (why : Refusal) → v ≡ change.Refused why → n ≡ numberOf why → Changed n low high low high (changeReply v)
+  pub refused-changed : {n b : ℕ} (why : Refusal) (k : ℕ) → v ≡ change.Refused why k → (n ≡ numberOf why) × (b ≡ k) → Changed n b low high low high (changeReply v) (changeBlocks v)
   unfolding replyNumber lowAfter highAfter
-  refused-changed {n} why e h = subst (λ (x : Change). Changed n low high low high (changeReply x)) (sym e) (h, (refl, refl))
+  refused-changed {n} {b} why k e h = subst (λ (x : Change). Changed n b low high low high (changeReply x) (changeBlocks x)) (sym e) (h .0, (h .1, (refl, refl)))
 
--- what a lookup gives
-abbrev pub Looked : (n k examined : ℕ) → Reply → Type 0
-Looked n k examined r = (n ≡ replyNumber r) × (k ≡ examinedAfter r examined)
+-- the same of the reply and the blocks that the call's contract names, the table's bytes beside them
+pub passed-on : {n b l h j k : ℕ} {r s : Reply} {B : Type 0} (low high : ℕ) → Changed n b l h low high r j → (r ≡ s) × ((j ≡ k) × B)
+    → (n ≡ replyNumber s) × ((b ≡ k) × (B × ((l ≡ lowAfter s low) × (h ≡ highAfter s high))))
+passed-on low high e f = (
+  e .0 ∙ ap replyNumber (f .0),
+  (e .1 .0 ∙ f .1 .0, (f .1 .1, (e .1 .1 .0 ∙ ap (λ (x : Reply). lowAfter x low) (f .0), e .1 .1 .1 ∙ ap (λ (x : Reply). highAfter x high) (f .0)))),
+)
+
+-- what a lookup gives where it was found to be v, the receipt's bytes beside it
+pub looked : {x v : Finding} {r : Reply} {k : ℕ} {B : Type 0} (receipt : List ℕ) (old : ℕ) → x ≡ v → (findingReply x receipt ≡ r) × ((findingBlocks x ≡ k) × B)
+    → (replyNumber (findingReply v receipt) ≡ replyNumber r) × ((findingBlocks v ≡ k) × (B × (examinedAfter (findingReply v receipt) old ≡ examinedAfter r old)))
+looked receipt old h e =
+    let f = ap (λ (y : Finding). findingReply y receipt) (sym h) ∙ e .0 in
+    (ap replyNumber f, (ap findingBlocks (sym h) ∙ e .1 .0, (e .1 .1, ap (λ (y : Reply). examinedAfter y old) f)))
 
 -- ---- the status screen
 
@@ -67,20 +86,20 @@ shows-nothing free = (refl, refl)
 -- ---- the verifier and certificates
 
 module _ (v : Verdict) (old : List ℕ) where
-  pub accepted-verdict : {l d : ℕ} (keeper log position kind reference : ℕ) → v ≡ verdict.Accepted keeper log position kind reference → l ≡ log → d ≡ kind
-      → (0 ≡ verdictAnswer v .number) × ((keeper ∷ l ∷ position ∷ d ∷ reference ∷ []) ≡ verdictAfter (verdictAnswer v) old)
+  pub accepted-verdict : {l d : ℕ} (keeper log position kind reference blocks : ℕ) → v ≡ verdict.Accepted keeper log position kind reference blocks → l ≡ log → d ≡ kind
+      → (0 ≡ verdictAnswer v .number) × ((blocks ≡ verdictBlocks v) × ((keeper ∷ l ∷ position ∷ d ∷ reference ∷ []) ≡ verdictAfter (verdictAnswer v) old))
   unfolding verdictAfter
-  accepted-verdict keeper log position kind reference h e f = (
+  accepted-verdict keeper log position kind reference blocks h e f = (
     sym (ap (λ (x : Verdict). verdictAnswer x .number) h),
-    ap₂ (λ (a b : ℕ). keeper ∷ a ∷ position ∷ b ∷ reference ∷ []) e f ∙ sym (ap (λ (x : Verdict). verdictAfter (verdictAnswer x) old) h),
+    (sym (ap verdictBlocks h), ap₂ (λ (a b : ℕ). keeper ∷ a ∷ position ∷ b ∷ reference ∷ []) e f ∙ sym (ap (λ (x : Verdict). verdictAfter (verdictAnswer x) old) h)),
   )
 
-  pub refused-verdict : {n : ℕ} (why : Refusal) → v ≡ verdict.Refused why → n ≡ numberOf why
-      → (n ≡ verdictAnswer v .number) × (old ≡ verdictAfter (verdictAnswer v) old)
+  pub refused-verdict : {n b : ℕ} (why : Refusal) (k : ℕ) → v ≡ verdict.Refused why k → (n ≡ numberOf why) × (b ≡ k)
+      → (n ≡ verdictAnswer v .number) × ((b ≡ verdictBlocks v) × (old ≡ verdictAfter (verdictAnswer v) old))
   unfolding verdictAfter
-  refused-verdict why h e = (
-    e ∙ sym (ap (λ (x : Verdict). verdictAnswer x .number) h),
-    sym (ap (λ (x : Verdict). verdictAfter (verdictAnswer x) old) h ∙ ap (λ (t : Bool). cond t [] old) (not-done why)),
+  refused-verdict why k h e = (
+    e .0 ∙ sym (ap (λ (x : Verdict). verdictAnswer x .number) h),
+    (e .1 ∙ sym (ap verdictBlocks h), sym (ap (λ (x : Verdict). verdictAfter (verdictAnswer x) old) h ∙ ap (λ (t : Bool). cond t [] old) (not-done why))),
   )
 
 -- what a certificate gives
@@ -94,3 +113,12 @@ certified p m place mask = (refl, (refl, refl))
 pub not-certified : (why : Refusal) (place mask : ℕ) → Certifies (numberOf why) place mask place mask (answer (numberOf why) [])
 unfolding placeAfter maskAfter
 not-certified why place mask = (refl, (sym (ap (λ (t : Bool). cond t (getD {A = ℕ} [] 0 0) place) (not-done why)), sym (ap (λ (t : Bool). cond t (getD {A = ℕ} [] 1 0) mask) (not-done why))))
+
+-- ---- runs
+
+-- what a comparison gives where it was found to be v, the buffer's bytes beside it
+pub compared : {x v : Comparison} {a : Compared} {k : ℕ} {B : Type 0} (old : ℕ) → x ≡ v → (comparisonAnswer x ≡ a) × ((comparisonBlocks x ≡ k) × B)
+    → (comparisonAnswer v .number ≡ a .number) × ((comparisonBlocks v ≡ k) × (B × (codeAfter (comparisonAnswer v .verdict) old ≡ codeAfter (a .verdict) old)))
+compared old h e =
+    let f = ap comparisonAnswer (sym h) ∙ e .0 in
+    (ap (λ (y : Compared). y .number) f, (ap comparisonBlocks (sym h) ∙ e .1 .0, (e .1 .1, ap (λ (y : Compared). codeAfter (y .verdict) old) f)))

@@ -1,4 +1,4 @@
--- "A refusal changes no lent byte and returns its number alone": where the number is not 0, each result is as it was.
+-- "A refusal changes no lent byte": where the number is not 0, each result is as it was.
 use Prim.Native.Nat.{ℕ}
 use mathlib.Core.Path.{_≡_, refl, ap}
 use mathlib.Core.Logic.{_≢_}

@@ -1,5 +1,5 @@
--- What C gets of each answer: the number returned, and each result after the call. Document 01: "A refusal .. returns its
--- number alone", so that a refusal leaves every result as it was.
+-- What C gets of each answer: the number returned, and each result after the call. The blocks are returned with the number
+-- (document 02 [2]: "a refusal returns its number with them"), so that a refusal leaves every result as it was.
 use Prim.Native.Nat.{ℕ}
 use mathlib.Core.Bool.{cond}
 use mathlib.Core.List.{List}

@@ -1,31 +1,70 @@
-// What C gets of an answer: its number, and the results of an accepted call.
+// What C gets of an answer: its number and the blocks hashed, and the results of an accepted call.
 use a2m::Change;
 use octets::wide;
 use receipt::Verdict;
+use refusal::Refusal;
+use refusal::Worked;
 ghost use mathlib.Core.Path.{_≡_};
-ghost use Rattle.a2m.specs.Opened.{changeReply};
-ghost use Rattle.receipt.specs.Verdict.{verdictAnswer};
+ghost use Rattle.refusal.specs.Number.{numberOf};
+ghost use Rattle.refusal.specs.Work.{workedNumber, workedBlocks};
+ghost use Rattle.a2m.specs.Opened.{changeReply, changeBlocks};
+ghost use Rattle.receipt.specs.Verdict.{verdictAnswer, verdictBlocks};
 ghost use Rattle.capi_results.specs.Results.{replyNumber, lowAfter, highAfter, verdictAfter};
 
-// The number of a change, and the results of one that was accepted.
-pub fn changed(change: Change, low: &mut u64, high: &mut u64) -> u8
-    ensures answer { λ r. ⌜ r ≡ replyNumber (changeReply change) ⌝ }
+// C's keeper_result, returned by value: document 01's number, and the blocks hashed (document 02 [2]). A refusal has both,
+// so that none has to write a result.
+#[repr(C)]
+pub struct KeeperResult {
+    pub number: u64,
+    pub blocks: u64,
+}
+
+// The result of a refusal.
+pub fn refused(why: Refusal, blocks: u64) -> KeeperResult
+    ensures { λ r. ⌜ (r .number ≡ numberOf why) × (r .blocks ≡ blocks) ⌝ }
+{
+    KeeperResult {
+        number: wide(why.number()),
+        blocks,
+    }
+}
+
+// The result of an answer that is a number and blocks alone.
+pub fn worked(answer: Worked) -> KeeperResult
+    ensures answer { λ r. ⌜ r .number ≡ workedNumber answer ⌝ }
+    ensures blocks { λ r. ⌜ r .blocks ≡ workedBlocks answer ⌝ }
+{
+    match answer {
+        Worked::Done { blocks } => KeeperResult { number: 0, blocks },
+        Worked::Refused { why, blocks } => refused(why, blocks),
+    }
+}
+
+// The result of a change, and what an accepted one says.
+pub fn changed(change: Change, low: &mut u64, high: &mut u64) -> KeeperResult
+    ensures answer { λ r. ⌜ r .number ≡ replyNumber (changeReply change) ⌝ }
+    ensures blocks { λ r. ⌜ r .blocks ≡ changeBlocks change ⌝ }
     ensures low { λ _. ⌜ now (low .exit) ≡ lowAfter (changeReply change) (now (low .entry)) ⌝ }
     ensures high { λ _. ⌜ now (high .exit) ≡ highAfter (changeReply change) (now (high .entry)) ⌝ }
 {
     match change {
-        Change::Done { low: l, high: h } => {
+        Change::Done {
+            low: l,
+            high: h,
+            blocks,
+        } => {
             *low = l;
             *high = h;
-            0
+            KeeperResult { number: 0, blocks }
         }
-        Change::Refused(why) => why.number(),
+        Change::Refused { why, blocks } => refused(why, blocks),
     }
 }
 
-// The number of a verdict, and what an accepted one says: C's keeper_verdict is its five numbers in a row.
-pub fn judged(judgement: Verdict, verdict: &mut [u64; 5]) -> u8
-    ensures answer { λ r. ⌜ r ≡ verdictAnswer judgement .number ⌝ }
+// The result of a verdict, and what an accepted one says: C's keeper_verdict is its five numbers in a row.
+pub fn judged(judgement: Verdict, verdict: &mut [u64; 5]) -> KeeperResult
+    ensures answer { λ r. ⌜ r .number ≡ verdictAnswer judgement .number ⌝ }
+    ensures blocks { λ r. ⌜ r .blocks ≡ verdictBlocks judgement ⌝ }
     ensures verdict { λ _. ⌜ now (verdict .exit) ≡ verdictAfter (verdictAnswer judgement) (now (verdict .entry)) ⌝ }
 {
     match judgement {
@@ -35,10 +74,11 @@ pub fn judged(judgement: Verdict, verdict: &mut [u64; 5]) -> u8
             position,
             kind,
             reference,
+            blocks,
         } => {
             *verdict = [keeper, wide(log), position, wide(kind), reference];
-            0
+            KeeperResult { number: 0, blocks }
         }
-        Verdict::Refused(why) => why.number(),
+        Verdict::Refused { why, blocks } => refused(why, blocks),
     }
 }

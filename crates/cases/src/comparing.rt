@@ -1,6 +1,7 @@
 // Comparisons of runs: the answer, and the lent buffer as it is after. It is lent full of bytes ab, and no answer here may
 // change it: a collision of SHA-256 is not to be had.
 use crate::report::refused;
+use crate::report::show;
 use case_fields::Values;
 use case_fields::slot;
 use case_fields::slot_mut;
@@ -11,10 +12,12 @@ use runs::compare;
 
 fn said(answer: Comparison) {
     match answer {
-        Comparison::Differ => text(b"digests differ\n  "),
-        Comparison::Agree => text(b"agree\n  "),
-        Comparison::Collision => text(b"collision\n  "),
-        Comparison::Refused(why) => refused(b"refused with %d\n  ", why),
+        Comparison::Differ { blocks } => show(b"digests differ, %d blocks\n  ", &[blocks]),
+        Comparison::Agree { blocks } => show(b"agree, %d blocks\n  ", &[blocks]),
+        Comparison::Collision { blocks } => show(b"collision, %d blocks\n  ", &[blocks]),
+        Comparison::Refused { why, blocks } => {
+            refused(b"refused with %d, %d blocks\n  ", why, blocks)
+        }
     }
 }
 

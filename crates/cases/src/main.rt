@@ -1,4 +1,4 @@
-// Cases as data: carries out the lines of standard input, and prints what is computed.
+// Cases as data: carries out the lines of standard input, and prints what is computed, an answer that counts blocks with them.
 //
 // A line that starts with `-` is printed, and one that starts with `#` is a comment. Any other is a word and its fields, each
 // after one blank; before them may stand a name and `: `, which are printed. A field is a number in decimal, or bytes: `x`, then

@@ -16,7 +16,7 @@ use receipt::Question;
 use receipt::Verdict;
 use receipt_verify::verify;
 use receipt_write::write;
-use refusal::Outcome;
+use refusal::Worked;
 
 // Writes a receipt into a slot of the pile.
 pub fn written(name: Name, v: Values, store: &[u8], pile: &mut [u8]) {
@@ -37,8 +37,8 @@ pub fn written(name: Name, v: Values, store: &[u8], pile: &mut [u8]) {
         slot(store, 9, v.i),
         slot(store, 10, v.j),
     );
-    if let Outcome::Refused(why) = answer {
-        refused(b"? refused: %d\n", why);
+    if let Worked::Refused { why, blocks } = answer {
+        refused(b"? refused: %d, %d blocks\n", why, blocks);
     }
     keep(pile, v.a, 0, &r);
 }
@@ -80,11 +80,12 @@ pub fn verified(v: Values, store: &[u8], pile: &[u8], ask: Ask) {
             position,
             kind,
             reference,
+            blocks,
         } => show(
-            b"accepted: keeper %d, log %d, position %d, kind %d, reference %d\n",
-            &[keeper, wide(log), position, wide(kind), reference],
+            b"accepted: keeper %d, log %d, position %d, kind %d, reference %d, %d blocks\n",
+            &[keeper, wide(log), position, wide(kind), reference, blocks],
         ),
-        Verdict::Refused(why) => refused(b"refused: %d\n", why),
+        Verdict::Refused { why, blocks } => refused(b"refused: %d, %d blocks\n", why, blocks),
     }
 }
 
@@ -107,10 +108,14 @@ pub fn certified(v: Values, store: &[u8], pile: &[u8]) {
         v.e,
         slot(&certificate, 0, v.g),
     ) {
-        Station::Certified { place, mask } => show(
-            b"certified: place %d, members %4\n",
-            &[place as u64, mask as u64],
+        Station::Certified {
+            place,
+            mask,
+            blocks,
+        } => show(
+            b"certified: place %d, members %4, %d blocks\n",
+            &[place as u64, mask as u64, blocks],
         ),
-        Station::Refused(why) => refused(b"refused: %d\n", why),
+        Station::Refused { why, blocks } => refused(b"refused: %d, %d blocks\n", why, blocks),
     }
 }

@@ -33,9 +33,9 @@ pub fn show(t: &[u8], values: &[u64]) {
     }
 }
 
-// A text with the number of a refusal.
-pub fn refused(t: &[u8], why: Refusal) {
-    show(t, &[wide(why.number())]);
+// A text with the number of a refusal and its blocks.
+pub fn refused(t: &[u8], why: Refusal, blocks: u64) {
+    show(t, &[wide(why.number()), blocks]);
 }
 
 // The words of 8 bytes each from a place on.

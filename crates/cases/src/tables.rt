@@ -1,4 +1,5 @@
-// The check, format, the five calls on a table, and the status screen. A line of a call ends with the SHA-256 of the table after it.
+// The check, format, the five calls on a table, and the status screen. A line of a call has the blocks hashed for it, and ends
+// with the SHA-256 of the table after it.
 use crate::report::refused;
 use crate::report::show;
 use crate::report::words;
@@ -15,7 +16,7 @@ use case_fields::slot_mut;
 use octets::wide;
 use printing::hex;
 use printing::text;
-use refusal::Outcome;
+use refusal::Worked;
 use sha256_digest::hash;
 use table::Check;
 use table::Screen;
@@ -79,8 +80,8 @@ pub fn table_after(table: &[u8]) {
 fn changed(word: &[u8], answer: Change, table: &[u8]) {
     text(word);
     match answer {
-        Change::Done { low, high } => show(b" 00 %8 %8", &[low, high]),
-        Change::Refused(why) => refused(b" %1", why),
+        Change::Done { low, high, blocks } => show(b" 00 %8 %8, %d blocks", &[low, high, blocks]),
+        Change::Refused { why, blocks } => refused(b" %1, %d blocks", why, blocks),
     }
     table_after(table);
 }
@@ -104,21 +105,23 @@ pub fn looked_up(v: Values, store: &[u8], table: &[u8], pile: &mut [u8]) {
         slot(store, 3, v.c),
         slot_mut(pile, v.d, v.e),
     ) {
-        Finding::Found { examined } => {
-            show(b"lookup 00 %8", &[examined]);
+        Finding::Found { examined, blocks } => {
+            show(b"lookup 00 %8, %d blocks", &[examined, blocks]);
             show_receipt(slot(pile, v.d, v.e));
         }
-        Finding::Refused(why) => refused(b"lookup %1", why),
+        Finding::Refused { why, blocks } => refused(b"lookup %1, %d blocks", why, blocks),
     }
     table_after(table);
 }
 
-// The answer's number, and the receipt where it is 0.
+// The answer's number and blocks, and the receipt where the number is 0.
 pub fn ended(v: Values, store: &[u8], table: &[u8], pile: &mut [u8]) {
-    let answer = end(table, v.a, slot(store, 2, v.b), slot_mut(pile, v.c, v.d));
-    show(b" %1", &[wide(answer.number())]);
-    if let Outcome::Done = answer {
-        show_receipt(slot(pile, v.c, v.d));
+    match end(table, v.a, slot(store, 2, v.b), slot_mut(pile, v.c, v.d)) {
+        Worked::Done { blocks } => {
+            show(b" 00, %d blocks", &[blocks]);
+            show_receipt(slot(pile, v.c, v.d));
+        }
+        Worked::Refused { why, blocks } => refused(b" %1, %d blocks", why, blocks),
     }
 }
 
@@ -135,7 +138,10 @@ pub fn fresh(v: Values, store: &[u8], table: &mut [u8]) {
 
 pub fn formats(v: Values, store: &[u8], table: &mut [u8]) {
     let answer = format(table, v.a, v.b, v.c, slot(store, 4, v.d));
-    show(b"format %1", &[wide(answer.number())]);
+    show(
+        b"format %1, %d blocks",
+        &[wide(answer.number()), answer.blocks()],
+    );
     table_after(table);
 }
 

@@ -10,17 +10,17 @@ enum-known-change c = search needs
 enum-known-change-2 : tie.Need-enum-known-change-2
 enum-known-change-2 c = search needs
 
-number-requires : tie.Need-number-requires
-number-requires c κs = search needs
+refused-requires : tie.Need-refused-requires
+refused-requires c κs = search needs
 
 returns : tie.Need-returns
 returns c = let a = c .before .before .before .args in
-    done-changed (a .change) (a .low .now) (a .high .now) _ _ (c .before .change .given .1)
+    done-changed (a .change) (a .low .now) (a .high .now) _ _ _ (c .before .change .given .1)
 
 returns-2 : tie.Need-returns-2
 returns-2 c = let a = c .before .before .before .before .args in
-    refused-changed (a .change) (a .low .now) (a .high .now) _ (c .before .before .change2 .given .1) (c .number .ensures)
+    refused-changed (a .change) (a .low .now) (a .high .now) _ _ (c .before .before .change2 .given .1) (c .refused .ensures)
 
 pub changed-spec : {M : Type 1} → statement M
 changed-spec =
-    tie.close (tie.spec enum-known-change enum-known-change-2 number-requires returns returns-2)
+    tie.close (tie.spec enum-known-change enum-known-change-2 refused-requires returns returns-2)

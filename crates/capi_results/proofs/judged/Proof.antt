@@ -16,17 +16,17 @@ wide-requires-2 c κs = search needs
 enum-known-judgement-2 : tie.Need-enum-known-judgement-2
 enum-known-judgement-2 c = search needs
 
-number-requires : tie.Need-number-requires
-number-requires c κs = search needs
+refused-requires : tie.Need-refused-requires
+refused-requires c κs = search needs
 
 returns : tie.Need-returns
 returns c = let a = c .before .before .before .before .before .before .args in
     let j = c .before .before .before .before .judgement .given in
-    accepted-verdict (a .judgement) (a .verdict .now) _ _ _ _ _ (j .1) (c .before .before .wide .ensures .0) (c .before .wide2 .ensures .0)
+    accepted-verdict (a .judgement) (a .verdict .now) _ _ _ _ _ _ (j .1) (c .before .before .wide .ensures .0) (c .before .wide2 .ensures .0)
 
 returns-2 : tie.Need-returns-2
 returns-2 c = let a = c .before .before .before .before .args in
-    refused-verdict (a .judgement) (a .verdict .now) _ (c .before .before .judgement2 .given .1) (c .number .ensures)
+    refused-verdict (a .judgement) (a .verdict .now) _ _ (c .before .before .judgement2 .given .1) (c .refused .ensures)
 
 pub judged-spec : {M : Type 1} → statement M
 judged-spec =
@@ -36,6 +36,6 @@ judged-spec =
     wide-requires
     wide-requires-2
     enum-known-judgement-2
-    number-requires
+    refused-requires
     returns
     returns-2)

@@ -1,5 +1,5 @@
 -- `vectors::digest_in_parts` is safe.
-use Rattle.sha256_digest.proofs.Absorb.{holds-new, holds-count, absorb-counts}
+use Rattle.sha256_digest.proofs.Absorb.{holds-new, holds-count, holds-within, absorb-counts, absorb-within}
 use native.Mathlib.Omega.{arith}
 use borrow.Author.Needs.{needs}
 use Rattle.vectors.proofs.digest_in_parts.Statement.{statement}
@@ -12,10 +12,12 @@ new-requires : tie.Need-new-requires
 new-requires c κs = search needs
 
 fed-requires : tie.Need-fed-requires
-fed-requires c κs = omega (arith, holds-count _ _ (holds-new _ (c .new .ensures)))
+fed-requires c κs = let h = holds-new _ (c .new .ensures) in
+    (omega (arith, holds-count _ _ h), holds-within _ _ h)
 
 finish-requires : tie.Need-finish-requires
-finish-requires c κs = omega (arith, holds-count _ _ (holds-new _ (c .before .new .ensures)), absorb-counts _ _ _ (c .fed .ensures))
+finish-requires c κs = let h = holds-new _ (c .before .new .ensures) in
+    (omega (arith, holds-count _ _ h, absorb-counts _ _ _ (c .fed .ensures)), absorb-within _ _ _ (c .fed .ensures) (holds-within _ _ h))
 
 returns-2 : tie.Need-returns-2
 returns-2 c = search needs

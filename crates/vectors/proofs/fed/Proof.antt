@@ -1,6 +1,6 @@
 -- `vectors::fed` meets its contract: what is absorbed part by part is what is absorbed at once.
 use Rattle.sha256_digest.specs.Running.{State, stateOf, absorbed}
-use Rattle.sha256_digest.proofs.Absorb.{absorbed-append, absorb-counts}
+use Rattle.sha256_digest.proofs.Absorb.{absorbed-append, absorb-counts, absorb-within}
 use lib.ListN.{length, take, drop, length-take, length-drop, take-append-drop}
 use lib.Seq.{take-add, take-all}
 use native.Mathlib.Omega.{arith}
@@ -23,13 +23,13 @@ more m at n u v w e h x =
 
 abbrev Inv-loop : tie.InvT-loop
 Inv-loop m s₀ at₀ n₀ s at n =
-    (at ≤ length m) × ((1 ≤ n) × ((s .count ≡ s₀ .count + at) × ((x : List ℕ) → absorbed (stateOf s) x ≡ absorbed (stateOf s₀) (take at m ++ x))))
+    (at ≤ length m) × ((1 ≤ n) × ((s .count ≡ s₀ .count + at) × ((s .blocks ≤ s .count) × ((x : List ℕ) → absorbed (stateOf s) x ≡ absorbed (stateOf s₀) (take at m ++ x)))))
 
 abbrev μ-loop : tie.MeasureT-loop
 μ-loop m s₀ at₀ n₀ s at n = length m - at
 
 loop-holds : tie.Need-loop-holds Inv-loop μ-loop
-loop-holds c = (omega arith, (omega arith, (omega arith, λ x. refl)))
+loop-holds c = (omega arith, (omega arith, (omega arith, (omega arith, λ x. refl))))
 
 sub-loop : tie.Need-sub-loop Inv-loop μ-loop
 sub-loop c = omega arith
@@ -47,7 +47,7 @@ part-absorb-end : tie.Need-part-absorb-end Inv-loop μ-loop
 part-absorb-end c = omega arith
 
 absorb-requires : tie.Need-absorb-requires Inv-loop μ-loop
-absorb-requires c κs = simp (length-take, length-drop) (omega arith)
+absorb-requires c κs = (simp (length-take, length-drop) (omega arith), omega arith)
 
 add-n : tie.Need-add-n Inv-loop μ-loop
 add-n c = omega arith
@@ -61,7 +61,8 @@ loop-again c =
     let m = c .before .before .before .before .before .args .m .now in
     let k = absorb-counts (l .s) (c .absorb .result) (take (l .at + l .n - l .at) (drop (l .at) m)) (c .absorb .ensures) in
     let z : length (take (l .at + l .n - l .at) (drop (l .at) m)) ≡ l .n = simp (length-take, length-drop) (omega arith) in
-    (omega arith, (omega arith, (omega arith, more m (l .at) (l .n) _ _ _ (c .absorb .ensures) (l .inv .1 .1 .1))))
+    let w = absorb-within (l .s) (c .absorb .result) (take (l .at + l .n - l .at) (drop (l .at) m)) (c .absorb .ensures) (l .inv .1 .1 .1 .0) in
+    (omega arith, (omega arith, (omega arith, (w, more m (l .at) (l .n) _ _ _ (c .absorb .ensures) (l .inv .1 .1 .1 .1)))))
 
 sub-absorb-2 : tie.Need-sub-absorb-2 Inv-loop μ-loop
 sub-absorb-2 c = omega arith
@@ -73,14 +74,14 @@ part-absorb-end-2 : tie.Need-part-absorb-end-2 Inv-loop μ-loop
 part-absorb-end-2 c = omega arith
 
 absorb-requires-2 : tie.Need-absorb-requires-2 Inv-loop μ-loop
-absorb-requires-2 c κs = simp (length-take, length-drop) (omega arith)
+absorb-requires-2 c κs = (simp (length-take, length-drop) (omega arith), omega arith)
 
 returns : tie.Need-returns Inv-loop μ-loop
 returns c =
     let l = c .before .before .before .loop in
     let m = c .before .before .before .before .before .args .m .now in
     c .absorb2 .ensures
-    ∙ l .inv .1 .1 .1 (take (length m - l .at) (drop (l .at) m))
+    ∙ l .inv .1 .1 .1 .1 (take (length m - l .at) (drop (l .at) m))
     ∙ ap (absorbed (stateOf (c .before .before .before .before .before .args .s0)))
     (ap (λ (x : List ℕ). take (l .at) m ++ x) (take-all (length m - l .at) (drop (l .at) m) (rw length-drop (omega arith))) ∙ take-append-drop (l .at) m)
 

@@ -1,5 +1,5 @@
 -- `vectors::truncated_case` is safe.
-use lib.ListN.{length-take}
+use lib.ListN.{length-take, length-map}
 use native.Mathlib.Omega.{arith}
 use borrow.Author.Needs.{needs}
 use Rattle.vectors.proofs.truncated_case.Statement.{statement}
@@ -11,6 +11,9 @@ slice-aggregate-tag c = search needs
 tag-requires : tie.Need-tag-requires
 tag-requires c κs = search needs
 
+blocks-requires : tie.Need-blocks-requires
+blocks-requires c κs = search needs
+
 tag-in-parts-requires : tie.Need-tag-in-parts-requires
 tag-in-parts-requires c κs = search needs
 
@@ -20,11 +23,11 @@ array-share-prefix-out c = search needs
 slice-aggregate-line : tie.Need-slice-aggregate-line
 slice-aggregate-line c = simp length-take (omega arith)
 
-array-share-prefix-parts : tie.Need-array-share-prefix-parts
-array-share-prefix-parts c = search needs
+array-share-prefix-bytes : tie.Need-array-share-prefix-bytes
+array-share-prefix-bytes c = omega (arith, simp length-map at (c .before .before .tag-in-parts .ok .1 .1 .0 .1 .0 .1))
 
 slice-aggregate-line-2 : tie.Need-slice-aggregate-line-2
-slice-aggregate-line-2 c = simp length-take (omega arith)
+slice-aggregate-line-2 c = simp length-take (omega (arith, simp length-map at (c .before .before .before .tag-in-parts .ok .1 .1 .0 .1 .0 .1)))
 
 line-requires : tie.Need-line-requires
 line-requires c κs = search needs
@@ -38,10 +41,11 @@ truncated-case-spec =
     (tie.spec
     slice-aggregate-tag
     tag-requires
+    blocks-requires
     tag-in-parts-requires
     array-share-prefix-out
     slice-aggregate-line
-    array-share-prefix-parts
+    array-share-prefix-bytes
     slice-aggregate-line-2
     line-requires
     returns)

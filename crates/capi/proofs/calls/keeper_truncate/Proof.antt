@@ -1,6 +1,5 @@
 -- `capi::calls::keeper_truncate` meets its contract.
-use Rattle.capi_results.proofs.Answers.{Changed}
-use mathlib.Core.Path.{subst}
+use Rattle.capi_results.proofs.Answers.{passed-on}
 use borrow.Author.Needs.{needs}
 use Rattle.capi.proofs.calls.keeper_truncate.Statement.{statement}
 use Rattle.capi.proofs.calls.keeper_truncate.Tie as tie
@@ -16,9 +15,7 @@ same-length c = search needs
 
 returns : tie.Need-returns
 returns c = let a = c .before .before .before .before .before .before .before .before .args in
-    let r = c .before .before .before .before .before .truncate in
-    let e = subst (Changed _ _ _ (a .low .now) (a .high .now)) (r .ensures .0) (c .changed .ensures) in
-    (e .0, (r .ensures .1, e .1))
+    passed-on (a .low .now) (a .high .now) (c .changed .ensures) (c .before .before .before .before .before .truncate .ensures)
 
 pub keeper-truncate-spec : {M : Type 1} → statement M
 keeper-truncate-spec = tie.close (tie.spec truncate-requires changed-requires same-length returns)
