@@ -758,7 +758,7 @@ impl Check {
         Ok(())
     }
 
-    /// Document 01's script, as calls.
+    /// Document 01's script, as calls; what line 6 shows is document 02's.
     fn example(&mut self) -> Checked<()> {
         let number = |n: u64| {
             let mut v = vec![0; 32];
@@ -784,7 +784,7 @@ impl Check {
         t = expect(self.advance(&t, 0, 5, &zeros, &number(43))?, 0, &[1, 5], &[])?.lent.swap_remove(0);
         self.shows(&t, Some(0))?;
         expect(self.append(&t, 1, &number(9))?, 5, &[], &[])?;
-        expect(self.lookup(&t, 0, 3, &zeros, 160)?, 0, &[3], &[2, 3, 5, 0])?;
+        expect(self.lookup(&t, 0, 3, &zeros, 160)?, 0, &[3], &[2, 3, 5, 43])?;
         t = expect(self.truncate(&t, 0, 5)?, 0, &[5, 5], &[])?.lent.swap_remove(0);
         self.shows(&t, Some(2))?;
         t = expect(self.append(&t, 1, &number(9))?, 0, &[1, 1], &[])?.lent.swap_remove(0);
@@ -937,7 +937,9 @@ impl Check {
                         5 => {
                             c.kind = self.random.pick(&[0, 2, 3]);
                             c.reference = if c.kind == 0 { position - 1 } else { position.wrapping_add(1) };
-                            c.pair = vec![0; 64];
+                            if c.kind != 2 || self.random.once_in(2) {
+                                c.pair = vec![0; 64];
+                            }
                         }
                         6 => c.pair[self.random.below(64) as usize] ^= 1,
                         _ => {}
@@ -1050,11 +1052,11 @@ impl Check {
             }
         }
         let (key, nonce, pair) = (self.random.bytes(32), self.random.bytes(32), self.random.bytes(64));
-        for (kind, reference) in [(0, 4), (1, 5), (2, 6), (3, 9)] {
+        for (kind, reference, shows) in [(0, 4, false), (1, 5, true), (2, 6, true), (2, 6, false), (3, 9, false)] {
             let mut fields = Receipt::assigned(7, 3, 5, &nonce, &pair);
             fields.kind = kind;
             fields.reference = reference;
-            if kind != 1 {
+            if !shows {
                 fields.pair.fill(0);
             }
             let receipt = fields.write(&key);

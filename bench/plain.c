@@ -516,12 +516,8 @@ keeper_result plain_lookup(const uint8_t *table, size_t table_bytes, uint64_t lo
             s = table + slot_at(found.logs, get16(s + S_NEXT));
             looked_at++;
         }
-        if (reference == position) {
-            kind = KEEPER_ASSIGNED;
-            shown = s;
-        } else {
-            kind = KEEPER_SKIPPED;
-        }
+        kind = reference == position ? KEEPER_ASSIGNED : KEEPER_SKIPPED;
+        shown = s;
     }
     *examined = looked_at;
     return done(put_receipt(receipt, table, name_lookup, kind, log, position, reference, nonce, shown));
@@ -548,7 +544,7 @@ keeper_result plain_end(const uint8_t *table, size_t table_bytes, uint64_t log, 
 
 /* ---- the verifier ---- */
 
-/* Whether the 160 bytes are those of a possible entry, the tag apart. */
+/* Whether the 160 bytes are those of a possible entry, the tag apart; a skipped one may show anything (document 02, [3]). */
 static int possible(const uint8_t *c)
 {
     int end = memcmp(c + C_NAME, name_end, 6) == 0;
@@ -560,14 +556,15 @@ static int possible(const uint8_t *c)
         return 0;
     if (kind == KEEPER_ASSIGNED)
         return reference == position;
-    if (end || !all_zero(c + C_VALUE, 8))
+    if (end)
         return 0;
     switch (kind) {
     case KEEPER_UNASSIGNED:
-        return reference < position;
+        return reference < position && all_zero(c + C_VALUE, 8);
     case KEEPER_SKIPPED:
-    case KEEPER_FORGOTTEN:
         return reference > position;
+    case KEEPER_FORGOTTEN:
+        return reference > position && all_zero(c + C_VALUE, 8);
     default:
         return 0;
     }

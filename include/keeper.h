@@ -35,7 +35,7 @@ extern "C" {
 #endif
 
 /* One more with each change of a prototype, a constant, a rule, or the bytes of a table or receipt. */
-#define KEEPER_VERSION 3
+#define KEEPER_VERSION 4
 
 /* Numbers returned. */
 enum {
@@ -87,8 +87,9 @@ enum {
     KEEPER_AT_REFERENCE = 24, /*  8: unassigned: the highest position; assigned: the position itself; skipped: that of the
                                      next entry; forgotten: the lowest position */
     KEEPER_AT_NONCE = 32,     /* 32: the asker's own fresh bytes */
-    KEEPER_AT_VALUE = 64,     /* 32: zero unless assigned */
-    KEEPER_AT_DIGEST = 96,    /* 32: zero unless assigned */
+    KEEPER_AT_VALUE = 64,     /* 32: assigned: the entry's; skipped: that of the entry at the reference, which jumped over the
+                                     position, or zero from an older keeper; else zero */
+    KEEPER_AT_DIGEST = 96,    /* 32: the same entry's own digest; else zero */
     KEEPER_AT_TAG = 128       /* 32: HMAC-SHA-256 of the bytes before it, under the keeper's key */
 };
 
@@ -155,8 +156,9 @@ keeper_result keeper_advance(uint8_t *table, size_t table_bytes, uint64_t log, u
 keeper_result keeper_truncate(uint8_t *table, size_t table_bytes, uint64_t log, uint64_t position, uint64_t *low,
                               uint64_t *high);
 
-/* Writes a receipt of 160 bytes on what stands at a position; examined becomes the number of held entries looked at.
- * Blocks: 6, or 0 where refused. Refused, in this order: 7 the nonce's or receipt's length; 1; 2; 3 for position 0. */
+/* Writes a receipt of 160 bytes on what stands at a position, on a skipped one with the entry that jumped over it; examined
+ * becomes the number of held entries looked at. Blocks: 6, or 0 where refused.
+ * Refused, in this order: 7 the nonce's or receipt's length; 1; 2; 3 for position 0. */
 keeper_result keeper_lookup(const uint8_t *table, size_t table_bytes, uint64_t log, uint64_t position,
                             const uint8_t *nonce, size_t nonce_bytes, uint8_t *receipt, size_t receipt_bytes,
                             uint64_t *examined);
@@ -180,8 +182,9 @@ keeper_result keeper_verify_end(const uint8_t *key, size_t key_bytes, const uint
 
 /* Whether a certificate, 0 to 32 receipts on end, certifies a value and digest at a position of a log, for a roster: 1 to 31
  * members of KEEPER_MEMBER_BYTES, an odd number N of them with different keeper numbers. A receipt is good if it answers the
- * lookup of a member, as keeper_verify_lookup finds under that member's key, and is assigned; others are passed over. A value
- * and digest are certified when good receipts of (N + 1) / 2 different members show both.
+ * lookup of a member, as keeper_verify_lookup finds under that member's key, and is assigned; others are passed over, a
+ * skipped one with what it shows. A value and digest are certified when good receipts of (N + 1) / 2 different members show
+ * both.
  *
  * place becomes the place, from 0, of the first good receipt that shows the certified pair, and mask the members whose good
  * receipts show it, the lowest bit for the roster's first. The certified value stands at

@@ -68,7 +68,7 @@ def answer(library, keys, fields):
     if result.number:
         return f"{asked}: refused, {result.number} ({WORDS[result.number]})", False, result.blocks
     found = f"{KINDS[verdict.kind]}, position {verdict.position}, reference {verdict.reference}"
-    if KINDS[verdict.kind] == "assigned":
+    if KINDS[verdict.kind] in ("assigned", "skipped"):  # a skipped one shows the entry at its reference
         found += f", value {int.from_bytes(receipt[VALUE], 'big')}"
     return f"{asked}: {found}", True, result.blocks
 

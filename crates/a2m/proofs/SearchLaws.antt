@@ -36,7 +36,7 @@ module _ (n k : ℕ) (e : Entry) (es : List Entry) where
   unfolding search
   search-at h = rw (search, eq-eqb n (e .position) (sym h))
 
-  search-above : n < e .position → search n k (e ∷ es) ≡ record { kind = 2; reference = e .position; shown = blankEntry; examined = suc k }
+  search-above : n < e .position → search n k (e ∷ es) ≡ record { kind = 2; reference = e .position; shown = e; examined = suc k }
   unfolding search
   search-above h = rw (search, ne-eqb n (e .position) (λ (q : n ≡ e .position). omega arith), lt-ltb n (e .position) h)
 
@@ -89,10 +89,10 @@ module _ (slots : List Slot) (o n first : ℕ) where
     pub at-entry : l .position ≡ n → foundOf slots (hit 1 n s (k + 1)) ≡ search n 0 (entriesOf slots (chain slots o first))
     at-entry h = rw add-one (sym (rest-is ∙ search-at n k (entryOf (slotAt slots s)) (entriesOf slots (chain slots o (l .next))) (sym place ∙ h)))
 
-    pub above-entry : n < l .position → foundOf slots (hit 2 (l .position) 0 (k + 1)) ≡ search n 0 (entriesOf slots (chain slots o first))
+    pub above-entry : n < l .position → foundOf slots (hit 2 (l .position) s (k + 1)) ≡ search n 0 (entriesOf slots (chain slots o first))
     above-entry h =
         let p : n < slotAt slots s .position = omega (arith, place) in
-        rw (add-one, place, none-shown slots) (sym (rest-is ∙ search-above n k (entryOf (slotAt slots s)) (entriesOf slots (chain slots o (l .next))) p))
+        rw (add-one, place) (sym (rest-is ∙ search-above n k (entryOf (slotAt slots s)) (entriesOf slots (chain slots o (l .next))) p))
 
     pub going-on : l .position ≢ n → l .position ≤ n → Going slots o n first (l .next) (k + 1)
     going-on h h′ =

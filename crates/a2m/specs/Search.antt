@@ -6,8 +6,8 @@ use lib.Dec.{eqb, ltb}
 use Rattle.layout.specs.declared.Row.{Row}
 use Rattle.layout.specs.Image.{Entry, blankEntry}
 
--- the receipt's kind, reference and entry shown (document 01: "Value and digest are the entry's when assigned, otherwise zero bytes"),
--- and the entries examined
+-- the receipt's kind, reference and entry shown, and the entries examined. Shown is the entry at the reference where the position is
+-- assigned, and where it is skipped: "A skipped receipt now carries the value and digest of the entry at its reference" (document 02, [3])
 pub record Found : Type 0 where
   pub kind : ℕ
   pub reference : ℕ
@@ -21,9 +21,9 @@ unfoldable pub search : ℕ → ℕ → List Entry → Found
 search n k [] = record { kind = 2; reference = 0; shown = blankEntry; examined = k }
 search n k (e ∷ es) =
     cond (eqb n (e .position)) (record { kind = 1; reference = n; shown = e; examined = suc k })
-    (cond (ltb n (e .position)) (record { kind = 2; reference = e .position; shown = blankEntry; examined = suc k }) (search n (suc k) es))
+    (cond (ltb n (e .position)) (record { kind = 2; reference = e .position; shown = e; examined = suc k }) (search n (suc k) es))
 
--- "unassigned if n > H, reference H; forgotten if n < L, reference L"; examined "0 when unassigned or forgotten"
+-- "unassigned if n > H, reference H; forgotten if n < L, reference L", and zero bytes shown; examined "0 when unassigned or forgotten"
 unfoldable pub lookedUp : Row → List Entry → ℕ → Found
 lookedUp r es n =
     cond (ltb (r .high) n) (record { kind = 0; reference = r .high; shown = blankEntry; examined = 0 })

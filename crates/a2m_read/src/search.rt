@@ -12,7 +12,7 @@ ghost use Rattle.a2m.specs.ImageCalls.{entriesIn};
 ghost use Rattle.a2m.specs.Search.{search as searched, lookedUp};
 ghost use Rattle.a2m.specs.Opened.{Opened, foundOf};
 
-// From the chain's first slot up to the first entry at n or above; each slot on the way is one examined.
+// From the chain's first slot up to the first entry at n or above, which the receipt shows; each slot on the way is one examined.
 fn search(table: &[u8], logs: usize, slots: usize, log: usize, first: usize, n: u64) -> Hit
     requires { ⌜ Counted (now table) logs slots ⌝ }
     requires { ⌜ reaches (readTable (now table) .slots) (suc log) first ≡ true ⌝ }
@@ -36,7 +36,7 @@ fn search(table: &[u8], logs: usize, slots: usize, log: usize, first: usize, n: 
             return Hit {
                 kind: 2,
                 reference: l.position,
-                slot: 0,
+                slot: s,
                 examined: k,
             };
         }

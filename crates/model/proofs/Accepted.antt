@@ -45,19 +45,20 @@ not-end : LOOKUP ≢ END
 unfolding LOOKUP END
 not-end h = let z : _≡_ {A = ℕ} 76 69 = ap (λ (l : List ℕ). getD l 0 0) h in omega arith
 
--- rules by which the verifier accepts every receipt: a skipped one shows zero bytes, and an end of an empty list has a number. Asked of each call's rules,
--- so that a list may begin by document 01's: a verifier that is changed with the present rules must go on to accept the receipts given by the old ones
+-- rules by which the verifier accepts every receipt: a skipped one shows a value and a digest of 32 bytes, and an end of an empty list has a number. Asked
+-- of each call's rules, so that a list may begin by document 01's: a verifier that is changed with the present rules must go on to accept the receipts given
+-- by the old ones
 pub record Attests (ru : Rules) : Type 0 where
-  pub gap : (e : Entry) → (ru .gap e .value ≡ zeros 32) × (ru .gap e .digest ≡ zeros 32)
+  pub gap : (e : Entry) → length (e .value) ≡ 32 → length (e .digest) ≡ 32 → (length (ru .gap e .value) ≡ 32) × (length (ru .gap e .digest) ≡ 32)
   pub end : ru .emptyEnd ≢ none
 
 pub attests01 : Attests rules01
 unfolding rules01
-attests01 = record { gap = λ (e : Entry). (refl, refl); end = Option·some-ne-none 6 }
+attests01 = record { gap = λ (e : Entry) (v : length (e .value) ≡ 32) (d : length (e .digest) ≡ 32). (length-zeros 32, length-zeros 32); end = Option·some-ne-none 6 }
 
 pub attests : Attests rules
 unfolding rules
-attests = attests01
+attests = record { gap = λ (e : Entry) (v : length (e .value) ≡ 32) (d : length (e .digest) ≡ 32). (v, d); end = attests01 .end }
 
 abbrev pub AttestsTurn : Turn → Type 0
 AttestsTurn t = Attests (t .rules)
@@ -68,7 +69,7 @@ module _ (b : Model) (keeps : Keeps b) (key : length (b .key) ≡ 32) (g : ℕ) 
 
   -- a LOOKUP of a possible kind, whose numbers fit
   lookup-accepted : (n : ℕ) → 1 ≤ n → n < 2 ^ 64 → (kind reference : ℕ) (e : Entry) → reference < 2 ^ 64 → length (e .value) ≡ 32 → length (e .digest) ≡ 32
-      → kind ≤ 3 → (kind ≡ 1 → reference ≡ n) → (kind ≡ 0 → reference < n) → (2 ≤ kind → n < reference) → ((kind ≡ 1 → ⊥) → (e .value ≡ zeros 32) × (e .digest ≡ zeros 32))
+      → kind ≤ 3 → (kind ≡ 1 → reference ≡ n) → (kind ≡ 0 → reference < n) → (2 ≤ kind → n < reference) → ((kind ≡ 1 → ⊥) → (kind ≡ 2 → ⊥) → (e .value ≡ zeros 32) × (e .digest ≡ zeros 32))
       → Accepted b LOOKUP kind g n reference c e (record { keeper = b .keeper; log = g; ask = Lookup n })
   unfolding modelReceipt carried
   lookup-accepted n n1 n64 kind reference e r64 lv ld k3 at below above blank =
@@ -90,7 +91,7 @@ module _ (b : Model) (keeps : Keeps b) (key : length (b .key) ≡ 32) (g : ℕ) 
     unassigned-accepted : L .high < n → Looked 0 (L .high) blankEntry
     unassigned-accepted h =
         lookup-accepted n n1 n64 0 (L .high) blankEntry (keeps .fits g .high) (length-zeros 32) (length-zeros 32) (omega arith)
-        (λ (z : 0 ≡ 1). absurd (omega arith)) (λ (z : 0 ≡ 0). h) (λ (z : 2 ≤ 0). absurd (omega arith)) (λ (z : 0 ≡ 1 → ⊥). (refl, refl))
+        (λ (z : 0 ≡ 1). absurd (omega arith)) (λ (z : 0 ≡ 0). h) (λ (z : 2 ≤ 0). absurd (omega arith)) (λ (z : 0 ≡ 1 → ⊥) (y : 0 ≡ 2 → ⊥). (refl, refl))
 
     forgotten-accepted : n < L .low → Looked 3 (L .low) blankEntry
     forgotten-accepted h =
@@ -98,21 +99,22 @@ module _ (b : Model) (keeps : Keeps b) (key : length (b .key) ≡ 32) (g : ℕ) 
         let le = ok-low L (keeps .sound g) started in
         let u = keeps .fits g .high in
         lookup-accepted n n1 n64 3 (L .low) blankEntry (omega arith) (length-zeros 32) (length-zeros 32) (omega arith)
-        (λ (z : 3 ≡ 1). absurd (omega arith)) (λ (z : 3 ≡ 0). absurd (omega arith)) (λ (z : 2 ≤ 3). h) (λ (z : 3 ≡ 1 → ⊥). (refl, refl))
+        (λ (z : 3 ≡ 1). absurd (omega arith)) (λ (z : 3 ≡ 0). absurd (omega arith)) (λ (z : 2 ≤ 3). h) (λ (z : 3 ≡ 1 → ⊥) (y : 3 ≡ 2 → ⊥). (refl, refl))
 
     assigned-accepted : (e : Entry) → In e (L .entries) → e .position ≡ n → Looked 1 (e .position) e
     assigned-accepted e m h =
         let z = keeps .fits g .sized e m in
         lookup-accepted n n1 n64 1 (e .position) e (omega arith) (z .0) (z .1) (omega arith)
-        (λ (q : 1 ≡ 1). h) (λ (q : 1 ≡ 0). absurd (omega arith)) (λ (q : 2 ≤ 1). absurd (omega arith)) (λ (q : 1 ≡ 1 → ⊥). absurd (q refl))
+        (λ (q : 1 ≡ 1). h) (λ (q : 1 ≡ 0). absurd (omega arith)) (λ (q : 2 ≤ 1). absurd (omega arith)) (λ (q : 1 ≡ 1 → ⊥) (y : 1 ≡ 2 → ⊥). absurd (q refl))
 
     skipped-accepted : (ru : Rules) → Attests ru → (e : Entry) → In e (L .entries) → n < e .position → Looked 2 (e .position) (ru .gap e)
     skipped-accepted ru t e m h =
-        let blank = t .gap e in
+        let size = keeps .fits g .sized e m in
+        let shown = t .gap e (size .0) (size .1) in
         let top = in-bounds L (keeps .sound g) e m .1 in
         let u = keeps .fits g .high in
-        lookup-accepted n n1 n64 2 (e .position) (ru .gap e) (omega arith) (ap length (blank .0) ∙ length-zeros 32) (ap length (blank .1) ∙ length-zeros 32) (omega arith)
-        (λ (z : 2 ≡ 1). absurd (omega arith)) (λ (z : 2 ≡ 0). absurd (omega arith)) (λ (z : 2 ≤ 2). h) (λ (z : 2 ≡ 1 → ⊥). blank)
+        lookup-accepted n n1 n64 2 (e .position) (ru .gap e) (omega arith) (shown .0) (shown .1) (omega arith)
+        (λ (z : 2 ≡ 1). absurd (omega arith)) (λ (z : 2 ≡ 0). absurd (omega arith)) (λ (z : 2 ≤ 2). h) (λ (z : 2 ≡ 1 → ⊥) (y : 2 ≡ 2 → ⊥). absurd (y refl))
 
     -- whatever the position's standing
     standing-accepted : (ru : Rules) → Attests ru → (s : Standing) → Means L n s → Looked (kindOf s) (referenceOf L s) (shownFor ru s)
@@ -143,7 +145,7 @@ module _ (b : Model) (keeps : Keeps b) (key : length (b .key) ≡ 32) (g : ℕ) 
           assigned = λ (q : 1 ≡ 1). refl;
           unassigned = λ (q : 1 ≡ 0). absurd (omega arith);
           passed = λ (q : 2 ≤ 1). absurd (omega arith);
-          blank = λ (q : 1 ≡ 1 → ⊥). absurd (q refl);
+          blank = λ (q : 1 ≡ 1 → ⊥) (y : 1 ≡ 2 → ⊥). absurd (q refl);
           end = λ (q : END ≡ END). refl;
         };
         bytes = refl;

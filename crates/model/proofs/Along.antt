@@ -1,16 +1,16 @@
 -- The model along a list of calls: what call i meets and answers.
 use Prim.Native.Nat.{ℕ, zero, suc, _^_, _≤_, _<_}
-use mathlib.Core.Path.{_≡_, refl, ap, _∙_}
+use mathlib.Core.Path.{_≡_, refl, sym, ap, _∙_}
 use mathlib.Core.List.{List, [], _∷_}
 use mathlib.Core.Option.{some, Option·none-ne-some, Option·some-injective}
 use native.Mathlib.Omega.{arith}
 use lib.ListN.{length, take, getElem?, length-set}
 use lib.Seq.{getD-set-same}
-use Rattle.layout.specs.Image.{Entry}
 use Rattle.a2m.specs.Call.{Call, append, advance, truncate, lookup, end, refused, done, Effect, replies, after, Wide}
+use Rattle.a2m.specs.NewEntry.{newEntry}
 use Rattle.model.specs.Log.{freshLog, entered, cutAt}
 use Rattle.model.specs.Model.{Rules, Model, logAt, modelDone, modelAccept, modelStep}
-use Rattle.model.specs.Claim.{Turn, under, modelTurn, callAt, replyAt, ShowsAt}
+use Rattle.model.specs.Claim.{Turn, under, modelTurn, callAt, replyAt, ShowsAt, SkipsAt}
 use Rattle.model.proofs.Turns.{WideTurn, Each}
 use Rattle.model.proofs.Represents.{Sound}
 use Rattle.model.proofs.Passed.{Stepped, turned, taken, stepped}
@@ -103,13 +103,13 @@ at-shown b k (t ∷ ts) w (suc i) g n v d s = at-shown (modelTurn b t .state) (s
 
 module _ (ru : Rules) where
   -- the log after an accepted advance has one entry more, at n; after an accepted truncate it is cut
-  pub advanced : (b : Model) (g n : ℕ) (d x : List ℕ) (lo hi : ℕ) → modelStep ru b (advance g n d x) .reply ≡ done lo hi → (e : Entry) × (e .position ≡ n) × (logAt (modelStep ru b (advance g n d x) .state .logs) g ≡ entered (logAt (b .logs) g) e)
+  pub advanced : (b : Model) (g n : ℕ) (d x : List ℕ) (lo hi : ℕ) → modelStep ru b (advance g n d x) .reply ≡ done lo hi → logAt (modelStep ru b (advance g n d x) .state .logs) g ≡ entered (logAt (b .logs) g) (newEntry n x d)
   unfolding modelAccept modelDone
   advanced b g n d x lo hi h = go (stepped ru b (advance g n d x))
     where
-      go : Stepped ru b (advance g n d x) → (e : Entry) × (e .position ≡ n) × (logAt (modelStep ru b (advance g n d x) .state .logs) g ≡ entered (logAt (b .logs) g) e)
+      go : Stepped ru b (advance g n d x) → logAt (modelStep ru b (advance g n d x) .state .logs) g ≡ entered (logAt (b .logs) g) (newEntry n x d)
       go (turned k e) = absurd (let q : refused k ≡ done lo hi = rw e at h in let z : _≡_ {A = ℕ} 0 1 = cc in omega arith)
-      go (taken a e) = (_, refl, ap (λ (o : Effect Model). logAt (o .state .logs) g) e ∙ getD-set-same (b .logs) g _ freshLog (a .log))
+      go (taken a e) = ap (λ (o : Effect Model). logAt (o .state .logs) g) e ∙ getD-set-same (b .logs) g _ freshLog (a .log)
 
   pub truncated : (b : Model) (g n : ℕ) (lo hi : ℕ) → modelStep ru b (truncate g n) .reply ≡ done lo hi → logAt (modelStep ru b (truncate g n) .state .logs) g ≡ cutAt n (logAt (b .logs) g)
   unfolding modelAccept modelDone
@@ -118,3 +118,10 @@ module _ (ru : Rules) where
       go : Stepped ru b (truncate g n) → logAt (modelStep ru b (truncate g n) .state .logs) g ≡ cutAt n (logAt (b .logs) g)
       go (turned k e) = absurd (let q : refused k ≡ done lo hi = rw e at h in let z : _≡_ {A = ℕ} 0 1 = cc in omega arith)
       go (taken a e) = rw e (getD-set-same (b .logs) g (cutAt n (logAt (b .logs) g)) freshLog (a .log))
+
+-- the log after an advance of the list that skips p
+pub skipping : (b : Model) (ts : List Turn) (j g p : ℕ) (k : SkipsAt b ts (replies modelTurn b ts) j g p)
+    → logAt (after modelTurn b (take (suc j) ts) .logs) g ≡ entered (logAt (after modelTurn b (take j ts) .logs) g) (newEntry (k .n) (k .value) (k .given))
+skipping b ts j g p k =
+    let a = at-call b ts j (advance g (k .n) (k .given) (k .value)) (k .call) in
+    ap (λ (x : Model). logAt (x .logs) g) (a .next) ∙ advanced (a .rules) (after modelTurn b (take j ts)) g (k .n) (k .given) (k .value) (k .low) (k .high) (sym (a .reply) ∙ k .accepted)

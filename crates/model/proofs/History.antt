@@ -10,6 +10,7 @@ use lib.ListN.{take}
 use lib.Dec.{leb}
 use borrow.Author.Tests.{leb-true, leb-false}
 use Rattle.layout.specs.Image.{Entry}
+use Rattle.a2m.specs.NewEntry.{newEntry}
 use Rattle.a2m.specs.Call.{advance, truncate, Reply, replies, after}
 use Rattle.a2m.proofs.Lists.{In, in-cases}
 use Rattle.model.specs.Log.{Log, entered, cutAt}
@@ -19,7 +20,7 @@ use Rattle.model.proofs.Turns.{WideTurn, Each}
 use Rattle.model.proofs.Represents.{LogOk}
 use Rattle.model.proofs.Later.{Later}
 use Rattle.model.proofs.Entries.{EntryAt, in-bounds, rising-one}
-use Rattle.model.proofs.Along.{Keeps, at-keeps, at-later, at-call, at-shown, advanced, truncated}
+use Rattle.model.proofs.Along.{Keeps, at-keeps, at-later, at-call, at-shown, truncated, skipping}
 
 -- one position of one log, at two times
 meet : (l k : Log) → LogOk l → Later l k → (n : ℕ) (v d v′ d′ : List ℕ) → EntryAt l n v d → EntryAt k n v′ d′ → (v ≡ v′) × (d ≡ d′)
@@ -55,13 +56,10 @@ module _ (b : Model) (keeps : Keeps b) (ts : List Turn) (w : Each WideTurn ts) w
       e : EntryAt (logAt (after modelTurn b (take i ts) .logs) g) p v d
       e = at-shown b keeps ts w i g p v d s
 
-      step : (x : Entry) × (x .position ≡ k .n) × (at (suc j) ≡ entered (at j) x)
-      step =
-          let a = at-call b ts j (advance g (k .n) (k .given) (k .value)) (k .call) in
-          let r = advanced (a .rules) (after modelTurn b (take j ts)) g (k .n) (k .given) (k .value) (k .low) (k .high) (sym (a .reply) ∙ k .accepted) in
-          (r .0, r .1, ap (λ (x : Model). logAt (x .logs) g) (a .next) ∙ r .2)
+      jumper : Entry
+      jumper = newEntry (k .n) (k .value) (k .given)
 
-      cases : In (e .entry) (at j .entries) ⊎ In (e .entry) (step .0 ∷ []) → ⊥
+      cases : In (e .entry) (at j .entries) ⊎ In (e .entry) (jumper ∷ []) → ⊥
       cases (inl m) =
           let a = k .above in
           let q = e .position in
@@ -70,7 +68,7 @@ module _ (b : Model) (keeps : Keeps b) (ts : List Turn) (w : Each WideTurn ts) w
       cases (inr (inl z)) =
           let a = k .below in
           let q = e .position in
-          let w : e .entry .position ≡ k .n = ap (λ (y : Entry). y .position) z ∙ step .1 in
+          let w : e .entry .position ≡ k .n = ap (λ (y : Entry). y .position) z in
           omega arith
 
       go : (x : Bool) → leb i j ≡ x → ⊥
@@ -84,9 +82,8 @@ module _ (b : Model) (keeps : Keeps b) (ts : List Turn) (w : Each WideTurn ts) w
           let lt = leb-false i j h in
           let q = e .position in
           let a = k .below in
-          let n : step .0 .position ≡ k .n = step .1 in
-          let L : Later (entered (at j) (step .0)) (at i) = subst (λ (l : Log). Later l (at i)) (step .2) (at-later b ts (suc j) i lt g) in
-          cases (in-cases (e .entry) (at j .entries) (step .0 ∷ []) (L .old (e .entry) (e .there) (omega arith)))
+          let L : Later (entered (at j) jumper) (at i) = subst (λ (l : Log). Later l (at i)) (skipping b ts j g p k) (at-later b ts (suc j) i lt g) in
+          cases (in-cases (e .entry) (at j .entries) (jumper ∷ []) (L .old (e .entry) (e .there) (omega arith)))
 
   pub model-remembered : (i j g p n : ℕ) (v d : List ℕ) → j < i → ForgetsAt ts (replies modelTurn b ts) j g n → p < n → ShowsAt (replies modelTurn b ts) i g p v d → ⊥
   unfolding cutAt

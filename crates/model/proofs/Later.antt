@@ -1,4 +1,4 @@
--- A log later: low and high only grow, and what the high position has passed is decided for good.
+-- A log later: low and high only grow, what the high position has passed is decided for good, and what the low position has not passed is kept.
 use Prim.Native.Nat.{ℕ, _≤_, _<_}
 use native.Mathlib.Nat.{le-refl, le-trans}
 use mathlib.Core.Path.{_≡_, ap, subst}
@@ -10,7 +10,7 @@ use lib.Dec.{leb}
 use borrow.Author.Tests.{le-leb}
 use Rattle.layout.specs.Image.{Entry}
 use Rattle.a2m.specs.Call.{after, Wide}
-use Rattle.a2m.proofs.Lists.{In, in-cases}
+use Rattle.a2m.proofs.Lists.{In, in-left, in-cases}
 use Rattle.model.specs.Log.{Log, entered, keepFrom, cutAt}
 use Rattle.model.specs.Model.{Model, logAt}
 use Rattle.model.specs.Claim.{Turn, modelTurn}
@@ -20,12 +20,13 @@ pub record Later (l k : Log) : Type 0 where
   pub low : l .low ≤ k .low
   pub high : l .high ≤ k .high
   pub old : (e : Entry) → In e (k .entries) → e .position ≤ l .high → In e (l .entries)
+  pub kept : (e : Entry) → In e (l .entries) → k .low ≤ e .position → In e (k .entries)
 
 pub later-refl : (l : Log) → Later l l
-later-refl l = record { low = le-refl _; high = le-refl _; old = λ (e : Entry) (m : In e (l .entries)) (h : e .position ≤ l .high). m }
+later-refl l = record { low = le-refl _; high = le-refl _; old = λ (e : Entry) (m : In e (l .entries)) (h : e .position ≤ l .high). m; kept = λ (e : Entry) (m : In e (l .entries)) (h : l .low ≤ e .position). m }
 
 pub later-trans : (l k j : Log) → Later l k → Later k j → Later l j
-later-trans l k j p q = record { low = le-trans (p .low) (q .low); high = le-trans (p .high) (q .high); old = λ (e : Entry) (m : In e (j .entries)) (h : e .position ≤ l .high). p .old e (q .old e m (le-trans h (p .high))) h }
+later-trans l k j p q = record { low = le-trans (p .low) (q .low); high = le-trans (p .high) (q .high); old = λ (e : Entry) (m : In e (j .entries)) (h : e .position ≤ l .high). p .old e (q .old e m (le-trans h (p .high))) h; kept = λ (e : Entry) (m : In e (l .entries)) (h : j .low ≤ e .position). q .kept e (p .kept e m (le-trans (q .low) h)) h }
 
 pub in-keepFrom : (n : ℕ) (e : Entry) (es : List Entry) → In e (keepFrom n es) → In e es
 unfolding keepFrom
@@ -48,7 +49,7 @@ in-kept n e (x ∷ es) (inr m) h = go (leb n (x .position)) (in-kept n e es m h)
 
 later-entered : (l : Log) (e : Entry) → l .high < e .position → Later l (entered l e)
 unfolding entered
-later-entered l e h = record { low = le-refl _; high = omega arith; old = λ (x : Entry) (m : In x (l .entries ++ (e ∷ []))) (k : x .position ≤ l .high). go x k (in-cases x (l .entries) (e ∷ []) m) }
+later-entered l e h = record { low = le-refl _; high = omega arith; old = λ (x : Entry) (m : In x (l .entries ++ (e ∷ []))) (k : x .position ≤ l .high). go x k (in-cases x (l .entries) (e ∷ []) m); kept = λ (x : Entry) (m : In x (l .entries)) (k : l .low ≤ x .position). in-left x (l .entries) (e ∷ []) m }
   where
     go : (x : Entry) → x .position ≤ l .high → In x (l .entries) ⊎ In x (e ∷ []) → In x (l .entries)
     go x k (inl m) = m
@@ -56,7 +57,7 @@ later-entered l e h = record { low = le-refl _; high = omega arith; old = λ (x 
 
 later-cut : (l : Log) (n : ℕ) → l .low < n → Later l (cutAt n l)
 unfolding cutAt
-later-cut l n h = record { low = omega arith; high = le-refl _; old = λ (x : Entry) (m : In x (keepFrom n (l .entries))) (k : x .position ≤ l .high). in-keepFrom n x (l .entries) m }
+later-cut l n h = record { low = omega arith; high = le-refl _; old = λ (x : Entry) (m : In x (keepFrom n (l .entries))) (k : x .position ≤ l .high). in-keepFrom n x (l .entries) m; kept = λ (x : Entry) (m : In x (l .entries)) (k : n ≤ x .position). in-kept n x (l .entries) m k }
 
 pub change-later : (Ok : Type 0) (l k : Log) → Change Ok l k → Later l k
 change-later Ok l k (same e) = rw e (later-refl l)

@@ -7,6 +7,7 @@ pub mod FreeHolds
 pub mod Fresh
 pub mod History
 pub mod ImageClaim
+pub mod Jumped
 pub mod Later
 pub mod Lookups
 pub mod MarkedSet
@@ -23,6 +24,7 @@ pub mod Refusals
 pub mod Remembers
 pub mod Represents
 pub mod Shown
+pub mod Skipped
 pub mod Sound
 pub mod Standings
 pub mod Step

@@ -28,7 +28,7 @@ unfolding readAttestation receiptBytes attestedBytes
 kind-read key a h = ap (λ (l : List ℕ). getD l 6 0) (append-assoc (a .name) (a .kind ∷ a .log ∷ _) (hmac key (attestedBytes a))) ∙ getD-at (a .name) (a .kind) _ 0 6 h
 
 -- the kind that a receipt shows
-shown-kind : (b : Model) (name : List ℕ) → length name ≡ 6 → (kind g n reference : ℕ) (nonce : List ℕ) (e : Entry) (r : List ℕ) → modelReceipt b name kind g n reference nonce e ≡ r → readAttestation r .kind ≡ kind
+pub shown-kind : (b : Model) (name : List ℕ) → length name ≡ 6 → (kind g n reference : ℕ) (nonce : List ℕ) (e : Entry) (r : List ℕ) → modelReceipt b name kind g n reference nonce e ≡ r → readAttestation r .kind ≡ kind
 unfolding modelReceipt
 shown-kind b name six kind g n reference nonce e r q = ap (λ (x : List ℕ). readAttestation x .kind) (sym q) ∙ kind-read (b .key) _ six
 

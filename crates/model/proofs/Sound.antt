@@ -37,7 +37,7 @@ entered-ok l e ok h =
     go (yes z) = let q = ok .fresh z in omega arith
     go (no n) = let q = ok-low l ok n in omega arith
 
-keepFrom-rising : (n w : ℕ) (es : List Entry) → Rising w es → Rising n (keepFrom n es)
+pub keepFrom-rising : (n w : ℕ) (es : List Entry) → Rising w es → Rising n (keepFrom n es)
 unfolding keepFrom
 keepFrom-rising n w [] r = tt
 keepFrom-rising n w (e ∷ es) r = go (leb n (e .position)) refl (keepFrom-rising n (suc (e .position)) es (r .1))

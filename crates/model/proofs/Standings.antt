@@ -1,6 +1,6 @@
 -- What a position's standing tells of a log that keeps its rules.
-use Prim.Native.Nat.{ℕ, _≤_, _<_}
-use mathlib.Core.Path.{_≡_, refl, sym, subst}
+use Prim.Native.Nat.{ℕ, suc, _≤_, _<_}
+use mathlib.Core.Path.{_≡_, refl, sym, ap, subst}
 use mathlib.Core.Logic.{_≢_, inl, inr}
 use mathlib.Core.List.{List, [], _∷_}
 use mathlib.Core.Bool.{Bool, true, false, cond}
@@ -11,16 +11,17 @@ use Rattle.layout.specs.Image.{Entry}
 use Rattle.a2m.proofs.Lists.{In}
 use Rattle.model.specs.Log.{Log, lastEntry, keepFrom, Standing, unassigned, forgotten, assigned, skipped, standingAmong, standing}
 use Rattle.model.specs.Model.{isNil}
-use Rattle.model.proofs.Represents.{LogOk}
+use Rattle.model.proofs.Represents.{LogOk, Rising}
+use Rattle.model.proofs.Sound.{keepFrom-rising}
 use Rattle.model.proofs.Later.{in-keepFrom, in-kept}
-use Rattle.model.proofs.Entries.{last-in}
+use Rattle.model.proofs.Entries.{last-in, rising-in}
 
--- above H; below L; at an entry; between entries, below the one shown
+-- above H; below L; at an entry; at L or above and below the entry shown, which is the next
 abbrev pub Means : Log → ℕ → Standing → Type 0
 Means l n unassigned = l .high < n
 Means l n forgotten = n < l .low
 Means l n (assigned e) = In e (l .entries) × (e .position ≡ n)
-Means l n (skipped e) = In e (l .entries) × (n < e .position)
+Means l n (skipped e) = In e (l .entries) × (n < e .position) × (l .low ≤ n) × ((f : Entry) → In f (l .entries) → n ≤ f .position → e .position ≤ f .position)
 
 kept-above : (n : ℕ) (e : Entry) (es : List Entry) → In e (keepFrom n es) → n ≤ e .position
 unfolding keepFrom
@@ -37,23 +38,30 @@ some-held [] h = absurd (omega arith)
 some-held (e ∷ es) h = refl
 
 module _ (l : Log) (ok : LogOk l) (n : ℕ) (n1 : 1 ≤ n) where
-  among-means : n ≤ l .high → (es : List Entry) → keepFrom n (l .entries) ≡ es → Means l n (standingAmong n es)
+  among-means : n ≤ l .high → l .low ≤ n → (es : List Entry) → keepFrom n (l .entries) ≡ es → Means l n (standingAmong n es)
   unfolding standingAmong
-  among-means h [] q =
+  among-means h low [] q =
       let t = ok .top in
       let last = lastEntry (l .entries) in
       absurd (subst (In last) q (in-kept n last (l .entries) (last-in (l .entries) (some-held (l .entries) (omega arith))) (omega arith)))
-  among-means h (x ∷ es) q = go (eqb (x .position) n) refl
+  among-means h low (x ∷ es) q = go (eqb (x .position) n) refl
     where
       kept : In x (keepFrom n (l .entries))
       kept = subst (In x) (sym q) (inl refl)
+
+      rising : Rising n (x ∷ es)
+      rising = subst (Rising n) q (keepFrom-rising n (l .low) (l .entries) (ok .rising))
+
+      first : (f : Entry) → In f (x ∷ es) → x .position ≤ f .position
+      first f (inl p) = let e : f .position ≡ x .position = ap (λ (y : Entry). y .position) p in omega arith
+      first f (inr m) = let h = rising-in (suc (x .position)) es (rising .1) f m .0 in omega arith
 
       go : (t : Bool) → eqb (x .position) n ≡ t → Means l n (cond t (assigned x) (skipped x))
       go true e = (in-keepFrom n x (l .entries) kept, eqb-true (x .position) n e)
       go false e =
           let ne : x .position ≢ n = eqb-false (x .position) n e in
           let le = kept-above n x (l .entries) kept in
-          (in-keepFrom n x (l .entries) kept, omega arith)
+          (in-keepFrom n x (l .entries) kept, omega arith, low, λ (f : Entry) (m : In f (l .entries)) (h : n ≤ f .position). first f (subst (In f) q (in-kept n f (l .entries) m h)))
 
   pub standing-means : Means l n (standing l n)
   unfolding standing
@@ -62,4 +70,4 @@ module _ (l : Log) (ok : LogOk l) (n : ℕ) (n1 : 1 ≤ n) where
       go : (t : Bool) → ltb (l .high) n ≡ t → (u : Bool) → ltb n (l .low) ≡ u → Means l n (cond t unassigned (cond u forgotten (standingAmong n (keepFrom n (l .entries)))))
       go true e u f = ltb-true (l .high) n e
       go false e true f = ltb-true n (l .low) f
-      go false e false f = among-means (ltb-false (l .high) n e) (keepFrom n (l .entries)) refl
+      go false e false f = among-means (ltb-false (l .high) n e) (ltb-false n (l .low) f) (keepFrom n (l .entries)) refl

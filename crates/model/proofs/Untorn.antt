@@ -31,7 +31,7 @@ calm01 = record { slot = λ (b : Model) (g : ℕ). unless (eqb (total (b .logs))
 
 pub calm : Calm rules
 unfolding rules
-calm = calm01
+calm = record { slot = calm01 .slot; end = calm01 .end }
 
 if-so : (t : Bool) (x rest : Option ℕ) → x ≢ some 1 → rest ≢ some 1 → cond t x rest ≢ some 1
 if-so true x rest h r e = h e

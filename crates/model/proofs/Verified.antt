@@ -53,7 +53,7 @@ unfolding slotAt
 slot-sizes m f zero = (length-zeros 32, length-zeros 32)
 slot-sizes m f (suc i) = (f .slots i .value, f .slots i .digest)
 
-whole-keeps : (m : Image) → wholeImage m ≡ true → Fits m → Keeps (modelOf m)
+pub whole-keeps : (m : Image) → wholeImage m ≡ true → Fits m → Keeps (modelOf m)
 unfolding modelOf logIn entriesIn
 whole-keeps m w f = record {
   sound = model-sound m w;
@@ -66,7 +66,7 @@ whole-keeps m w f = record {
 
 -- ---- what it says is what the table attests
 
-found-in : (m : Image) (g n : ℕ) → LogOk (logIn m g) → 1 ≤ n → lookedUp (rowIn m g) (entriesIn m g) n ≡ foundAs (logIn m g) (standing (logIn m g) n) (examinedFor (logIn m g) n (standing (logIn m g) n))
+pub found-in : (m : Image) (g n : ℕ) → LogOk (logIn m g) → 1 ≤ n → lookedUp (rowIn m g) (entriesIn m g) n ≡ foundAs (logIn m g) (standing (logIn m g) n) (examinedFor (logIn m g) n (standing (logIn m g) n))
 unfolding logIn
 found-in m g n ok n1 = lookup-is (logIn m g) ok (rowIn m g) refl refl n n1
 

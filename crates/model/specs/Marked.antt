@@ -1,4 +1,4 @@
--- Document 01's marked set: the 11 log calls of its script and the lines answered, as one table.
+-- Document 01's marked set: the 11 log calls of its script and the lines answered, as one table. Document 02, [3]: "In the script case line 6 shows 43."
 use Prim.Native.Nat.{ℕ}
 use mathlib.Core.List.{List, [], _∷_}
 use mathlib.Core.Option.{none, some}
@@ -50,7 +50,7 @@ marked =
     line 3 (append 0 (placed 42)) 0 dashes 1 2 ∷
     line 4 (advance 0 5 (placed 0) (placed 43)) 0 dashes 1 5 ∷
     line 5 (append 1 (placed 9)) 5 dashes 1 0 ∷
-    line 6 (lookup 0 3 zero32 160) 0 (shown S 3 5 0) 1 5 ∷
+    line 6 (lookup 0 3 zero32 160) 0 (shown S 3 5 43) 1 5 ∷
     line 7 (truncate 0 5) 0 dashes 5 5 ∷
     line 8 (append 1 (placed 9)) 0 dashes 1 1 ∷
     line 9 (lookup 0 2 zero32 160) 0 (shown F 2 5 0) 5 5 ∷

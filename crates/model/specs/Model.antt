@@ -54,9 +54,10 @@ pub record Rules : Type 0 where
 unfoldable pub rules01 : Rules
 rules01 = record { gap = λ e. blankEntry; noSlot = λ b g. cond (eqb (total (b .logs)) (b .size)) (some 5) none; emptyEnd = some 6 }
 
--- the present ones, which the calls on images and tables go by
+-- the present ones, which the calls on images and tables go by. Document 02, [3]: "A skipped receipt now carries the value and digest of the entry at its
+-- reference"
 unfoldable pub rules : Rules
-rules = rules01
+rules = record { gap = λ e. e; noSlot = rules01 .noSlot; emptyEnd = rules01 .emptyEnd }
 
 -- ---- refusals
 

@@ -29,7 +29,7 @@ use Rattle.quorum.proofs.Good.{good-by, good-exactly, good-once}
 use Rattle.quorum.proofs.Tallies.{placed, Judged, by-first, receipts-exactly}
 
 -- a set that is counted has a member
-some-member : (n : ℕ) (f : ℕ → Bool) → 1 ≤ countBelow n f → (i : ℕ) × (i < n) × (f i ≡ true)
+pub some-member : (n : ℕ) (f : ℕ → Bool) → 1 ≤ countBelow n f → (i : ℕ) × (i < n) × (f i ≡ true)
 unfolding countBelow
 some-member zero f h = absurd (not-suc-le-zero h)
 some-member (suc n) f h = by (f n) refl h (λ k. some-member n f k)
@@ -128,22 +128,27 @@ module _ (roster nonce : List ℕ) (log position : ℕ) (cert : List ℕ) where
       mask-by-bits (size roster) (showing v) mask (m .none-else)
       (λ i l. of-bit (showing v i) (mask / 2 ^ i % 2) (omega arith) (λ x. shows-exactly v i .1 (m .bits i l .0 x), λ s. m .bits i l .1 (shows-exactly v i .0 s)))
 
+  -- a receipt that is not good by a member does not add it
+  pub adds-none : (k : ℕ) (v : List ℕ) (i : ℕ) → good k i ≡ false → shown (suc k) v i ≡ shown k v i
+  unfolding showsIn
+  adds-none k v i e = ap (λ (b : Bool). shown k v i || (b && same (pairAt cert k) v)) e ∙ or-none (shown k v i)
+    where
+      or-none : (a : Bool) → a || false ≡ a
+      or-none true = refl
+      or-none false = refl
+
   -- a second receipt of a member that is counted already adds nothing to the count
   pub counted-once : distinct roster (size roster) ≡ true → (k : ℕ) (v : List ℕ) (j : ℕ) → j < size roster → good k j ≡ true → shown k v j ≡ true
       → countBelow (size roster) (shown (suc k) v) ≡ countBelow (size roster) (shown k v)
   unfolding showsIn
   counted-once d k v j l g s = count-eq (size roster) (shown (suc k) v) (shown k v) (λ i h. by (good k i) refl h)
     where
-      or-none : (a : Bool) → a || false ≡ a
-      or-none true = refl
-      or-none false = refl
-
       by : {i : ℕ} (b : Bool) → good k i ≡ b → i < size roster → shown k v i || (good k i && same (pairAt cert k) v) ≡ shown k v i
       by {i} true e h =
           let z : i ≡ j = good-once roster nonce log position (receiptAt cert k) d i j h l e g in
           let t : shown k v i ≡ true = ap (shown k v) z ∙ s in
           or-left (shown k v i) _ t ∙ sym t
-      by {i} false e h = ap (λ (b : Bool). shown k v i || (b && same (pairAt cert k) v)) e ∙ or-none (shown k v i)
+      by {i} false e h = adds-none k v i e
 
   module _ (k : ℕ) where
     abbrev test : ℕ → Bool

@@ -58,9 +58,13 @@ module _ (a : Attestation) where
   unfolding blankFits
   end-left o h = simp (ne-eqb (a .kind) 1 o, h)
 
-  pub by-blank : (a .kind ≡ 1 → ⊥) → same (a .name) LOOKUP ≡ true → isBlank a ≡ blankFits a
+  pub skipped-fits : (a .kind ≡ 1 → ⊥) → same (a .name) LOOKUP ≡ true → a .kind ≡ 2 → true ≡ blankFits a
   unfolding blankFits
-  by-blank o h = simp (ne-eqb (a .kind) 1 o, h)
+  skipped-fits o h s = simp (ne-eqb (a .kind) 1 o, h, eq-eqb (a .kind) 2 s)
+
+  pub by-blank : (a .kind ≡ 1 → ⊥) → same (a .name) LOOKUP ≡ true → (a .kind ≡ 2 → ⊥) → isBlank a ≡ blankFits a
+  unfolding blankFits
+  by-blank o h s = simp (ne-eqb (a .kind) 1 o, h, ne-eqb (a .kind) 2 s)
 
   pub no-name : isName (a .name) ≡ false → false ≡ possible a
   unfolding possible

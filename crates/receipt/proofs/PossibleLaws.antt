@@ -4,7 +4,7 @@ use mathlib.Core.Logic.{_⊎_, ⊎-elim, _↔_}
 use mathlib.Core.Logic._⊎_.{inl, inr}
 use Prim.Native.Nat.{ℕ, _≤_, _<_}
 use native.Mathlib.Omega.{arith}
-use mathlib.Core.Bool.{Bool, true, _&&_}
+use mathlib.Core.Bool.{Bool, true, _&&_, _||_}
 use mathlib.Core.List.{List}
 use lib.ListN.{getD}
 use lib.Dec.{eqb, ltb, leb}
@@ -17,7 +17,7 @@ use Rattle.receipt.specs.Possible.{isName, referenceFits, isBlank, blank
 use Rattle.receipt.specs.Verdict.{asks, Asks}
 use Rattle.receipt.specs.declared.Ask.{Ask}
 use Rattle.receipt.specs.declared.Ask.the-variants.{Lookup, End}
-use Rattle.receipt.proofs.Cases.{reference-at, reference-below, reference-above, assigned-fits, by-blank, by-kind}
+use Rattle.receipt.proofs.Cases.{reference-at, reference-below, reference-above, assigned-fits, skipped-fits, by-blank, by-kind}
 
 lookup-is-not-end : LOOKUP ≡ END → ⊥
 unfolding LOOKUP END
@@ -49,22 +49,18 @@ module _ (a : Attestation) where
   below : a .kind ≡ 0 → reference-test ≡ true → a .reference < a .position
   below z h = ltb-true (a .reference) (a .position) (reference-below (a .kind) (a .position) (a .reference) (λ o. omega arith) z ∙ h)
 
-  -- what is asked where the kind is not assigned
-  record Blank : Type 0 where
-    name : a .name ≡ LOOKUP
-    value : a .value ≡ zeros 32
-    digest : a .digest ≡ zeros 32
-
-  not-assigned : blankFits a ≡ true → (a .kind ≡ 1 → ⊥) → Blank
-  unfolding blankFits isBlank
+  -- what is asked where the kind is not assigned, and where it is not skipped either
+  not-assigned : blankFits a ≡ true → (a .kind ≡ 1 → ⊥) → a .name ≡ LOOKUP
+  unfolding blankFits
   not-assigned h o =
-      let t : same (a .name) LOOKUP && (same (a .value) (zeros 32) && same (a .digest) (zeros 32)) ≡ true = simp (ne-eqb (a .kind) 1 o) at h in
-      let u = and-right (same (a .name) LOOKUP) (same (a .value) (zeros 32) && same (a .digest) (zeros 32)) t in
-      record {
-        name = same-eq (a .name) LOOKUP (and-left (same (a .name) LOOKUP) _ t);
-        value = same-eq (a .value) (zeros 32) (and-left (same (a .value) (zeros 32)) _ u);
-        digest = same-eq (a .digest) (zeros 32) (and-right (same (a .value) (zeros 32)) _ u);
-      }
+      let t : same (a .name) LOOKUP && (eqb (a .kind) 2 || isBlank a) ≡ true = simp (ne-eqb (a .kind) 1 o) at h in
+      same-eq (a .name) LOOKUP (and-left (same (a .name) LOOKUP) _ t)
+
+  not-skipped : blankFits a ≡ true → (a .kind ≡ 1 → ⊥) → (a .kind ≡ 2 → ⊥) → (a .value ≡ zeros 32) × (a .digest ≡ zeros 32)
+  unfolding isBlank
+  not-skipped h o s =
+      let t : isBlank a ≡ true = by-blank a o (eq-same (a .name) LOOKUP (not-assigned h o)) s ∙ h in
+      (same-eq (a .value) (zeros 32) (and-left (same (a .value) (zeros 32)) _ t), same-eq (a .digest) (zeros 32) (and-right (same (a .value) (zeros 32)) _ t))
 
   pub possible-sound : possible a ≡ true → Possible a
   unfolding possible
@@ -82,8 +78,8 @@ module _ (a : Attestation) where
         assigned = λ o. eqb-true (a .reference) (a .position) (reference-at (a .kind) (a .position) (a .reference) o ∙ r);
         unassigned = λ z. below z r;
         passed = λ t. above (λ z. omega arith) (λ z. omega arith) r .1;
-        blank = λ o. (not-assigned b o .value, not-assigned b o .digest);
-        end = λ n. ⊎-elim (λ o. o) (λ o. absurd (lookup-is-not-end (sym (not-assigned b o .name) ∙ n))) (equal-or-not (a .kind) 1);
+        blank = λ o s. not-skipped b o s;
+        end = λ n. ⊎-elim (λ o. o) (λ o. absurd (lookup-is-not-end (sym (not-assigned b o) ∙ n))) (equal-or-not (a .kind) 1);
       }
 
   reference-complete : Possible a → reference-test ≡ true
@@ -99,8 +95,11 @@ module _ (a : Attestation) where
   unfolding isBlank
   blank-complete p =
       ⊎-elim (λ o. sym (assigned-fits a o))
-      (λ o. sym (by-blank a o (eq-same (a .name) LOOKUP (⊎-elim (λ l. l) (λ n. absurd (o (p .end n))) (p .named)))) ∙ zero (p .blank o .0) (p .blank o .1)) (equal-or-not (a .kind) 1)
+      (λ o. ⊎-elim (λ s. sym (skipped-fits a o (looks o) s)) (λ s. sym (by-blank a o (looks o) s) ∙ zero (p .blank o s .0) (p .blank o s .1)) (equal-or-not (a .kind) 2)) (equal-or-not (a .kind) 1)
     where
+      looks : (a .kind ≡ 1 → ⊥) → same (a .name) LOOKUP ≡ true
+      looks o = eq-same (a .name) LOOKUP (⊎-elim (λ l. l) (λ n. absurd (o (p .end n))) (p .named))
+
       zero : a .value ≡ zeros 32 → a .digest ≡ zeros 32 → isBlank a ≡ true
       zero v d = and-both (same (a .value) (zeros 32)) (same (a .digest) (zeros 32)) (eq-same (a .value) (zeros 32) v) (eq-same (a .digest) (zeros 32) d)
 

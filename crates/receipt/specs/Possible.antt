@@ -1,4 +1,4 @@
--- Document 01: "A possible entry". The conditions, and a test of them; proofs/PossibleLaws shows that they agree.
+-- Document 01: "A possible entry", as document 02 changes it. The conditions, and a test of them; proofs/PossibleLaws shows that they agree.
 use Prim.Native.Nat.{ℕ, _≤_, _<_}
 use mathlib.Core.Path.{_≡_}
 use mathlib.Core.Logic.{_⊎_}
@@ -9,7 +9,8 @@ use Rattle.octets.specs.Octets.{same, zeros}
 use Rattle.receipt.specs.Attestation.{Attestation, LOOKUP, END}
 
 -- "A possible entry has log ≤ 15, n ≥ 1 and: assigned, reference = n; unassigned, reference < n; skipped or forgotten,
--- reference > n; value and digest zero unless assigned; END only with assigned"
+-- reference > n; value and digest zero unless assigned; END only with assigned". Document 02, [3]: "Refusal 9 no longer wants zero
+-- bytes in a skipped receipt"; one with zero bytes stays possible
 pub record Possible (a : Attestation) : Type 0 where
   pub named : (a .name ≡ LOOKUP) ⊎ (a .name ≡ END)
   pub kind : a .kind ≤ 3
@@ -18,7 +19,7 @@ pub record Possible (a : Attestation) : Type 0 where
   pub assigned : a .kind ≡ 1 → a .reference ≡ a .position
   pub unassigned : a .kind ≡ 0 → a .reference < a .position
   pub passed : 2 ≤ a .kind → a .position < a .reference
-  pub blank : (a .kind ≡ 1 → ⊥) → (a .value ≡ zeros 32) × (a .digest ≡ zeros 32)
+  pub blank : (a .kind ≡ 1 → ⊥) → (a .kind ≡ 2 → ⊥) → (a .value ≡ zeros 32) × (a .digest ≡ zeros 32)
   pub end : a .name ≡ END → a .kind ≡ 1
 
 -- "bytes 0–5 the ASCII name LOOKUP, or END and three zero bytes"
@@ -34,9 +35,9 @@ referenceFits kind n reference =
 unfoldable pub isBlank : Attestation → Bool
 isBlank a = same (a .value) (zeros 32) && same (a .digest) (zeros 32)
 
--- "value and digest zero unless assigned; END only with assigned"
+-- value and digest zero unless assigned or skipped; "END only with assigned"
 unfoldable pub blankFits : Attestation → Bool
-blankFits a = cond (eqb (a .kind) 1) true (same (a .name) LOOKUP && isBlank a)
+blankFits a = cond (eqb (a .kind) 1) true (same (a .name) LOOKUP && (eqb (a .kind) 2 || isBlank a))
 
 -- the test
 unfoldable pub possible : Attestation → Bool

@@ -53,16 +53,20 @@ fn is_blank(r: &[u8]) -> bool
     equal(digest, &zeros)
 }
 
-// Whether the entry is assigned, or a LOOKUP with zero value and digest.
+// Whether the entry is assigned, or a LOOKUP that is skipped or has zero value and digest.
 fn blank_fits(r: &[u8]) -> bool
     requires { ⌜ length (now r) ≡ receiptSize ⌝ }
     ensures { λ b. ⌜ b ≡ blankFits (readAttestation (now (r .entry))) ⌝ }
 {
-    if kind_of(r) == 1 {
+    let kind = kind_of(r);
+    if kind == 1 {
         return true;
     }
     if !is_lookup(r) {
         return false;
+    }
+    if kind == 2 {
+        return true;
     }
     is_blank(r)
 }

@@ -28,7 +28,7 @@ returns : tie.Need-returns Inv-loop μ-loop
 returns c = let a = c .before .before .before .before .before .before .args in let l = c .before .before .before .before .loop in let w = within (readTable (a .table .now) .slots) (suc (a .log)) (a .n) (a .first) (l .s) (l .k) (l .inv) (c .before .before .before .loop-test .taken) .1 in (omega (arith, length-slots (a .table .now), c .before .before .before .before .before .before .pre .0 .slots-are), at-entry (readTable (a .table .now) .slots) (suc (a .log)) (a .n) (a .first) (l .s) (l .k) (l .inv) (c .before .before .before .loop-test .taken) (c .before .before .link-at .result) (c .before .before .link-at .ensures) (c .if1 .taken))
 
 returns-2 : tie.Need-returns-2 Inv-loop μ-loop
-returns-2 c = let a = c .before .before .before .before .before .before .before .before .args in let l = c .before .before .before .before .before .before .loop in (omega arith, above-entry (readTable (a .table .now) .slots) (suc (a .log)) (a .n) (a .first) (l .s) (l .k) (l .inv) (c .before .before .before .before .before .loop-test .taken) (c .before .before .before .before .link-at .result) (c .before .before .before .before .link-at .ensures) (c .if2 .taken))
+returns-2 c = let a = c .before .before .before .before .before .before .before .before .args in let l = c .before .before .before .before .before .before .loop in let w = within (readTable (a .table .now) .slots) (suc (a .log)) (a .n) (a .first) (l .s) (l .k) (l .inv) (c .before .before .before .before .before .loop-test .taken) .1 in (omega (arith, length-slots (a .table .now), c .before .before .before .before .before .before .before .before .pre .0 .slots-are), above-entry (readTable (a .table .now) .slots) (suc (a .log)) (a .n) (a .first) (l .s) (l .k) (l .inv) (c .before .before .before .before .before .loop-test .taken) (c .before .before .before .before .link-at .result) (c .before .before .before .before .link-at .ensures) (c .if2 .taken))
 
 loop-less : tie.Need-loop-less Inv-loop μ-loop
 loop-less c = let a = c .before .before .before .before .before .before .before .before .args in let l = c .before .before .before .before .before .before .loop in less (readTable (a .table .now) .slots) (suc (a .log)) (a .n) (a .first) (l .s) (l .k) (l .inv) (c .before .before .before .before .before .loop-test .taken) (c .before .before .before .before .link-at .result) (c .before .before .before .before .link-at .ensures)
