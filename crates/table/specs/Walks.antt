@@ -17,10 +17,10 @@ abbrev pub walkOf : Bool → List ℕ → Walk
 walkOf true c = Met (length c) (lastOf c)
 walkOf false c = Broken
 
--- all logs' chains
-abbrev pub heldOf : Bool → List ℕ → Held
-heldOf true c = held.Slots (length c)
-heldOf false c = held.Broken
+-- all logs' chains, what the logs lack of their reserves, and what all but one lack
+abbrev pub heldOf : Bool → List ℕ → ℕ → ℕ → Held
+heldOf true c lack others = held.Slots (length c) lack others
+heldOf false c lack others = held.Broken
 
 -- the chain of log g, with its row
 abbrev pub rowWalk : List Slot → ℕ → Row → Walk
