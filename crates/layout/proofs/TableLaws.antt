@@ -150,9 +150,15 @@ fresh-fits r h = record { low = omega arith; high = omega arith; first = omega a
 pub free-fits : (n : ℕ) → n < 256 ^ 2 → SlotFits (freeSlot n)
 free-fits n h = record { owner = omega arith; next = h; position = omega arith; value = length-zeros 32; digest = length-zeros 32 }
 
-pub row-fits : (b : List ℕ) → Bytes b → RowFits (readRow b)
+row-fits : (b : List ℕ) → Bytes b → RowFits (readRow b)
 unfolding readRow
 row-fits b h = record { low = unbe-part-lt b 0 8 h; high = unbe-part-lt b 8 8 h; first = unbe-part-lt b 16 2 h; last = unbe-part-lt b 18 2 h; reserve = unbe-part-lt b 20 2 h }
+
+-- a row that any bytes say fits
+pub rows-fit : (b : List ℕ) → Bytes b → (g : ℕ) → RowFits (rowAt (readTable b .rows) g)
+unfolding readTable rowsOf
+rows-fit b h =
+    every-tabulate RowFits (logsOf b) (λ g. readRow (part b (rowOffset g) rowSize)) (freshRow 0) (fresh-fits 0 (omega arith)) (λ g k. row-fits (part b (rowOffset g) rowSize) (bytes-part b (rowOffset g) rowSize h))
 
 slot-fits : (b : List ℕ) → Bytes b → length b ≡ slotSize → SlotFits (readSlot b)
 unfolding readSlot
@@ -207,7 +213,7 @@ module _ (b : List ℕ) (bytes : Bytes b) (h : Formed b) where
         keeper = unbe-part-lt b 8 8 bytes;
         free = unbe-part-lt b freeOffset 2 bytes;
         key = length-part b 20 32 (omega (arith, h .sized));
-        rows = every-tabulate RowFits (logsOf b) (λ g. readRow (part b (rowOffset g) rowSize)) (freshRow 0) (fresh-fits 0 (omega arith)) (λ g k. row-fits (part b (rowOffset g) rowSize) (bytes-part b (rowOffset g) rowSize bytes));
+        rows = rows-fit b bytes;
         slots = every-tabulate SlotFits (slotsOf b) (λ i. readSlot (part b (cellOffset (logsOf b) i) slotSize)) (freeSlot 0) (free-fits 0 (omega arith)) (λ i k. slot-fits (part b (cellOffset (logsOf b) i) slotSize) (bytes-part b (cellOffset (logsOf b) i) slotSize bytes) (cell-size i k));
       }
 
