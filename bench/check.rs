@@ -491,14 +491,17 @@ impl Check {
             let fits = (1..=16).contains(&g) && (1..=800).contains(&s);
             let mut n = if fits { table_bytes(g, s) } else { self.random.below(200) as usize };
             if self.random.once_in(4) {
-                n = self.random.pick(&[0, n.saturating_sub(1), n + 1, n + 76, 51, 52]);
+                n = self.random.pick(&[0, n.saturating_sub(2), n.saturating_sub(1), n + 1, n + 76, 51, 52, 53, 54, 55]);
             }
             let (table, keeper, key) = (self.random.bytes(n), self.random.next(), self.length(32));
             let key = self.random.bytes(key);
             let answer = self.format(&table, g, s, keeper, &key)?;
             if answer.number == 0 {
                 self.check(&answer.lent[0])?;
-                self.shows(&answer.lent[0], Some(s))?;
+                self.stocked(&answer.lent[0])?;
+                if !free_chain(&answer.lent[0]).into_iter().eq(1..=s) {
+                    return Err("format: the free slots are not 1 to S in rising order".to_string());
+                }
             }
         }
         Ok(())
@@ -554,7 +557,7 @@ impl Check {
         let at = slot(self);
         let other = slot(self);
         let row = row_at(self.random.below(g));
-        match self.random.below(25) {
+        match self.random.below(27) {
             0..=2 => {
                 let at = self.random.below(t.len() as u64) as usize;
                 t[at] ^= 1 << self.random.below(8);
@@ -596,12 +599,14 @@ impl Check {
                 put(t, 6, 2, n);
             }
             15 => {
-                let at = self.random.pick(&[0, 1, 2, 3, 5, 18, 19]);
+                let at = self.random.pick(&[0, 1, 2, 3, 5, 18, 19, 52, 53]);
                 t[at] ^= 1 << self.random.below(8);
             }
             16 => {
                 let n = t.len();
-                let n = self.random.pick(&[0, 1, 4, 19, 20, 51, 52, n - 1, n + 1, n - 76, n - 20, n + 76, n + 20]);
+                let around = [n - 2, n - 1, n + 1, n + 2, n - 76, n - 20, n + 76, n + 20];
+                let header = [0, 1, 4, 19, 20, 51, 52, 53, 54, 55];
+                let n = if self.random.once_in(2) { self.random.pick(&around) } else { self.random.pick(&header) };
                 t.resize(n, 0);
             }
             17 => t[at..at + SLOT].fill(0),
@@ -622,14 +627,14 @@ impl Check {
                 put(t, 18, 2, n & 0xffff);
             }
             21 => {
-                // The free chain cut, or led past a slot, and the number true of what is left.
+                // The free chain cut, or led past a slot, and number and last true of what is left.
                 let chain = free_chain(t);
                 if !chain.is_empty() {
                     let kept = self.random.below(chain.len() as u64) as usize;
                     let on = if self.random.once_in(2) { 0 } else { chain.get(kept + 1).copied().unwrap_or(0) };
                     let at = if kept == 0 { 16 } else { slot_at(t, chain[kept - 1]) + 2 };
                     put(t, at, 2, on);
-                    put(t, 18, 2, if on == 0 { kept } else { chain.len() - 1 } as u64);
+                    name_free(t);
                 }
             }
             22 => t[..4].copy_from_slice(OLD_MARK),
@@ -639,6 +644,28 @@ impl Check {
                 put(t, row + 8, 8, self.random.pick(&[0, 1]));
                 if self.random.once_in(2) {
                     put(t, row + 16, 4, 0);
+                }
+            }
+            24 => {
+                // Another last free slot.
+                let (n, first) = (named_last(t), get(t, 16, 2));
+                let any = 1 + self.random.below(s);
+                let n = self.random.pick(&[0, first, any, any, s, s + 1, 65535, n ^ 1 << 8, n << 8 | n >> 8]);
+                put(t, 52, 2, n & 0xffff);
+            }
+            25 => {
+                // The first free slot behind the last: a whole table stays whole if its header follows.
+                let chain = free_chain(t);
+                if chain.len() > 1 {
+                    let (first, last) = (chain[0], chain[chain.len() - 1]);
+                    put(t, 16, 2, chain[1]);
+                    for (slot, next) in [(last, first), (first, 0)] {
+                        let at = slot_at(t, slot) + 2;
+                        put(t, at, 2, next);
+                    }
+                    if self.random.once_in(2) {
+                        put(t, 52, 2, first);
+                    }
                 }
             }
             _ => {
@@ -679,7 +706,77 @@ impl Check {
         if numbers == [1; 6] { Ok(()) } else { Err(format!("check: a torn table is taken, {numbers:?}")) }
     }
 
-    /// Request [1]: the calls want the stored number true, and the screen shows it as it stands.
+    /// What a table's header says of the free slots is true of its free chain: the number, which the screen shows, and the
+    /// last.
+    fn stocked(&mut self, t: &[u8]) -> Checked<()> {
+        let chain = free_chain(t);
+        if named_last(t) != chain.last().copied().unwrap_or(0) {
+            return Err(format!("the header names {} the last of the free slots {chain:?}", named_last(t)));
+        }
+        self.shows(t, Some(chain.len() as u64))
+    }
+
+    /// The table has these free slots in this order, and is torn where the header names another of them the last.
+    fn queued(&mut self, t: &[u8], slots: &[u64]) -> Checked<()> {
+        if self.check(t)?.number != 0 || free_chain(t) != slots {
+            return Err(format!("the free slots are {:?}, not {slots:?}", free_chain(t)));
+        }
+        self.stocked(t)?;
+        let last = named_last(t);
+        for other in (0..6).filter(|n| *n != last) {
+            let mut changed = t.to_vec();
+            put(&mut changed, 52, 2, other);
+            self.torn(&changed)?;
+            self.shows(&changed, Some(slots.len() as u64))?;
+        }
+        Ok(())
+    }
+
+    /// Request [4]: the first free slot is taken, freed ones join the end by rising position.
+    fn queue(&mut self) -> Checked<()> {
+        enum Step {
+            Append,
+            Advance(u64),
+            Truncate(u64),
+        }
+        use Step::*;
+        let (key, digest, value) = (self.random.bytes(32), self.random.bytes(32), self.random.bytes(32));
+        let mut t = self.format(&vec![0; table_bytes(1, 4)], 1, 4, 7, &key)?.lent.swap_remove(0);
+        self.queued(&t, &[1, 2, 3, 4])?;
+        let steps: [(Step, &[u64]); 13] = [
+            (Append, &[2, 3, 4]),
+            (Append, &[3, 4]),
+            (Append, &[4]),
+            (Truncate(3), &[4, 1, 2]),
+            (Append, &[1, 2]),
+            (Append, &[2]),
+            (Advance(9), &[]),
+            // Positions 3, 4, 5 and 9 are now in slots 3, 4, 1 and 2. Slots join an empty queue.
+            (Truncate(6), &[3, 4, 1]),
+            // In the gap under 9: no slot is freed.
+            (Truncate(8), &[3, 4, 1]),
+            (Append, &[4, 1]),
+            (Append, &[1]),
+            (Truncate(11), &[1, 2, 3]),
+            (Append, &[2, 3]),
+        ];
+        for (step, slots) in steps {
+            let mut answer = match step {
+                Append => self.append(&t, 0, &value)?,
+                Advance(n) => self.advance(&t, 0, n, &digest, &value)?,
+                Truncate(n) => self.truncate(&t, 0, n)?,
+            };
+            if answer.number != 0 {
+                return Err(format!("a call before the free slots {slots:?} is refused with {}", answer.number));
+            }
+            t = answer.lent.swap_remove(0);
+            self.queued(&t, slots)?;
+        }
+        Ok(())
+    }
+
+    /// Requests [1] and [4]: the calls want the stored number and last free slot true, and the screen shows the number as it
+    /// stands.
     fn screens(&mut self) -> Checked<()> {
         for (g, s, held) in [(1, 1, 0), (1, 1, 1), (2, 3, 0), (2, 3, 2), (16, 800, 0), (16, 800, 333), (16, 800, 800)] {
             let t = filled(g, s, held, &mut self.random);
@@ -696,22 +793,34 @@ impl Check {
                     self.shows(&changed, Some(other))?;
                 }
             }
+            let last = named_last(&t);
+            for other in [0, 1, 2, 3, held, held + 1, s - 1, s, s + 1, last ^ 256, last ^ 1 << 15, 65535] {
+                if other != last {
+                    let mut changed = t.clone();
+                    put(&mut changed, 52, 2, other);
+                    self.torn(&changed)?;
+                    self.shows(&changed, Some(n))?;
+                }
+            }
             for length in 0..HEADER {
                 self.shows(&t[..length], None)?;
             }
             let mut longer = t.clone();
             longer.push(0);
-            for other in [&t[..HEADER], &t[..t.len() - 1], &longer] {
+            // With a header of 52 bytes, as it was before request [4].
+            let short = [&t[..52], &t[HEADER..]].concat();
+            for other in [&t[..HEADER], &t[..HEADER + 1], &t[..t.len() - 1], &longer, &short] {
                 self.torn(other)?;
                 self.shows(other, Some(n))?;
             }
             // Document 01's own mark, with the number and with the zero bytes that it had in its place.
-            let mut old = t.clone();
-            old[..4].copy_from_slice(OLD_MARK);
-            for number in [n, 0] {
-                put(&mut old, 18, 2, number);
-                self.torn(&old)?;
-                self.shows(&old, None)?;
+            for mut old in [t, short] {
+                old[..4].copy_from_slice(OLD_MARK);
+                for number in [n, 0] {
+                    put(&mut old, 18, 2, number);
+                    self.torn(&old)?;
+                    self.shows(&old, None)?;
+                }
             }
         }
         Ok(())
@@ -719,6 +828,7 @@ impl Check {
 
     fn tables(&mut self, times: u64) -> Checked<()> {
         self.example()?;
+        self.queue()?;
         self.screens()?;
         for i in 0..60 * times {
             let g = self.random.pick(&[1, 1, 2, 2, 3, 5, 16]);
@@ -733,7 +843,7 @@ impl Check {
             for _ in 0..40 + 2 * s.min(100) {
                 let (after, receipt) = self.step(&t)?;
                 t = after;
-                self.shows(&t, Some(free_chain(&t).len() as u64))?;
+                self.stocked(&t)?;
                 if let Some((receipt, nonce)) = receipt {
                     self.receipt(&receipt, &nonce, keeper, &key)?;
                 }
@@ -1073,8 +1183,8 @@ impl Check {
         Ok(())
     }
 
-    /// Every way to link three slots of one log or none, with positions at random and the number of free slots that the
-    /// owners leave; where the table is whole, every other number too.
+    /// Every way to link three slots of one log or none, with positions at random, the number of free slots that the owners
+    /// leave and the last that the links lead to; where the table is whole, every other number and every other last too.
     fn every_link(&mut self) -> Checked<()> {
         let nothing = vec![0; table_bytes(1, 3)];
         let key = self.random.bytes(32);
@@ -1098,6 +1208,8 @@ impl Check {
                         put(&mut t, at + 4, 8, 1 + self.random.below(4));
                     }
                 }
+                let last_free = free_chain(&t).last().copied().unwrap_or(0);
+                put(&mut t, 52, 2, last_free);
                 let last = if link(2) == 0 { 0 } else { get(&t, slot_at(&t, link(2)) + 4, 8) };
                 put(&mut t, row + 8, 8, last);
                 if held == 0 && link(1) == 0 {
@@ -1108,9 +1220,12 @@ impl Check {
                     for _ in 0..10 {
                         self.all_calls(&t, 1, &t)?;
                     }
-                    for other in (0..5).filter(|n| *n != free) {
-                        put(&mut t, 18, 2, other);
-                        self.torn(&t)?;
+                    for (at, right) in [(18, free), (52, last_free)] {
+                        for other in (0..5).filter(|n| *n != right) {
+                            put(&mut t, at, 2, other);
+                            self.torn(&t)?;
+                        }
+                        put(&mut t, at, 2, right);
                     }
                 }
             }

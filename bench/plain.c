@@ -1,6 +1,5 @@
-/* The keeper in plain C: the bench's yardstick, and an independent reading of document 01 and requests [1] and [2]. Portable C,
- * no intrinsics. Where document 01 leaves the free slot open it does as the keeper does: the free chain is a queue. Blocks are
- * counted where they are compressed, and added up on the way out. */
+/* The keeper in plain C: the bench's yardstick, and an independent reading of document 01 and requests [1] to [4]. Portable C,
+ * no intrinsics. Blocks are counted where they are compressed, and added up on the way out. */
 #include "plain.h"
 
 #include <string.h>
@@ -214,12 +213,12 @@ keeper_result plain_tag(const uint8_t *key, size_t key_bytes, const uint8_t *tex
 
 /* ---- the table's bytes ---- */
 
-enum { HEADER = 52, ROW = 20, SLOT = 76, MAX_LOGS = 16, MAX_SLOTS = 800 };
+enum { HEADER = 54, ROW = 20, SLOT = 76, MAX_LOGS = 16, MAX_SLOTS = 800 };
 
 static const uint8_t mark[4] = {'A', '2', 'M', 'U'};
 
 /* Offsets in the header, a row and a slot. */
-enum { H_LOGS = 4, H_ZERO = 5, H_SLOTS = 6, H_KEEPER = 8, H_FREE = 16, H_COUNT = 18, H_KEY = 20 };
+enum { H_LOGS = 4, H_ZERO = 5, H_SLOTS = 6, H_KEEPER = 8, H_FREE = 16, H_COUNT = 18, H_KEY = 20, H_FREE_LAST = 52 };
 enum { R_LOW = 0, R_HIGH = 8, R_FIRST = 16, R_LAST = 18 };
 enum { S_OWNER = 0, S_ZERO = 1, S_NEXT = 2, S_POSITION = 4, S_VALUE = 12, S_DIGEST = 44 };
 
@@ -245,14 +244,9 @@ static inline int all_zero(const uint8_t *p, size_t words)
     return any == 0;
 }
 
-/* What a call needs of a whole table besides its bytes. */
-typedef struct {
-    uint32_t logs;
-    uint32_t free_last; /* 0 if no slot is free */
-} whole_table;
-
-/* Whether the table is whole. Each chain is walked once; a chain that goes on for more than S slots has a loop. */
-static int whole(const uint8_t *t, size_t bytes, whole_table *found)
+/* The number of logs of a whole table, 0 of a torn one. Each chain is walked once; a chain that goes on for more than S slots
+ * has a loop. */
+static uint32_t whole(const uint8_t *t, size_t bytes)
 {
     if (bytes < HEADER || memcmp(t, mark, 4) != 0 || t[H_ZERO] != 0)
         return 0;
@@ -271,10 +265,8 @@ static int whole(const uint8_t *t, size_t bytes, whole_table *found)
         last = i;
         i = get16(s + S_NEXT);
     }
-    if (count != get16(t + H_COUNT))
+    if (count != get16(t + H_COUNT) || last != get16(t + H_FREE_LAST))
         return 0;
-    found->logs = logs;
-    found->free_last = last;
 
     for (uint32_t g = 0; g < logs; g++) {
         const uint8_t *r = t + row_at(g);
@@ -305,13 +297,12 @@ static int whole(const uint8_t *t, size_t bytes, whole_table *found)
         if (at != last || above != high)
             return 0;
     }
-    return count == slots;
+    return count == slots ? logs : 0;
 }
 
 uint8_t plain_check(const uint8_t *table, size_t table_bytes)
 {
-    whole_table found;
-    return whole(table, table_bytes, &found) ? KEEPER_DONE : KEEPER_TORN;
+    return whole(table, table_bytes) != 0 ? KEEPER_DONE : KEEPER_TORN;
 }
 
 uint8_t plain_free(const uint8_t *table, size_t table_bytes, uint64_t *free)
@@ -342,6 +333,7 @@ keeper_result plain_format(uint8_t *table, size_t table_bytes, uint64_t logs, ui
     put16(table + H_FREE, 1);
     put16(table + H_COUNT, (uint32_t)slots);
     memcpy(table + H_KEY, key, 32);
+    put16(table + H_FREE_LAST, (uint32_t)slots);
     for (uint32_t g = 0; g < logs; g++)
         put64(table + row_at(g) + R_LOW, 1);
     for (uint32_t i = 1; i < slots; i++)
@@ -366,10 +358,13 @@ static uint64_t put_entry(uint8_t *t, uint32_t logs, uint64_t log, uint64_t posi
     uint8_t *r = t + row_at(log);
     uint32_t i = get16(t + H_FREE), last = get16(r + R_LAST);
     uint8_t *s = t + slot_at(logs, i);
+    uint32_t next = get16(s + S_NEXT);
     uint8_t block[72];
     block_of(block, position, value, previous);
 
-    put16(t + H_FREE, get16(s + S_NEXT));
+    put16(t + H_FREE, next);
+    if (next == 0)
+        put16(t + H_FREE_LAST, 0);
     put16(t + H_COUNT, get16(t + H_COUNT) - 1);
     s[S_OWNER] = (uint8_t)(log + 1);
     put16(s + S_NEXT, 0);
@@ -387,48 +382,48 @@ keeper_result plain_append(uint8_t *table, size_t table_bytes, uint64_t log, con
                            uint64_t *low, uint64_t *high)
 {
     static const uint8_t zeros[32];
-    whole_table found;
     if (value_bytes != 32)
         return refused(KEEPER_LENGTH);
-    if (!whole(table, table_bytes, &found))
+    uint32_t logs = whole(table, table_bytes);
+    if (logs == 0)
         return refused(KEEPER_TORN);
-    if (log >= found.logs)
+    if (log >= logs)
         return refused(KEEPER_NO_LOG);
     const uint8_t *r = table + row_at(log);
     uint64_t top = get64(r + R_HIGH);
     if (top == UINT64_MAX)
         return refused(KEEPER_SPENT);
-    if (found.free_last == 0)
+    if (get16(table + H_FREE) == 0)
         return refused(KEEPER_FULL);
     uint32_t last = get16(r + R_LAST);
-    const uint8_t *previous = last == 0 ? zeros : table + slot_at(found.logs, last) + S_DIGEST;
-    return done(put_entry(table, found.logs, log, top + 1, value, previous, low, high));
+    const uint8_t *previous = last == 0 ? zeros : table + slot_at(logs, last) + S_DIGEST;
+    return done(put_entry(table, logs, log, top + 1, value, previous, low, high));
 }
 
 keeper_result plain_advance(uint8_t *table, size_t table_bytes, uint64_t log, uint64_t position, const uint8_t *digest,
                             size_t digest_bytes, const uint8_t *value, size_t value_bytes, uint64_t *low, uint64_t *high)
 {
-    whole_table found;
     if (digest_bytes != 32 || value_bytes != 32)
         return refused(KEEPER_LENGTH);
-    if (!whole(table, table_bytes, &found))
+    uint32_t logs = whole(table, table_bytes);
+    if (logs == 0)
         return refused(KEEPER_TORN);
-    if (log >= found.logs)
+    if (log >= logs)
         return refused(KEEPER_NO_LOG);
     if (position <= get64(table + row_at(log) + R_HIGH))
         return refused(KEEPER_POSITION);
-    if (found.free_last == 0)
+    if (get16(table + H_FREE) == 0)
         return refused(KEEPER_FULL);
-    return done(put_entry(table, found.logs, log, position, value, digest, low, high));
+    return done(put_entry(table, logs, log, position, value, digest, low, high));
 }
 
 keeper_result plain_truncate(uint8_t *table, size_t table_bytes, uint64_t log, uint64_t position, uint64_t *low,
                              uint64_t *high)
 {
-    whole_table found;
-    if (!whole(table, table_bytes, &found))
+    uint32_t logs = whole(table, table_bytes);
+    if (logs == 0)
         return refused(KEEPER_TORN);
-    if (log >= found.logs)
+    if (log >= logs)
         return refused(KEEPER_NO_LOG);
     uint8_t *r = table + row_at(log);
     uint64_t top = get64(r + R_HIGH);
@@ -439,7 +434,7 @@ keeper_result plain_truncate(uint8_t *table, size_t table_bytes, uint64_t log, u
      * entry at H stays, so the walk ends inside the chain. */
     uint32_t first = get16(r + R_FIRST), i = first, last = 0, freed = 0;
     for (;;) {
-        uint8_t *s = table + slot_at(found.logs, i);
+        uint8_t *s = table + slot_at(logs, i);
         if (get64(s + S_POSITION) >= position)
             break;
         s[S_OWNER] = 0;
@@ -449,8 +444,10 @@ keeper_result plain_truncate(uint8_t *table, size_t table_bytes, uint64_t log, u
         i = get16(s + S_NEXT);
     }
     if (last != 0) {
-        put16(table + slot_at(found.logs, last) + S_NEXT, 0);
-        put16(found.free_last == 0 ? table + H_FREE : table + slot_at(found.logs, found.free_last) + S_NEXT, first);
+        uint32_t tail = get16(table + H_FREE_LAST);
+        put16(table + slot_at(logs, last) + S_NEXT, 0);
+        put16(tail == 0 ? table + H_FREE : table + slot_at(logs, tail) + S_NEXT, first);
+        put16(table + H_FREE_LAST, last);
         put16(r + R_FIRST, i);
         put16(table + H_COUNT, get16(table + H_COUNT) + freed);
     }
@@ -489,12 +486,12 @@ static uint64_t put_receipt(uint8_t *receipt, const uint8_t *table, const uint8_
 keeper_result plain_lookup(const uint8_t *table, size_t table_bytes, uint64_t log, uint64_t position, const uint8_t *nonce,
                            size_t nonce_bytes, uint8_t *receipt, size_t receipt_bytes, uint64_t *examined)
 {
-    whole_table found;
     if (nonce_bytes != 32 || receipt_bytes != 160)
         return refused(KEEPER_LENGTH);
-    if (!whole(table, table_bytes, &found))
+    uint32_t logs = whole(table, table_bytes);
+    if (logs == 0)
         return refused(KEEPER_TORN);
-    if (log >= found.logs)
+    if (log >= logs)
         return refused(KEEPER_NO_LOG);
     if (position == 0)
         return refused(KEEPER_POSITION);
@@ -510,10 +507,10 @@ keeper_result plain_lookup(const uint8_t *table, size_t table_bytes, uint64_t lo
         kind = KEEPER_FORGOTTEN;
         reference = low;
     } else {
-        const uint8_t *s = table + slot_at(found.logs, get16(r + R_FIRST));
+        const uint8_t *s = table + slot_at(logs, get16(r + R_FIRST));
         looked_at = 1;
         while ((reference = get64(s + S_POSITION)) < position) {
-            s = table + slot_at(found.logs, get16(s + S_NEXT));
+            s = table + slot_at(logs, get16(s + S_NEXT));
             looked_at++;
         }
         kind = reference == position ? KEEPER_ASSIGNED : KEEPER_SKIPPED;
@@ -526,12 +523,12 @@ keeper_result plain_lookup(const uint8_t *table, size_t table_bytes, uint64_t lo
 keeper_result plain_end(const uint8_t *table, size_t table_bytes, uint64_t log, const uint8_t *nonce, size_t nonce_bytes,
                         uint8_t *receipt, size_t receipt_bytes)
 {
-    whole_table found;
     if (nonce_bytes != 32 || receipt_bytes != 160)
         return refused(KEEPER_LENGTH);
-    if (!whole(table, table_bytes, &found))
+    uint32_t logs = whole(table, table_bytes);
+    if (logs == 0)
         return refused(KEEPER_TORN);
-    if (log >= found.logs)
+    if (log >= logs)
         return refused(KEEPER_NO_LOG);
     const uint8_t *r = table + row_at(log);
     uint32_t last = get16(r + R_LAST);
@@ -539,7 +536,7 @@ keeper_result plain_end(const uint8_t *table, size_t table_bytes, uint64_t log, 
         return refused(KEEPER_NOTHING_HELD);
     uint64_t high = get64(r + R_HIGH);
     return done(put_receipt(receipt, table, name_end, KEEPER_ASSIGNED, log, high, high, nonce,
-                            table + slot_at(found.logs, last)));
+                            table + slot_at(logs, last)));
 }
 
 /* ---- the verifier ---- */

@@ -1,7 +1,7 @@
-//! Tables and receipts as the driver makes and reads them; offsets are document 01's.
+//! Tables and receipts as the driver makes and reads them; offsets are document 01's, as requests [1] and [4] change them.
 use crate::sides::{Random, PLAIN};
 
-pub const HEADER: usize = 52;
+pub const HEADER: usize = 54;
 pub const ROW: usize = 20;
 pub const SLOT: usize = 76;
 
@@ -70,6 +70,18 @@ pub fn named_free(t: &[u8]) -> u64 {
     get(t, 18, 2)
 }
 
+/// The last free slot that the header names, 0 if none.
+pub fn named_last(t: &[u8]) -> u64 {
+    get(t, 52, 2)
+}
+
+/// Makes the header's number and last free slot true of the free chain, as far as that goes.
+pub fn name_free(t: &mut [u8]) {
+    let chain = free_chain(t);
+    put(t, 18, 2, chain.len() as u64);
+    put(t, 52, 2, chain.last().copied().unwrap_or(0));
+}
+
 /// The same chains over slots in another order: a whole table stays whole.
 pub fn shuffle(t: &mut [u8], random: &mut Random) {
     let (g, s) = (logs(t), slots(t));
@@ -79,7 +91,9 @@ pub fn shuffle(t: &mut [u8], random: &mut Random) {
     }
     let before = t.to_vec();
     let moved = |slot: u64| if slot <= s { to[slot as usize] } else { slot };
-    put(t, 16, 2, moved(get(&before, 16, 2)));
+    for at in [16, 52] {
+        put(t, at, 2, moved(get(&before, at, 2)));
+    }
     for log in 0..g {
         for at in [row_at(log) + 16, row_at(log) + 18] {
             put(t, at, 2, moved(get(&before, at, 2)));

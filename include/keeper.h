@@ -35,7 +35,7 @@ extern "C" {
 #endif
 
 /* One more with each change of a prototype, a constant, a rule, or the bytes of a table or receipt. */
-#define KEEPER_VERSION 4
+#define KEEPER_VERSION 5
 
 /* Numbers returned. */
 enum {
@@ -70,8 +70,8 @@ enum {
 /* The most of each. */
 enum { KEEPER_MAX_LOGS = 16, KEEPER_MAX_SLOTS = 800, KEEPER_MAX_MEMBERS = 31, KEEPER_MAX_RECEIPTS = 32 };
 
-/* The bytes of a table of so many logs (1 to 16) and slots (1 to 800), and of the largest one: 61,172. */
-#define KEEPER_TABLE_BYTES(logs, slots) ((size_t)52 + (size_t)20 * (logs) + (size_t)76 * (slots))
+/* The bytes of a table of so many logs (1 to 16) and slots (1 to 800), and of the largest one: 61,174. */
+#define KEEPER_TABLE_BYTES(logs, slots) ((size_t)54 + (size_t)20 * (logs) + (size_t)76 * (slots))
 #define KEEPER_MAX_TABLE_BYTES KEEPER_TABLE_BYTES(KEEPER_MAX_LOGS, KEEPER_MAX_SLOTS)
 
 /* The stack that a call takes at most, its return address included; memcpy is not called where it is deepest. */
@@ -137,7 +137,7 @@ uint8_t keeper_check(const uint8_t *table, size_t table_bytes);
 
 /* The number of free slots, for a status screen: free becomes the number that the header names, also that of a torn table;
  * of a whole one it is the number of free slots. Looks at the length and six bytes, walks nothing and hashes nothing. Refused:
- * 1 for bytes shorter than a header, 52, or without the mark A2MU. */
+ * 1 for bytes shorter than a header, 54, or without the mark A2MU. */
 uint8_t keeper_free(const uint8_t *table, size_t table_bytes, uint64_t *free);
 
 /* Puts a value of 32 bytes at the log's next position; low and high become the log's lowest and highest position after it.
@@ -151,7 +151,8 @@ keeper_result keeper_advance(uint8_t *table, size_t table_bytes, uint64_t log, u
                              size_t digest_bytes, const uint8_t *value, size_t value_bytes, uint64_t *low,
                              uint64_t *high);
 
-/* Forgets the log's entries below a position, and frees their slots. Blocks: 0. Refused, in this order: 1; 2; 3 unless
+/* Forgets the log's entries below a position, and frees their slots: by rising position they join the end of the queue of
+ * free slots, of which append and advance take the first. Blocks: 0. Refused, in this order: 1; 2; 3 unless
  * L < position <= H. */
 keeper_result keeper_truncate(uint8_t *table, size_t table_bytes, uint64_t log, uint64_t position, uint64_t *low,
                               uint64_t *high);

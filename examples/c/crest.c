@@ -7,7 +7,7 @@
 
 _Static_assert(sizeof(keeper_result) == 16, "the library returns two numbers of 8 bytes");
 _Static_assert(sizeof(keeper_verdict) == 40, "the library writes five numbers of 8 bytes");
-_Static_assert(KEEPER_MAX_TABLE_BYTES == 61172, "the largest table");
+_Static_assert(KEEPER_MAX_TABLE_BYTES == 61174, "the largest table");
 
 static uint64_t number_at(const uint8_t *bytes)
 {

@@ -13,23 +13,23 @@ use Rattle.octets.specs.Octets.{Bytes}
 use Rattle.layout.specs.declared.Row.{Row}
 use Rattle.layout.specs.declared.Link.{Link}
 use Rattle.layout.specs.Image.{Slot, Image, slotAt, setSlot}
-use Rattle.layout.specs.Layout.{Stock, stocked, headerSize, readTable, stockOf, writeWith, putSlot, putNext, putRow, putFree, putCount}
+use Rattle.layout.specs.Layout.{Stock, stocked, headerSize, readTable, stockOf, writeWith, putSlot, putNext, putRow, putFree, putCount, putLast}
 use Rattle.layout.specs.Changes.{withRow, withSlot, withFree, withNext, slotOf, linkOf, advancedRow}
 use Rattle.layout.specs.Fits.{RowFits, SlotFits}
 use Rattle.layout.proofs.TableLaws.{length-rows}
-use Rattle.layout.proofs.HoldsLaws.{Holds, holds-counted, holds-row, holds-slot, holds-next, holds-free, holds-count}
-use Rattle.table.specs.Chains.{chain}
-use Rattle.table.specs.Free.{freeChain, writeTable}
+use Rattle.layout.proofs.HoldsLaws.{Holds, holds-counted, holds-row, holds-slot, holds-next, holds-free, holds-count, holds-last}
+use Rattle.table.specs.Chains.{chain, lastOf}
+use Rattle.table.specs.Free.{freeChain, joint, writeTable}
 use Rattle.a2m.specs.declared.View.{View}
 use Rattle.a2m.specs.Call.{done}
 use Rattle.a2m.specs.ImageCalls.{rowIn, entriesIn, joined, put}
-use Rattle.a2m.specs.Opened.{Opened, hooked, entryAt}
+use Rattle.a2m.specs.Opened.{Opened, hooked, lastAfter, entryAt}
 use Rattle.a2m.proofs.Links.{slotAt-other, chain-links}
 use Rattle.table.specs.Conditions.{Links}
 use Rattle.a2m.proofs.Moves.{hook-apart}
 use Rattle.a2m.proofs.Chained.{Chained, put-move, put-chained}
 use Rattle.a2m.proofs.FitsAfter.{slot-fits, first-fits}
-use Rattle.a2m.proofs.OpenedLaws.{view-row, view-free, view-count, opened-holds, opened-chained, opened-log, free-most, last-most, chain-cons}
+use Rattle.a2m.proofs.OpenedLaws.{view-row, view-free, view-count, view-last, opened-holds, opened-chained, opened-log, free-most, last-free-most, last-most, chain-cons}
 
 -- slot t is the next of slot last, if there is one
 abbrev pub hookedSlots : List Slot → ℕ → ℕ → List Slot
@@ -132,20 +132,50 @@ module _ (b : List ℕ) (v : View) (after : Row) (x d : List ℕ) (o : Opened b 
       subst (λ (m : Image). Holds b₄ (stockOf b) m (v .logs) (v .slots)) (is-put (l .next) (ap (λ (y : Link). y .next) el))
       (holds-free b₃ (stockOf b) _ (v .logs) (v .slots) (held-3 b₁ b₂ b₃ e₁ e₂ e₃) b₄ (l .next) e₄ (next-good l el))
 
-  -- one free slot less
-  fewer : v .count - 1 ≡ length (freeChain (put (readTable b) (v .log) (entryAt (after .high) x d)))
+  pub held-5 : (b₁ b₂ b₃ b₄ b₅ : List ℕ) (l : Link) → l ≡ linkOf (slotAt (readTable b .slots) (v .free)) → b₁ ≡ putSlot b (v .free) slot → b₂ ≡ hooked b₁ (v .row .last) (v .free) → b₃ ≡ putRow b₂ (v .log) after → b₄ ≡ putFree b₃ (l .next)
+      → b₅ ≡ putCount b₄ (v .count - 1) → Holds b₅ (stocked (v .count - 1) (stockOf b .last)) (put (readTable b) (v .log) (entryAt (after .high) x d)) (v .logs) (v .slots)
+  held-5 b₁ b₂ b₃ b₄ b₅ l el e₁ e₂ e₃ e₄ e₅ =
+      holds-count b₄ (stockOf b) _ (v .logs) (v .slots) (held-4 b₁ b₂ b₃ b₄ l el e₁ e₂ e₃ e₄) b₅ (v .count - 1) e₅
+
+  -- the free chain without its first slot
+  fewer : freeChain (put (readTable b) (v .log) (entryAt (after .high) x d)) ≡ rest .0
   fewer =
       let m = readTable b in
       let e = entryAt (after .high) x d in
       let c = put-chained m (v .log) _ _ (rest .0) before (omega (arith, o .log, length-rows b)) e in
-      omega (arith, view-count b v o, ap length (rest .1), ap length (chain-links (put m (v .log) e .slots) 0 (put m (v .log) e .free) (rest .0) (c .free)))
+      chain-links (put m (v .log) e .slots) 0 (put m (v .log) e .free) (rest .0) (c .free)
 
-  pub entered : (b₁ b₂ b₃ b₄ b₅ : List ℕ) (l : Link) → l ≡ linkOf (slotAt (readTable b .slots) (v .free)) → b₁ ≡ putSlot b (v .free) slot → b₂ ≡ hooked b₁ (v .row .last) (v .free) → b₃ ≡ putRow b₂ (v .log) after → b₄ ≡ putFree b₃ (l .next)
-      → b₅ ≡ putCount b₄ (v .count - 1) → b₅ ≡ writeTable (put (readTable b) (v .log) (entryAt (after .high) x d))
+  -- its last slot
+  last-left : (n : ℕ) → n ≡ slotAt (readTable b .slots) (v .free) .next → lastAfter n (v .last) ≡ lastOf (rest .0)
+  unfolding lastAfter lastOf
+  last-left n e =
+      let m = readTable b in
+      let from : n ≡ slotAt (m .slots) (m .free) .next = e ∙ ap (λ (s : ℕ). slotAt (m .slots) s .next) (view-free b v o) in
+      go (rest .0) from (view-last b v o ∙ ap lastOf (rest .1)) (before .free .4)
+    where
+      go : (q : List ℕ) → n ≡ slotAt (readTable b .slots) (readTable b .free) .next → v .last ≡ lastOf (readTable b .free ∷ q) → Links (readTable b .slots) 0 (slotAt (readTable b .slots) (readTable b .free) .next) q 0 → cond (eqb n 0) 0 (v .last) ≡ lastOf q
+      go [] f k h = ap (λ (z : Bool). cond z 0 (v .last)) (eq-eqb n 0 (f ∙ h))
+      go (t ∷ q) f k h =
+          let p = h .1 in
+          let z : n ≡ t = f ∙ h .0 in
+          ap (λ (z : Bool). cond z 0 (v .last)) (ne-eqb n 0 (λ (y : n ≡ 0). omega arith)) ∙ k
+
+  pub last-most-after : (n : ℕ) → lastAfter n (v .last) ≤ v .slots
+  unfolding lastAfter
+  last-most-after n = go (eqb n 0)
+    where
+      go : (z : Bool) → cond z 0 (v .last) ≤ v .slots
+      go true = omega arith
+      go false = last-free-most b v o
+
+  pub entered : (b₁ b₂ b₃ b₄ b₅ b₆ : List ℕ) (l : Link) (k : ℕ) → l ≡ linkOf (slotAt (readTable b .slots) (v .free)) → b₁ ≡ putSlot b (v .free) slot → b₂ ≡ hooked b₁ (v .row .last) (v .free) → b₃ ≡ putRow b₂ (v .log) after → b₄ ≡ putFree b₃ (l .next)
+      → b₅ ≡ putCount b₄ (v .count - 1) → k ≡ lastAfter (l .next) (v .last) → b₆ ≡ putLast b₅ k → b₆ ≡ writeTable (put (readTable b) (v .log) (entryAt (after .high) x d))
   unfolding writeTable
-  entered b₁ b₂ b₃ b₄ b₅ l el e₁ e₂ e₃ e₄ e₅ =
+  entered b₁ b₂ b₃ b₄ b₅ b₆ l k el e₁ e₂ e₃ e₄ e₅ ek e₆ =
       let m = put (readTable b) (v .log) (entryAt (after .high) x d) in
-      holds-count b₄ (stockOf b) m (v .logs) (v .slots) (held-4 b₁ b₂ b₃ b₄ l el e₁ e₂ e₃ e₄) b₅ (v .count - 1) e₅ .is ∙ ap (λ (n : ℕ). writeWith (stocked n) m) fewer
+      let number : v .count - 1 ≡ length (freeChain m) = omega (arith, view-count b v o, ap length (rest .1), ap length fewer) in
+      let last : k ≡ joint m = ek ∙ last-left (l .next) (ap (λ (y : Link). y .next) el) ∙ sym (ap lastOf fewer) in
+      holds-last b₅ _ m (v .logs) (v .slots) (held-5 b₁ b₂ b₃ b₄ b₅ l el e₁ e₂ e₃ e₄ e₅) b₆ k e₆ .is ∙ ap₂ (λ (n t : ℕ). writeWith (stocked n t) m) number last
 
 -- ---- what the code hooks, and the answer
 
@@ -156,6 +186,15 @@ hooks b a last t n e = rw (hooked, ne-eqb last 0 n) e
 pub no-hook : (b : List ℕ) (last t : ℕ) → last ≡ 0 → b ≡ hooked b last t
 unfolding hooked
 no-hook b last t e = rw (hooked, eq-eqb last 0 e)
+
+-- the last free slot, as the code chooses it
+pub none-left : (n last : ℕ) → n ≡ 0 → 0 ≡ lastAfter n last
+unfolding lastAfter
+none-left n last e = sym (ap (λ (z : Bool). cond z 0 last) (eq-eqb n 0 e))
+
+pub some-left : (n last : ℕ) → n ≢ 0 → last ≡ lastAfter n last
+unfolding lastAfter
+some-left n last e = sym (ap (λ (z : Bool). cond z 0 last) (ne-eqb n 0 e))
 
 pub held-long : (b : List ℕ) (k : Stock) (m : Image) (logs slots : ℕ) → Holds b k m logs slots → headerSize ≤ length b
 held-long b k m logs slots h = let c = holds-counted b k m logs slots h in omega (arith, c .sized)

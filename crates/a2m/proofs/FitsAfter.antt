@@ -104,7 +104,7 @@ lowered-fits m f g n h =
 is32 : (x : List ℕ) → not (eqb (length x) 32) ≡ false → length x ≡ 32
 is32 x h = eqb-true (length x) 32 (not-false (eqb (length x) 32) h)
 
-accept-fits : (torn : Bool) (m : Image) → Fits m → (call : Call) → Wide call → Clear torn m call → Fits (imageAccept m call .state)
+pub accept-fits : (torn : Bool) (m : Image) → Fits m → (call : Call) → Wide call → Clear torn m call → Fits (imageAccept m call .state)
 unfolding imageAccept imageDone wrongLength spent
 accept-fits torn m f (append g x) w c =
     let h = f .rows g .high in

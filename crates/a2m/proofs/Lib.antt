@@ -11,6 +11,8 @@ pub mod Moves
 pub mod OpenedLaws
 pub mod ReadLaws
 pub mod ReleaseLaws
+pub mod Queue
+pub mod QueueBytes
 pub mod Releases
 pub mod SearchLaws
 pub mod SlotLaws

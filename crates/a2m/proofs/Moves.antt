@@ -67,7 +67,7 @@ module _ (slots : List Slot) (a b t : ℕ) (A : List ℕ) (s : ℕ) (B : List �
           let r = links-in slots b s B 0 (lastOf B) (M .to) m in
           inr (rw (M .end) (r .1), rw (M .end) (r .2))
 
-  reach : last ≤ length slots
+  pub reach : last ≤ length slots
   reach = go behind
     where
       go : (last ≡ 0) ⊎ ((last ≤ length slots) × (slotAt slots last .owner ≡ b)) → last ≤ length slots

@@ -14,13 +14,13 @@ use Rattle.octets.specs.Octets.{Bytes, zeros}
 use Rattle.layout.specs.declared.Row.{Row}
 use Rattle.layout.specs.declared.Link.{Link}
 use Rattle.layout.specs.Image.{Entry, Slot, Image, entryOf, freeSlot, freshRow, slotAt, setSlot}
-use Rattle.layout.specs.Layout.{Stock, stocked, readTable, stockOf, writeWith, putSlot, putNext, putRow, putFree, putCount}
+use Rattle.layout.specs.Layout.{Stock, stocked, readTable, stockOf, writeWith, putSlot, putNext, putRow, putFree, putCount, putLast}
 use Rattle.layout.specs.Changes.{withRow, withSlot, withNext, slotOf, linkOf, truncatedRow}
 use Rattle.layout.specs.Fits.{RowFits, SlotFits}
 use Rattle.layout.proofs.TableLaws.{length-rows, free-fits}
-use Rattle.layout.proofs.HoldsLaws.{Holds, holds-image, holds-row, holds-slot, holds-next, holds-free, holds-count}
+use Rattle.layout.proofs.HoldsLaws.{Holds, holds-image, holds-row, holds-slot, holds-next, holds-free, holds-count, holds-last}
 use Rattle.table.specs.Chains.{chain, lastOf, positionsOf, entriesOf}
-use Rattle.table.specs.Free.{freeChain, joint, writeTable}
+use Rattle.table.specs.Free.{freeChain, joint, stockIn, writeTable}
 use Rattle.a2m.specs.declared.View.{View}
 use Rattle.a2m.specs.Call.{done}
 use Rattle.a2m.specs.ImageCalls.{rowIn, entriesIn, firstOf, joined, release, releases, lowered}
@@ -181,7 +181,7 @@ joins-behind b a last t n e = rw (joinedAt, ne-eqb last 0 n) e
 abbrev Keeps : Image → Image → ℕ → Type 0
 Keeps a m g = (g < length (a .rows)) × (rowIn a g .high ≡ rowIn m g .high) × (rowIn a g .last ≡ rowIn m g .last)
 
-release-keeps : (m : Image) (g : ℕ) → g < length (m .rows) → Keeps (release m g) m g
+pub release-keeps : (m : Image) (g : ℕ) → g < length (m .rows) → Keeps (release m g) m g
 unfolding release truncatedRow
 release-keeps m g h =
     let r = truncatedRow (rowIn m g) (rowIn m g .low) (slotAt (m .slots) (rowIn m g .first) .next) in
@@ -446,16 +446,21 @@ module _ (b : List ℕ) (v : View) (n : ℕ) (table : List ℕ) (last count s : 
   freed-is : freeChain I ≡ R .freed
   freed-is = chain-links (I .slots) 0 (I .free) (R .freed) (R .chained .free)
 
-  pub struck : Bytes b → n < 2 ^ 64 → (l : Link) → l ≡ linkOf (slotAt (readTable table .slots) s) → n ≤ l .position → (a₁ a₂ a₃ : List ℕ) (after : Row) → a₁ ≡ joinedAt table last 0 → after ≡ truncatedRow (v .row) n s → a₂ ≡ putRow a₁ (v .log) after
-      → a₃ ≡ putCount a₂ count → a₃ ≡ writeTable (lowered (releases (v .slots) n (readTable b) (v .log)) (v .log) n)
+  pub count-held : Bytes b → n < 2 ^ 64 → (a₁ a₂ a₃ : List ℕ) (after : Row) → a₁ ≡ joinedAt table last 0 → after ≡ truncatedRow (v .row) n s → a₂ ≡ putRow a₁ (v .log) after → a₃ ≡ putCount a₂ count
+      → Holds a₃ (stocked count (stockOf b .last)) (withRow (withRow I (v .log) (v .row)) (v .log) after) (v .logs) (v .slots)
+  count-held bytes h a₁ a₂ a₃ after e₁ ea e₂ e₃ = holds-count a₂ (stockOf b) _ (v .logs) (v .slots) (row-held bytes h a₁ a₂ after e₁ ea e₂) a₃ count e₃
+
+  pub struck : Bytes b → n < 2 ^ 64 → (l : Link) → l ≡ linkOf (slotAt (readTable table .slots) s) → n ≤ l .position → (a₁ a₂ a₃ a₄ : List ℕ) (after : Row) → a₁ ≡ joinedAt table last 0 → after ≡ truncatedRow (v .row) n s → a₂ ≡ putRow a₁ (v .log) after
+      → a₃ ≡ putCount a₂ count → a₄ ≡ putLast a₃ last → a₄ ≡ writeTable (lowered (releases (v .slots) n (readTable b) (v .log)) (v .log) n)
   unfolding lowered writeTable
-  struck bytes h l el p a₁ a₂ a₃ after e₁ ea e₂ e₃ =
+  struck bytes h l el p a₁ a₂ a₃ a₄ after e₁ ea e₂ e₃ e₄ =
       let g = v .log in
       let st = stays l el p in
       let im : withRow (withRow I g (v .row)) g after ≡ lowered I g n =
       λ i. record { keeper = I .keeper; key = I .key; free = I .free; rows = (set-set (I .rows) g (v .row) after ∙ ap (set (I .rows) g) (row-is st after ea)) i; slots = I .slots } in
-      holds-count a₂ (stockOf b) _ (v .logs) (v .slots) (row-held bytes h a₁ a₂ after e₁ ea e₂) a₃ count e₃ .is
-      ∙ ap₂ (λ (k : ℕ) (m : Image). writeWith (stocked k) m) (R .count-is ∙ sym (ap length freed-is)) im
+      let k : stocked count last ≡ stockIn I = ap₂ stocked (R .count-is ∙ sym (ap length freed-is)) (R .last-is ∙ sym (ap lastOf freed-is)) in
+      holds-last a₃ _ _ (v .logs) (v .slots) (count-held bytes h a₁ a₂ a₃ after e₁ ea e₂ e₃) a₄ last e₄ .is
+      ∙ ap₂ writeWith k im
       ∙ ap (λ (x : Image). writeTable (lowered x g n)) (sym st)
 
 pub struck-answer : (v : View) (n s : ℕ) (after : Row) → after ≡ truncatedRow (v .row) n s → done (after .low) (after .high) ≡ done n (v .row .high)

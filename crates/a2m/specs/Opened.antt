@@ -60,6 +60,10 @@ pub record Opened (b : List ℕ) (v : View) : Type 0 where
 unfoldable pub hooked : List ℕ → ℕ → ℕ → List ℕ
 hooked b last t = cond (eqb last 0) b (putNext b last t)
 
+-- the last free slot after the first was taken, whose next is n: none is left where that is 0
+unfoldable pub lastAfter : ℕ → ℕ → ℕ
+lastAfter n last = cond (eqb n 0) 0 last
+
 abbrev pub entryAt : ℕ → List ℕ → List ℕ → Entry
 entryAt n x d = record { position = n; value = x; digest = d }
 

@@ -4,6 +4,7 @@ use a2m::View;
 use layout::Row;
 use layout_header::put_count;
 use layout_header::put_free;
+use layout_header::put_last;
 use layout_rows::put_row;
 use layout_slots::link_at;
 use layout_slots::put_next;
@@ -17,7 +18,7 @@ ghost use Rattle.layout.specs.Fits.{Counted};
 ghost use Rattle.layout.specs.Changes.{advancedRow};
 ghost use Rattle.a2m.specs.Call.{done};
 ghost use Rattle.a2m.specs.ImageCalls.{put};
-ghost use Rattle.a2m.specs.Opened.{Opened, changeReply, changeBlocks, hooked, entryAt};
+ghost use Rattle.a2m.specs.Opened.{Opened, changeReply, changeBlocks, hooked, lastAfter, entryAt};
 
 // Slot t becomes the next of slot last, if there is one.
 pub fn hook(table: &mut [u8], logs: usize, slots: usize, last: usize, t: usize)
@@ -28,6 +29,13 @@ pub fn hook(table: &mut [u8], logs: usize, slots: usize, last: usize, t: usize)
     if last != 0 {
         put_next(table, logs, slots, last, t);
     }
+}
+
+// The last free slot after the first was taken, whose next is n.
+fn last_after(n: usize, last: usize) -> usize
+    ensures { λ r. ⌜ r ≡ lastAfter n last ⌝ }
+{
+    if n == 0 { 0 } else { last }
 }
 
 // The entry goes into the first free slot, that behind the log's last, and the row becomes `after`; one slot less is
@@ -60,6 +68,7 @@ pub fn enter(
     put_row(table, logs, slots, log, after);
     put_free(table, l.next);
     put_count(table, view.count - 1);
+    put_last(table, last_after(l.next, view.last));
     Change::Done {
         low: after.low,
         high: after.high,

@@ -5,6 +5,7 @@ use a2m::View;
 use a2m_open::open;
 use layout_header::put_count;
 use layout_header::put_free;
+use layout_header::put_last;
 use layout_rows::put_row;
 use layout_slots::link_at;
 use layout_slots::put_next;
@@ -34,7 +35,8 @@ fn join(table: &mut [u8], logs: usize, slots: usize, last: usize, t: usize)
 }
 
 // Frees the log's slots below position n. The log's chain joins the free chain whole, its slots become free one by one,
-// each keeping its next, and the free chain is cut behind the last of them. The number of free slots counts them.
+// each keeping its next, and the free chain is cut behind the last of them. The header's number of free slots
+// counts them, and its last is the last of them.
 fn strike(table: &mut [u8], view: View, n: u64) -> Change
     requires { ⌜ Opened (now table) view ⌝ }
     requires { ⌜ (1 ≤ n) × (n ≤ view .row .high) ⌝ }
@@ -64,6 +66,7 @@ fn strike(table: &mut [u8], view: View, n: u64) -> Change
     let after = row.truncate(n, s);
     put_row(table, logs, slots, view.log, after);
     put_count(table, count);
+    put_last(table, last);
     Change::Done {
         low: after.low,
         high: after.high,

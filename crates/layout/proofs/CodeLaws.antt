@@ -123,23 +123,27 @@ count-fields o {o₁} {o₂} {o₃} {o₄} g s h e₁ e₂ e₃ e₄ =
     let w₄ : o₄ ≡ splice o 0 (((mark ++ x₂) ++ x₃) ++ x₄) = splice-then o ((mark ++ x₂) ++ x₃) x₄ 6 w₃ (simp (length-append, l₂, l₃)) (omega arith) e₄ in
     w₄ ∙ ap (splice o 0) (simp append-assoc)
 
-pub header-fields : (o : List ℕ) {o₁ o₂ o₃ o₄ o₅ : List ℕ} (g s k f : ℕ) (stock : Stock) (key : List ℕ) → length key ≡ 32 → length o ≡ headerSize
-    → o₁ ≡ splice o 0 (countBytes g s) → o₂ ≡ splice o₁ 8 (be 8 k) → o₃ ≡ splice o₂ 16 (be 2 f) → o₄ ≡ splice o₃ 18 (be 2 (stock .count)) → o₅ ≡ splice o₄ 20 key
-    → o₅ ≡ headerBytes g s k f stock key
+pub header-fields : (o : List ℕ) {o₁ o₂ o₃ o₄ o₅ o₆ : List ℕ} (g s k f : ℕ) (stock : Stock) (key : List ℕ) → length key ≡ 32 → length o ≡ headerSize
+    → o₁ ≡ splice o 0 (countBytes g s) → o₂ ≡ splice o₁ 8 (be 8 k) → o₃ ≡ splice o₂ 16 (be 2 f) → o₄ ≡ splice o₃ 18 (be 2 (stock .count)) → o₅ ≡ splice o₄ 20 key → o₆ ≡ splice o₅ 52 (be 2 (stock .last))
+    → o₆ ≡ headerBytes g s k f stock key
 unfolding headerBytes
-header-fields o {o₁} {o₂} {o₃} {o₄} {o₅} g s k f stock key lk h e₁ e₂ e₃ e₄ e₅ =
+header-fields o {o₁} {o₂} {o₃} {o₄} {o₅} {o₆} g s k f stock key lk h e₁ e₂ e₃ e₄ e₅ e₆ =
     let x₁ : List ℕ = countBytes g s in
     let x₂ : List ℕ = be 8 k in
     let x₃ : List ℕ = be 2 f in
     let x₄ : List ℕ = be 2 (stock .count) in
+    let x₆ : List ℕ = be 2 (stock .last) in
     let l₁ : length x₁ ≡ 8 = simp (length-append, length-be, length-zeros) in
     let l₂ = length-be 8 k in
     let l₃ = length-be 2 f in
     let l₄ = length-be 2 (stock .count) in
+    let l₆ = length-be 2 (stock .last) in
     let w₂ : o₂ ≡ splice o 0 (x₁ ++ x₂) = splice-then o x₁ x₂ 8 e₁ l₁ (omega arith) e₂ in
     let w₃ : o₃ ≡ splice o 0 ((x₁ ++ x₂) ++ x₃) = splice-then o (x₁ ++ x₂) x₃ 16 w₂ (length-append x₁ x₂ ∙ omega arith) (omega arith) e₃ in
     let q₃ : length ((x₁ ++ x₂) ++ x₃) ≡ 18 = length-append (x₁ ++ x₂) x₃ ∙ omega (arith, length-append x₁ x₂) in
     let w₄ : o₄ ≡ splice o 0 (((x₁ ++ x₂) ++ x₃) ++ x₄) = splice-then o ((x₁ ++ x₂) ++ x₃) x₄ 18 w₃ q₃ (omega arith) e₄ in
     let q₄ : length (((x₁ ++ x₂) ++ x₃) ++ x₄) ≡ 20 = length-append ((x₁ ++ x₂) ++ x₃) x₄ ∙ omega arith in
     let w₅ : o₅ ≡ splice o 0 ((((x₁ ++ x₂) ++ x₃) ++ x₄) ++ key) = splice-then o (((x₁ ++ x₂) ++ x₃) ++ x₄) key 20 w₄ q₄ (omega arith) e₅ in
-    w₅ ∙ splice-whole o ((((x₁ ++ x₂) ++ x₃) ++ x₄) ++ key) (length-append (((x₁ ++ x₂) ++ x₃) ++ x₄) key ∙ omega arith) ∙ simp append-assoc
+    let q₅ : length ((((x₁ ++ x₂) ++ x₃) ++ x₄) ++ key) ≡ 52 = length-append (((x₁ ++ x₂) ++ x₃) ++ x₄) key ∙ omega arith in
+    let w₆ : o₆ ≡ splice o 0 (((((x₁ ++ x₂) ++ x₃) ++ x₄) ++ key) ++ x₆) = splice-then o ((((x₁ ++ x₂) ++ x₃) ++ x₄) ++ key) x₆ 52 w₅ q₅ (omega arith) e₆ in
+    w₆ ∙ splice-whole o (((((x₁ ++ x₂) ++ x₃) ++ x₄) ++ key) ++ x₆) (length-append ((((x₁ ++ x₂) ++ x₃) ++ x₄) ++ key) x₆ ∙ omega arith) ∙ simp append-assoc

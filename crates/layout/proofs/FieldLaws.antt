@@ -12,7 +12,7 @@ use Rattle.bigendian.specs.BigEndian.{be, unbe}
 use Rattle.bigendian.proofs.Laws.{length-be, unbe-be, be-unbe-part}
 use Rattle.layout.specs.declared.Row.{Row}
 use Rattle.layout.specs.Image.{Slot}
-use Rattle.layout.specs.Layout.{Stock, stocked, mark, headerSize, rowSize, slotSize, freeOffset, zeroOffset, countOffset, readRow, rowBytes, readSlot, slotBytes, headerBytes}
+use Rattle.layout.specs.Layout.{Stock, stocked, mark, headerSize, rowSize, slotSize, freeOffset, zeroOffset, countOffset, lastOffset, readRow, rowBytes, readSlot, slotBytes, headerBytes}
 use Rattle.layout.specs.Changes.{withNext}
 use Rattle.layout.specs.Fits.{RowFits, SlotFits}
 
@@ -120,11 +120,11 @@ write-slot b h l z =
 module _ (logs slots keeper free : ℕ) (stock : Stock) (key : List ℕ) where
   -- what follows the slot count
   after-count : List ℕ
-  after-count = be 8 keeper ++ (be 2 free ++ (be 2 (stock .count) ++ key))
+  after-count = be 8 keeper ++ (be 2 free ++ (be 2 (stock .count) ++ (key ++ be 2 (stock .last))))
 
   pub mark-header : part (headerBytes logs slots keeper free stock key) 0 4 ≡ mark
   unfolding headerBytes
-  mark-header = here mark (be 1 logs ++ (zeros 1 ++ (be 2 slots ++ (be 8 keeper ++ (be 2 free ++ (be 2 (stock .count) ++ key)))))) 4 refl
+  mark-header = here mark (be 1 logs ++ (zeros 1 ++ (be 2 slots ++ (be 8 keeper ++ (be 2 free ++ (be 2 (stock .count) ++ (key ++ be 2 (stock .last)))))))) 4 refl
 
   pub logs-header : part (headerBytes logs slots keeper free stock key) 4 1 ≡ be 1 logs
   unfolding headerBytes after-count
@@ -152,27 +152,35 @@ module _ (logs slots keeper free : ℕ) (stock : Stock) (key : List ℕ) where
   unfolding after-count
   keeper-header = past-count 0 8 ∙ here (be 8 keeper) _ 8 (length-be 8 keeper)
 
-  past-keeper : (a n : ℕ) → part (headerBytes logs slots keeper free stock key) (16 + a) n ≡ part (be 2 free ++ (be 2 (stock .count) ++ key)) a n
+  past-keeper : (a n : ℕ) → part (headerBytes logs slots keeper free stock key) (16 + a) n ≡ part (be 2 free ++ (be 2 (stock .count) ++ (key ++ be 2 (stock .last)))) a n
   unfolding after-count
-  past-keeper a n = let e : 16 + a ≡ 8 + (8 + a) = omega arith in ap (λ (k : ℕ). part (headerBytes logs slots keeper free stock key) k n) e ∙ past-count (8 + a) n ∙ skip (be 8 keeper) (be 2 free ++ (be 2 (stock .count) ++ key)) 8 a n (length-be 8 keeper)
+  past-keeper a n = let e : 16 + a ≡ 8 + (8 + a) = omega arith in ap (λ (k : ℕ). part (headerBytes logs slots keeper free stock key) k n) e ∙ past-count (8 + a) n ∙ skip (be 8 keeper) (be 2 free ++ (be 2 (stock .count) ++ (key ++ be 2 (stock .last)))) 8 a n (length-be 8 keeper)
 
   pub free-header : part (headerBytes logs slots keeper free stock key) freeOffset 2 ≡ be 2 free
-  free-header = past-keeper 0 2 ∙ here (be 2 free) (be 2 (stock .count) ++ key) 2 (length-be 2 free)
+  free-header = past-keeper 0 2 ∙ here (be 2 free) (be 2 (stock .count) ++ (key ++ be 2 (stock .last))) 2 (length-be 2 free)
 
   pub count-header : part (headerBytes logs slots keeper free stock key) countOffset 2 ≡ be 2 (stock .count)
-  count-header = past-keeper 2 2 ∙ skip (be 2 free) (be 2 (stock .count) ++ key) 2 0 2 (length-be 2 free) ∙ here (be 2 (stock .count)) key 2 (length-be 2 (stock .count))
+  count-header = past-keeper 2 2 ∙ skip (be 2 free) (be 2 (stock .count) ++ (key ++ be 2 (stock .last))) 2 0 2 (length-be 2 free) ∙ here (be 2 (stock .count)) (key ++ be 2 (stock .last)) 2 (length-be 2 (stock .count))
 
   pub key-header : length key ≡ 32 → part (headerBytes logs slots keeper free stock key) 20 32 ≡ key
-  key-header h = past-keeper 4 32 ∙ skip (be 2 free) (be 2 (stock .count) ++ key) 2 2 32 (length-be 2 free) ∙ skip (be 2 (stock .count)) key 2 0 32 (length-be 2 (stock .count)) ∙ only key 32 h
+  key-header h = past-keeper 4 32 ∙ skip (be 2 free) (be 2 (stock .count) ++ (key ++ be 2 (stock .last))) 2 2 32 (length-be 2 free) ∙ skip (be 2 (stock .count)) (key ++ be 2 (stock .last)) 2 0 32 (length-be 2 (stock .count)) ∙ here key (be 2 (stock .last)) 32 h
+
+  pub last-header : length key ≡ 32 → part (headerBytes logs slots keeper free stock key) lastOffset 2 ≡ be 2 (stock .last)
+  last-header h =
+      past-keeper 36 2
+      ∙ skip (be 2 free) (be 2 (stock .count) ++ (key ++ be 2 (stock .last))) 2 34 2 (length-be 2 free)
+      ∙ skip (be 2 (stock .count)) (key ++ be 2 (stock .last)) 2 32 2 (length-be 2 (stock .count))
+      ∙ skip key (be 2 (stock .last)) 32 0 2 h
+      ∙ only (be 2 (stock .last)) 2 (length-be 2 (stock .last))
 
   -- a header, what follows the keeper number given
   headed : List ℕ → List ℕ
   headed q = mark ++ (be 1 logs ++ (zeros 1 ++ (be 2 slots ++ (be 8 keeper ++ q))))
 
-  splice-past : (a : ℕ) (x : List ℕ) → splice (headerBytes logs slots keeper free stock key) (4 + (1 + (1 + (2 + (8 + a))))) x ≡ headed (splice (be 2 free ++ (be 2 (stock .count) ++ key)) a x)
+  splice-past : (a : ℕ) (x : List ℕ) → splice (headerBytes logs slots keeper free stock key) (4 + (1 + (1 + (2 + (8 + a))))) x ≡ headed (splice (be 2 free ++ (be 2 (stock .count) ++ (key ++ be 2 (stock .last)))) a x)
   unfolding headerBytes headed
   splice-past a x =
-      let t : List ℕ = be 2 free ++ (be 2 (stock .count) ++ key) in
+      let t : List ℕ = be 2 free ++ (be 2 (stock .count) ++ (key ++ be 2 (stock .last))) in
       let k : List ℕ = be 8 keeper ++ t in
       let s : List ℕ = be 2 slots ++ k in
       over mark (be 1 logs ++ (zeros 1 ++ s)) 4 (1 + (1 + (2 + (8 + a)))) x refl
@@ -184,26 +192,38 @@ module _ (logs slots keeper free : ℕ) (stock : Stock) (key : List ℕ) where
   -- another first free slot in a header
   pub splice-free : (f : ℕ) → splice (headerBytes logs slots keeper free stock key) freeOffset (be 2 f) ≡ headerBytes logs slots keeper f stock key
   unfolding headerBytes headed
-  splice-free f = splice-past 0 (be 2 f) ∙ ap headed (front (be 2 free) (be 2 (stock .count) ++ key) (be 2 f) (length-be 2 f ∙ sym (length-be 2 free)))
+  splice-free f = splice-past 0 (be 2 f) ∙ ap headed (front (be 2 free) (be 2 (stock .count) ++ (key ++ be 2 (stock .last))) (be 2 f) (length-be 2 f ∙ sym (length-be 2 free)))
 
   -- another number of free slots
-  pub splice-count : (n : ℕ) → splice (headerBytes logs slots keeper free stock key) countOffset (be 2 n) ≡ headerBytes logs slots keeper free (stocked n) key
+  pub splice-count : (n : ℕ) → splice (headerBytes logs slots keeper free stock key) countOffset (be 2 n) ≡ headerBytes logs slots keeper free (stocked n (stock .last)) key
   unfolding headerBytes headed
   splice-count n =
       splice-past 2 (be 2 n)
-      ∙ ap headed (over (be 2 free) (be 2 (stock .count) ++ key) 2 0 (be 2 n) (length-be 2 free)
-      ∙ ap (λ (q : List ℕ). be 2 free ++ q) (front (be 2 (stock .count)) key (be 2 n) (length-be 2 n ∙ sym (length-be 2 (stock .count)))))
+      ∙ ap headed (over (be 2 free) (be 2 (stock .count) ++ (key ++ be 2 (stock .last))) 2 0 (be 2 n) (length-be 2 free)
+      ∙ ap (λ (q : List ℕ). be 2 free ++ q) (front (be 2 (stock .count)) (key ++ be 2 (stock .last)) (be 2 n) (length-be 2 n ∙ sym (length-be 2 (stock .count)))))
+
+  -- another last free slot
+  pub splice-last : length key ≡ 32 → (n : ℕ) → splice (headerBytes logs slots keeper free stock key) lastOffset (be 2 n) ≡ headerBytes logs slots keeper free (stocked (stock .count) n) key
+  unfolding headerBytes headed
+  splice-last h n =
+      let l : List ℕ = be 2 (stock .last) in
+      splice-past 36 (be 2 n)
+      ∙ ap headed (over (be 2 free) (be 2 (stock .count) ++ (key ++ l)) 2 34 (be 2 n) (length-be 2 free)
+      ∙ ap (λ (q : List ℕ). be 2 free ++ q) (over (be 2 (stock .count)) (key ++ l) 2 32 (be 2 n) (length-be 2 (stock .count))
+      ∙ ap (λ (q : List ℕ). be 2 (stock .count) ++ q) (over key l 32 0 (be 2 n) h
+      ∙ ap (λ (q : List ℕ). key ++ q) (splice-whole l (be 2 n) (length-be 2 n ∙ sym (length-be 2 (stock .last)))))))
 
 -- a header that was read, written again
 pub write-header : (b : List ℕ) → Bytes b → headerSize ≤ length b → part b 0 4 ≡ mark → part b zeroOffset 1 ≡ zeros 1
-    → headerBytes (unbe (part b 4 1)) (unbe (part b 6 2)) (unbe (part b 8 8)) (unbe (part b freeOffset 2)) (stocked (unbe (part b countOffset 2))) (part b 20 32) ≡ part b 0 headerSize
+    → headerBytes (unbe (part b 4 1)) (unbe (part b 6 2)) (unbe (part b 8 8)) (unbe (part b freeOffset 2)) (stocked (unbe (part b countOffset 2)) (unbe (part b lastOffset 2))) (part b 20 32) ≡ part b 0 headerSize
 unfolding headerBytes
 write-header b h l m z =
-    ap₂ _++_ (sym m) (ap₂ _++_ (be-unbe-part b 4 1 h (omega arith)) (ap₂ _++_ (sym z) (ap₂ _++_ (be-unbe-part b 6 2 h (omega arith)) (ap₂ _++_ (be-unbe-part b 8 8 h (omega arith)) (ap₂ _++_ (be-unbe-part b 16 2 h (omega arith)) (ap (λ (q : List ℕ). q ++ part b 20 32) (be-unbe-part b countOffset 2 h (omega arith))))))))
-    ∙ sym (part-add b 0 4 48
-    ∙ ap (λ (q : List ℕ). part b 0 4 ++ q) (part-add b 4 1 47
-    ∙ ap (λ (q : List ℕ). part b 4 1 ++ q) (part-add b 5 1 46
-    ∙ ap (λ (q : List ℕ). part b 5 1 ++ q) (part-add b 6 2 44
-    ∙ ap (λ (q : List ℕ). part b 6 2 ++ q) (part-add b 8 8 36
-    ∙ ap (λ (q : List ℕ). part b 8 8 ++ q) (part-add b 16 2 34
-    ∙ ap (λ (q : List ℕ). part b 16 2 ++ q) (part-add b 18 2 32)))))))
+    ap₂ _++_ (sym m) (ap₂ _++_ (be-unbe-part b 4 1 h (omega arith)) (ap₂ _++_ (sym z) (ap₂ _++_ (be-unbe-part b 6 2 h (omega arith)) (ap₂ _++_ (be-unbe-part b 8 8 h (omega arith)) (ap₂ _++_ (be-unbe-part b 16 2 h (omega arith)) (ap₂ _++_ (be-unbe-part b countOffset 2 h (omega arith)) (ap (λ (q : List ℕ). part b 20 32 ++ q) (be-unbe-part b lastOffset 2 h (omega arith)))))))))
+    ∙ sym (part-add b 0 4 50
+    ∙ ap (λ (q : List ℕ). part b 0 4 ++ q) (part-add b 4 1 49
+    ∙ ap (λ (q : List ℕ). part b 4 1 ++ q) (part-add b 5 1 48
+    ∙ ap (λ (q : List ℕ). part b 5 1 ++ q) (part-add b 6 2 46
+    ∙ ap (λ (q : List ℕ). part b 6 2 ++ q) (part-add b 8 8 38
+    ∙ ap (λ (q : List ℕ). part b 8 8 ++ q) (part-add b 16 2 36
+    ∙ ap (λ (q : List ℕ). part b 16 2 ++ q) (part-add b 18 2 34
+    ∙ ap (λ (q : List ℕ). part b 18 2 ++ q) (part-add b 20 32 2))))))))

@@ -7,11 +7,11 @@ use lib.ListN.{length, length-set}
 use Rattle.octets.specs.Octets.{Bytes}
 use Rattle.layout.specs.declared.Row.{Row}
 use Rattle.layout.specs.Image.{Slot, Image, slotAt, setSlot}
-use Rattle.layout.specs.Layout.{Stock, stocked, logsOf, slotsOf, tableSize, readTable, stockOf, writeWith, putRow, putSlot, putNext, putFree, putCount}
+use Rattle.layout.specs.Layout.{Stock, stocked, logsOf, slotsOf, tableSize, readTable, stockOf, writeWith, putRow, putSlot, putNext, putFree, putCount, putLast}
 use Rattle.layout.specs.Changes.{withRow, withSlot, withFree, withNext}
 use Rattle.layout.specs.Fits.{RowFits, SlotFits, Fits, Formed, Counted}
 use Rattle.layout.proofs.TableLaws.{length-rows, length-slots, length-write, logs-written, slots-written, read-with, write-read, fits-read}
-use Rattle.layout.proofs.SpliceLaws.{fits-row, fits-slot, fits-free, next-fits, write-row, write-slot, write-next, write-free, write-count}
+use Rattle.layout.proofs.SpliceLaws.{fits-row, fits-slot, fits-free, next-fits, write-row, write-slot, write-next, write-free, write-count, write-last}
 
 -- b is the table of the image m with the stock k
 pub record Holds (b : List ℕ) (k : Stock) (m : Image) (logs slots : ℕ) : Type 0 where
@@ -99,10 +99,21 @@ module _ (b : List ℕ) (stock : Stock) (m : Image) (logs slots : ℕ) (h : Hold
         slots-most = h .slots-most;
       }
 
-  pub holds-count : (a : List ℕ) (n : ℕ) → a ≡ putCount b n → Holds a (stocked n) m logs slots
+  pub holds-count : (a : List ℕ) (n : ℕ) → a ≡ putCount b n → Holds a (stocked n (stock .last)) m logs slots
   holds-count a n e =
       record {
         is = e ∙ ap (λ (l : List ℕ). putCount l n) (h .is) ∙ write-count stock m (h .fits) n;
+        fits = h .fits;
+        logs-are = h .logs-are;
+        slots-are = h .slots-are;
+        logs-most = h .logs-most;
+        slots-most = h .slots-most;
+      }
+
+  pub holds-last : (a : List ℕ) (s : ℕ) → a ≡ putLast b s → Holds a (stocked (stock .count) s) m logs slots
+  holds-last a s e =
+      record {
+        is = e ∙ ap (λ (l : List ℕ). putLast l s) (h .is) ∙ write-last stock m (h .fits) s;
         fits = h .fits;
         logs-are = h .logs-are;
         slots-are = h .slots-are;

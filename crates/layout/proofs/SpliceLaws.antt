@@ -11,11 +11,11 @@ use Rattle.bigendian.proofs.Laws.{length-be}
 use Rattle.layout.specs.declared.Row.{Row}
 use Rattle.layout.specs.Image.{Slot, Image, slotAt, setSlot, rowAt, freshRow, freeSlot}
 use Rattle.layout.specs.Lists.{flat}
-use Rattle.layout.specs.Layout.{Stock, stocked, headerSize, rowSize, slotSize, freeOffset, countOffset, cellOffset, slotOffset, nextOffset, logsOf, slotsOf, rowBytes, slotBytes, readTable, stockOf, headerBytes, writeWith, putRow, putSlot, putNext, putFree, putCount}
+use Rattle.layout.specs.Layout.{Stock, stocked, headerSize, rowSize, slotSize, freeOffset, countOffset, lastOffset, cellOffset, slotOffset, nextOffset, logsOf, slotsOf, rowBytes, slotBytes, readTable, stockOf, headerBytes, writeWith, putRow, putSlot, putNext, putFree, putCount, putLast}
 use Rattle.layout.specs.Changes.{withRow, withSlot, withFree, withNext}
 use Rattle.layout.specs.Fits.{RowFits, SlotFits, Fits, Formed}
 use Rattle.layout.proofs.ListLaws.{every-set, splice-flat}
-use Rattle.layout.proofs.FieldLaws.{length-rowBytes, length-slotBytes, over, splice-next, splice-free, splice-count}
+use Rattle.layout.proofs.FieldLaws.{length-rowBytes, length-slotBytes, over, splice-next, splice-free, splice-count, splice-last}
 use Rattle.layout.proofs.TableLaws.{length-rows, length-slots, length-header, slot-lengths, length-rows-written, logs-written, read-with, free-fits, write-read, fits-read}
 
 -- the image still fits
@@ -115,12 +115,19 @@ module _ (stock : Stock) (m : Image) (h : Fits m) where
       splice-left header T freeOffset (be 2 f) (omega (arith, length-header stock m h, length-be 2 f))
       ∙ ap (λ (q : List ℕ). q ++ T) (splice-free (length (m .rows)) (length (m .slots)) (m .keeper) (m .free) stock (m .key) f)
 
-  pub write-count : (n : ℕ) → putCount (writeWith stock m) n ≡ writeWith (stocked n) m
+  pub write-count : (n : ℕ) → putCount (writeWith stock m) n ≡ writeWith (stocked n (stock .last)) m
   unfolding putCount writeWith header
   write-count n =
       let T : List ℕ = flat rowBytes (m .rows) ++ flat slotBytes (m .slots) in
       splice-left header T countOffset (be 2 n) (omega (arith, length-header stock m h, length-be 2 n))
       ∙ ap (λ (q : List ℕ). q ++ T) (splice-count (length (m .rows)) (length (m .slots)) (m .keeper) (m .free) stock (m .key) n)
+
+  pub write-last : (s : ℕ) → putLast (writeWith stock m) s ≡ writeWith (stocked (stock .count) s) m
+  unfolding putLast writeWith header
+  write-last s =
+      let T : List ℕ = flat rowBytes (m .rows) ++ flat slotBytes (m .slots) in
+      splice-left header T lastOffset (be 2 s) (omega (arith, length-header stock m h, length-be 2 s))
+      ∙ ap (λ (q : List ℕ). q ++ T) (splice-last (length (m .rows)) (length (m .slots)) (m .keeper) (m .free) stock (m .key) (h .key) s)
 
 -- on bytes: from the image and back
 

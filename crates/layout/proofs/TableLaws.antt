@@ -11,10 +11,10 @@ use Rattle.bigendian.specs.BigEndian.{unbe}
 use Rattle.bigendian.proofs.Laws.{unbe-be, unbe-part-lt}
 use Rattle.layout.specs.Image.{Image, slotAt, rowAt, freshRow, freeSlot}
 use Rattle.layout.specs.Lists.{tabulate, flat}
-use Rattle.layout.specs.Layout.{Stock, headerSize, rowSize, slotSize, freeOffset, zeroOffset, countOffset, rowOffset, cellOffset, slotOffset, padOffset, tableSize, logsOf, slotsOf, keeperOf, freeOf, keyOf, readRow, rowBytes, readSlot, slotBytes, rowsOf, cellsOf, readTable, stockOf, headerBytes, writeWith}
+use Rattle.layout.specs.Layout.{Stock, headerSize, rowSize, slotSize, freeOffset, zeroOffset, countOffset, lastOffset, rowOffset, cellOffset, slotOffset, padOffset, tableSize, logsOf, slotsOf, keeperOf, freeOf, keyOf, readRow, rowBytes, readSlot, slotBytes, rowsOf, cellsOf, readTable, stockOf, headerBytes, writeWith}
 use Rattle.layout.specs.Fits.{RowFits, SlotFits, StockFits, Fits, Formed}
 use Rattle.layout.proofs.ListLaws.{length-tabulate, getD-tabulate, tabulate-ext, tabulate-getD, every-tabulate, length-flat, part-flat, flat-tabulate}
-use Rattle.layout.proofs.FieldLaws.{length-rowBytes, length-slotBytes, length-headerBytes, skip, read-row, write-row, read-slot, write-slot, pad-written, mark-header, logs-header, zero-header, slots-header, keeper-header, free-header, count-header, key-header, write-header}
+use Rattle.layout.proofs.FieldLaws.{length-rowBytes, length-slotBytes, length-headerBytes, skip, read-row, write-row, read-slot, write-slot, pad-written, mark-header, logs-header, zero-header, slots-header, keeper-header, free-header, count-header, key-header, last-header, write-header}
 use Rattle.octets.proofs.Zeros.{length-zeros}
 
 -- one row or slot of the image of bytes
@@ -119,7 +119,11 @@ module _ (stock : Stock) (m : Image) (h : Fits m) where
   -- and so is a stock
   pub stock-with : StockFits stock → stockOf (writeWith stock m) ≡ stock
   unfolding stockOf
-  stock-with k = λ i. record { count = (ap unbe (header-written countOffset 2 (omega arith) ∙ count-header _ _ _ _ _ _) ∙ unbe-be 2 (stock .count) (k .count)) i }
+  stock-with k =
+      λ i. record {
+        count = (ap unbe (header-written countOffset 2 (omega arith) ∙ count-header _ _ _ _ _ _) ∙ unbe-be 2 (stock .count) (k .count)) i;
+        last = (ap unbe (header-written lastOffset 2 (omega arith) ∙ last-header _ _ _ _ _ _ (h .key)) ∙ unbe-be 2 (stock .last) (k .last)) i;
+      }
 
   -- and the bytes have a table's length and constants
   pub formed-with : Formed (writeWith stock m)
@@ -210,4 +214,4 @@ module _ (b : List ℕ) (bytes : Bytes b) (h : Formed b) where
 -- and so does their stock
 pub stock-read : (b : List ℕ) → Bytes b → StockFits (stockOf b)
 unfolding stockOf
-stock-read b h = record { count = unbe-part-lt b countOffset 2 h }
+stock-read b h = record { count = unbe-part-lt b countOffset 2 h; last = unbe-part-lt b lastOffset 2 h }

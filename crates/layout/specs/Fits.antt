@@ -33,9 +33,10 @@ pub record Fits (m : Image) : Type 0 where
   pub rows : (g : ℕ) → RowFits (rowAt (m .rows) g)
   pub slots : (i : ℕ) → SlotFits (getD (m .slots) i (freeSlot 0))
 
--- the number of free slots fits its field
+-- the number of free slots and the last one fit their fields
 pub record StockFits (k : Stock) : Type 0 where
   pub count : k .count < 256 ^ 2
+  pub last : k .last < 256 ^ 2
 
 -- document 01: "the length, constants and counts are as above", as far as a table's bytes follow from its image and stock
 pub record Formed (b : List ℕ) : Type 0 where

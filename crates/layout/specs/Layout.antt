@@ -18,9 +18,9 @@ pub record Plan : Type 0 where
 abbrev pub plan01 : Plan
 plan01 = record { mark = 65 ∷ 50 ∷ 77 ∷ 84 ∷ []; header = 52; row = 20 }
 
--- the present one; request [1]: "Such tables begin A2MU instead of A2MT"
+-- the present one; request [1]: "Such tables begin A2MU instead of A2MT"; request [4]: "The header grows to 54 bytes"
 abbrev pub plan : Plan
-plan = record { mark = 65 ∷ 50 ∷ 77 ∷ 85 ∷ []; header = 52; row = 20 }
+plan = record { mark = 65 ∷ 50 ∷ 77 ∷ 85 ∷ []; header = 54; row = 20 }
 
 abbrev pub headerSize : ℕ
 headerSize = plan .header
@@ -61,16 +61,21 @@ freeOf b = unbe (part b freeOffset 2)
 -- what a header says of the free slots beside the first: a table's bytes have it, an image does not, for it follows from the free chain
 pub record Stock : Type 0 where
   pub count : ℕ
+  pub last : ℕ
 
-abbrev pub stocked : ℕ → Stock
-stocked n = record { count = n }
+abbrev pub stocked : ℕ → ℕ → Stock
+stocked count last = record { count = count; last = last }
 
 -- request [1]: "Header bytes 18–19 hold the number" of free slots
 abbrev pub countOffset : ℕ
 countOffset = 18
 
+-- request [4]: "bytes 52–53 naming the last free slot, 0 if none"
+abbrev pub lastOffset : ℕ
+lastOffset = 52
+
 unfoldable pub stockOf : List ℕ → Stock
-stockOf b = stocked (unbe (part b countOffset 2))
+stockOf b = stocked (unbe (part b countOffset 2)) (unbe (part b lastOffset 2))
 
 -- "20–51 key"
 unfoldable pub keyOf : List ℕ → List ℕ
@@ -93,11 +98,11 @@ cellOffset logs i = cellOffsetIn plan logs i
 abbrev pub slotOffset : ℕ → ℕ → ℕ
 slotOffset logs s = cellOffset logs (s - 1)
 
--- "The length is 52 + 20G + 76S exactly"
+-- "The length is 52 + 20G + 76S exactly", with the present header
 abbrev pub tableSize : ℕ → ℕ → ℕ
 tableSize logs slots = cellOffset logs slots
 
--- "at most 61,172": the table of most logs and slots
+-- the table of most logs and slots: document 01's "at most 61,172", and 2 bytes more
 abbrev pub largest : ℕ
 largest = tableSize 16 800
 
@@ -144,17 +149,17 @@ readTable b = record { keeper = keeperOf b; key = keyOf b; free = freeOf b; rows
 abbrev pub countBytes : ℕ → ℕ → List ℕ
 countBytes logs slots = mark ++ (be 1 logs ++ (zeros 1 ++ be 2 slots))
 
--- the mark; "4 log count G; 5 zero; 6–7 slot count S; 8–15 keeper number; 16–17 first free slot, 0 if none"; 18–19 number of free slots; "20–51 key"
+-- the mark; "4 log count G; 5 zero; 6–7 slot count S; 8–15 keeper number; 16–17 first free slot, 0 if none"; 18–19 number of free slots; "20–51 key"; 52–53 last free slot
 unfoldable pub headerBytes : ℕ → ℕ → ℕ → ℕ → Stock → List ℕ → List ℕ
 headerBytes logs slots keeper free stock key =
-    mark ++ (be 1 logs ++ (zeros 1 ++ (be 2 slots ++ (be 8 keeper ++ (be 2 free ++ (be 2 (stock .count) ++ key))))))
+    mark ++ (be 1 logs ++ (zeros 1 ++ (be 2 slots ++ (be 8 keeper ++ (be 2 free ++ (be 2 (stock .count) ++ (key ++ be 2 (stock .last))))))))
 
 -- the bytes of an image with a stock: header, rows, slots. `table/specs/Free: writeTable` takes the stock that the image has
 unfoldable pub writeWith : Stock → Image → List ℕ
 writeWith stock m =
     headerBytes (length (m .rows)) (length (m .slots)) (m .keeper) (m .free) stock (m .key) ++ (flat rowBytes (m .rows) ++ flat slotBytes (m .slots))
 
--- a table's bytes with another row of log g, another slot s, another next in slot s, another first free slot, another number of free slots
+-- a table's bytes with another row of log g, another slot s, another next in slot s, another first free slot, another number of free slots, another last free slot
 unfoldable pub putRow : List ℕ → ℕ → Row → List ℕ
 putRow b g r = splice b (rowOffset g) (rowBytes r)
 
@@ -169,3 +174,6 @@ putFree b f = splice b freeOffset (be 2 f)
 
 unfoldable pub putCount : List ℕ → ℕ → List ℕ
 putCount b n = splice b countOffset (be 2 n)
+
+unfoldable pub putLast : List ℕ → ℕ → List ℕ
+putLast b s = splice b lastOffset (be 2 s)

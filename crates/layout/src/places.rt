@@ -9,7 +9,7 @@ ghost use Rattle.layout.specs.Layout.{rowOffset, slotOffset, tableSize};
 // The mark, "A2MU", as a big-endian number.
 pub const MARK: u32 = 0x4132_4D55;
 
-pub const HEADER: usize = 52;
+pub const HEADER: usize = 54;
 
 pub const ROW: usize = 20;
 

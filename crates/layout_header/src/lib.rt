@@ -13,7 +13,7 @@ use layout::places::table_size;
 ghost use mathlib.Core.Path.{_≡_};
 ghost use Prim.Native.Nat.{_≤_, _<_};
 ghost use lib.ListN.{length};
-ghost use Rattle.layout.specs.Layout.{headerSize, logsOf, slotsOf, keeperOf, freeOf, stockOf, stocked, keyOf, countBytes, headerBytes, putFree, putCount};
+ghost use Rattle.layout.specs.Layout.{headerSize, logsOf, slotsOf, keeperOf, freeOf, stockOf, stocked, keyOf, countBytes, headerBytes, putFree, putCount, putLast};
 ghost use Rattle.layout.specs.Tests.{inRange, marked, constantsFit, headerFits};
 ghost use Rattle.octets.specs.Octets.{splice};
 
@@ -57,6 +57,14 @@ pub fn count_of(table: &[u8]) -> usize
     pair_at(table, 18)
 }
 
+// The last free slot that the header names, 0 if none.
+pub fn last_of(table: &[u8]) -> usize
+    requires { ⌜ headerSize ≤ length (now table) ⌝ }
+    ensures { λ r. ⌜ (r ≡ stockOf (now (table .entry)) .last) × (r < 65536) ⌝ }
+{
+    pair_at(table, 52)
+}
+
 // The key, as a part of the table.
 pub fn key_of(table: &[u8]) -> &[u8]
     requires { ⌜ headerSize ≤ length (now table) ⌝ }
@@ -83,6 +91,15 @@ pub fn put_count(table: &mut [u8], count: usize)
     put_pair(table, 18, count);
 }
 
+// Another last free slot.
+pub fn put_last(table: &mut [u8], last: usize)
+    requires { ⌜ headerSize ≤ length (now table) ⌝ }
+    requires { ⌜ last < 65536 ⌝ }
+    ensures { λ _. ⌜ now (table .exit) ≡ putLast (now (table .entry)) last ⌝ }
+{
+    put_pair(table, 52, last);
+}
+
 // The mark and the counts into the front of a table.
 fn write_counts(part: &mut [u8], logs: usize, slots: usize)
     requires { ⌜ length (now part) ≡ headerSize ⌝ }
@@ -103,17 +120,19 @@ pub fn write_header(
     keeper: u64,
     free: usize,
     count: usize,
+    last: usize,
     key: &[u8],
 )
     requires { ⌜ length (now part) ≡ headerSize ⌝ }
-    requires { ⌜ (logs < 256) × ((slots < 65536) × ((free < 65536) × ((count < 65536) × (length (now key) ≡ 32)))) ⌝ }
-    ensures { λ _. ⌜ now (part .exit) ≡ headerBytes logs slots keeper free (stocked count) (now (key .entry)) ⌝ }
+    requires { ⌜ (logs < 256) × ((slots < 65536) × ((free < 65536) × ((count < 65536) × ((last < 65536) × (length (now key) ≡ 32))))) ⌝ }
+    ensures { λ _. ⌜ now (part .exit) ≡ headerBytes logs slots keeper free (stocked count last) (now (key .entry)) ⌝ }
 {
     write_counts(part, logs, slots);
     put_u64(part, 8, keeper);
     put_pair(part, 16, free);
     put_pair(part, 18, count);
     octets::put(part, 20, key);
+    put_pair(part, 52, last);
 }
 
 // Whether a table may have so many logs and slots.

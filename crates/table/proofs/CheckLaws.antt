@@ -6,6 +6,7 @@ use mathlib.Core.List.{List, [], _∷_}
 use mathlib.Core.Logic.{_≢_}
 use native.Mathlib.Omega.{arith}
 use borrow.Author.Tests.{eq-eqb, ne-eqb, not-true, not-false}
+use lib.Dec.{eqb}
 use lib.ListN.{length, length-append}
 use Rattle.refusal.specs.Order.{fault, firstFault, answerOf}
 use Rattle.layout.specs.Image.{Image}
@@ -16,7 +17,7 @@ use Rattle.table.specs.declared.Held.the-variants as held
 use Rattle.table.specs.declared.Check.{Check}
 use Rattle.table.specs.declared.Check.the-variants as check
 use Rattle.table.specs.Chains.{lastOf}
-use Rattle.table.specs.Free.{freeChain}
+use Rattle.table.specs.Free.{freeChain, joint}
 use Rattle.table.specs.Walks.{walkOf, heldOf}
 use Rattle.table.specs.WholeImage.{freeOk, rowsOk, heldBy, meets, wholeImage}
 use Rattle.table.specs.Whole.{whole, stockFits, wholeRefusal, checked, checkOf}
@@ -84,16 +85,21 @@ module _ (b : List ℕ) (logs slots : ℕ) (c : Counted b logs slots) where
 
     pub torn-number : (x : ℕ) → x ≡ stockOf b .count → x ≢ count → check.Torn ≡ checkOf b
     unfolding whole stockFits
-    torn-number x e k = torn b (and-not (headerFits b && padsFit b (logsOf b) (slotsOf b) && wholeImage (readTable b)) (ne-eqb (stockOf b .count) (length (freeChain (readTable b))) (λ q. k (e ∙ q ∙ f .1))))
+    torn-number x e k = torn b (and-not (headerFits b && padsFit b (logsOf b) (slotsOf b) && wholeImage (readTable b)) (and-no _ (ne-eqb (stockOf b .count) (length (freeChain (readTable b))) (λ q. k (e ∙ q ∙ f .1)))))
 
-    pub is-whole : (t u : Bool) (x : ℕ) → t ≡ headerFits b → not t ≡ false → u ≡ padsFit b logs slots → not u ≡ false → n ≤ slots → count ≡ slots - n → x ≡ stockOf b .count → x ≡ count → check.Whole count last ≡ checkOf b
+    pub torn-last : (y : ℕ) → y ≡ stockOf b .last → y ≢ last → check.Torn ≡ checkOf b
+    unfolding whole stockFits
+    torn-last y e k =
+        torn b (and-not (headerFits b && padsFit b (logsOf b) (slotsOf b) && wholeImage (readTable b)) (and-not (eqb (stockOf b .count) (length (freeChain (readTable b)))) (ne-eqb (stockOf b .last) (joint (readTable b)) (λ q. k (e ∙ q ∙ f .2)))))
+
+    pub is-whole : (t u : Bool) (x y : ℕ) → t ≡ headerFits b → not t ≡ false → u ≡ padsFit b logs slots → not u ≡ false → n ≤ slots → count ≡ slots - n → x ≡ stockOf b .count → x ≡ count → y ≡ stockOf b .last → y ≡ last → check.Whole count last ≡ checkOf b
     unfolding checkOf checked whole wholeImage stockFits
-    is-whole t u x e p q r k z i j =
+    is-whole t u x y e p q r k z i j i′ j′ =
         let w : whole b ≡ true =
         and-yes _ (and-yes _ (and-yes _ (sym e ∙ not-false t p) ∙ (sym (q ∙ pads-as) ∙ not-false u r))
         ∙ (and-yes _ (and-yes _ (f .0) ∙ h .0)
         ∙ eq-eqb (length (meets (readTable b))) (length (readTable b .slots)) (total ∙ omega (arith, len b logs slots c))))
-        ∙ eq-eqb (stockOf b .count) (length (freeChain (readTable b))) (sym i ∙ j ∙ sym (f .1)) in
+        ∙ (and-yes _ (eq-eqb (stockOf b .count) (length (freeChain (readTable b))) (sym i ∙ j ∙ sym (f .1))) ∙ eq-eqb (stockOf b .last) (joint (readTable b)) (sym i′ ∙ j′ ∙ sym (f .2))) in
         sym (ap (λ (x : Bool). checked x (freeChain (readTable b))) w ∙ ap₂ check.Whole (f .1) (f .2))
 
 -- the number of what the check finds

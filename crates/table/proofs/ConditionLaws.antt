@@ -193,6 +193,7 @@ unfolding whole wholeImage freeOk stockFits
 whole-conditions b e =
     let m : Image = readTable b in
     let a = and-split (headerFits b && padsFit b (logsOf b) (slotsOf b) && wholeImage m) (stockFits b) e in
+    let k₂ = and-split (eqb (stockOf b .count) (length (freeChain m))) (eqb (stockOf b .last) (lastOf (freeChain m))) (a .1) in
     let s = and-split (headerFits b && padsFit b (logsOf b) (slotsOf b)) (wholeImage m) (a .0) in
     let t = and-split (headerFits b) (padsFit b (logsOf b) (slotsOf b)) (s .0) in
     let p = header-parts b (t .0) in
@@ -210,7 +211,8 @@ whole-conditions b e =
       freed = freeChain m;
       free = reach-links (m .slots) 0 (m .free) (f .0);
       blank = all-each (m .slots) (freeChain m) (f .1);
-      number = eqb-true (stockOf b .count) (length (freeChain m)) (a .1);
+      number = eqb-true (stockOf b .count) (length (freeChain m)) (k₂ .0);
+      last = eqb-true (stockOf b .last) (lastOf (freeChain m)) (k₂ .1);
       chains = r .0;
       rows = r .1;
       total = ap (λ (n : ℕ). length (freeChain m) + n) (r .2) ∙ sym (length-meets m) ∙ eqb-true (length (meets m)) (length (m .slots)) (u .1) ∙ length-slots b;
@@ -229,4 +231,4 @@ conditions-whole b w =
     and-yes _ (and-yes _ (and-yes _ (header-test b (constants-test b (w .marked) (w .zero)) (w .counts) (w .sized)) ∙ pads-test b (logsOf b) (slotsOf b) (w .pads))
     ∙ (and-yes _ (and-yes _ (and-yes _ (f .0) ∙ (ap (all (λ (s : ℕ). blank (slotAt (m .slots) s))) (f .1) ∙ each-all (m .slots) (w .freed) (w .blank))) ∙ r .0)
     ∙ eq-eqb (length (meets m)) (length (m .slots)) (length-meets m ∙ ap₂ _+_ (ap length (f .1)) (r .1) ∙ t ∙ sym n)))
-    ∙ eq-eqb (stockOf b .count) (length (freeChain m)) (w .number ∙ sym (ap length (f .1)))
+    ∙ (and-yes _ (eq-eqb (stockOf b .count) (length (freeChain m)) (w .number ∙ sym (ap length (f .1)))) ∙ eq-eqb (stockOf b .last) (lastOf (freeChain m)) (w .last ∙ sym (ap lastOf (f .1))))

@@ -147,16 +147,16 @@ none-queued slots s h = sym (ap (λ (t : Bool). cond t (suc s) 0) (le-ltb s slot
 
 -- header, rows and slots, written one after the other
 pub three : (o h r s : List ℕ) (logs slots keeper : ℕ) (key : List ℕ) → length o ≡ tableSize logs slots → length key ≡ 32
-    → h ≡ headerBytes logs slots keeper 1 (stocked slots) key → r ≡ flat rowBytes (replicate logs freshRow) → s ≡ flat slotBytes (queue slots)
-    → putMid (rowOffset logs) (tableSize logs slots - rowOffset logs) (putMid headerSize (rowOffset logs - headerSize) (putMid 0 headerSize o h) r) s ≡ writeWith (stocked slots) (formatted logs slots keeper key)
+    → h ≡ headerBytes logs slots keeper 1 (stocked slots slots) key → r ≡ flat rowBytes (replicate logs freshRow) → s ≡ flat slotBytes (queue slots)
+    → putMid (rowOffset logs) (tableSize logs slots - rowOffset logs) (putMid headerSize (rowOffset logs - headerSize) (putMid 0 headerSize o h) r) s ≡ writeWith (stocked slots slots) (formatted logs slots keeper key)
 unfolding writeWith formatted
 three o h r s logs slots keeper key e k eh er es =
-    let H : List ℕ = headerBytes logs slots keeper 1 (stocked slots) key in
+    let H : List ℕ = headerBytes logs slots keeper 1 (stocked slots slots) key in
     let R : List ℕ = flat rowBytes (replicate logs freshRow) in
     let S : List ℕ = flat slotBytes (queue slots) in
     let o₁ : List ℕ = putMid 0 headerSize o h in
     let o₂ : List ℕ = putMid headerSize (rowOffset logs - headerSize) o₁ r in
-    let lh : length H ≡ headerSize = length-headerBytes logs slots keeper 1 (stocked slots) key k in
+    let lh : length H ≡ headerSize = length-headerBytes logs slots keeper 1 (stocked slots slots) key k in
     let lr : length R ≡ rowSize * logs = length-flat rowBytes rowSize freshRow (replicate logs freshRow) (fresh-sizes logs) ∙ ap (λ (n : ℕ). rowSize * n) (length-replicate logs freshRow) in
     let ls : length S ≡ slotSize * slots = length-flat slotBytes slotSize (freeSlot 0) (queue slots) (queue-sizes slots) ∙ ap (λ (n : ℕ). slotSize * n) (length-queue slots) in
     let w₁ : o₁ ≡ splice o 0 H = put-back o h H 0 headerSize eh lh in
@@ -167,4 +167,4 @@ three o h r s logs slots keeper key e k eh er es =
     w₃
     ∙ splice-whole o ((H ++ R) ++ S) (length-append (H ++ R) S ∙ omega arith)
     ∙ append-assoc H R S
-    ∙ ap₂ (λ (g n : ℕ). headerBytes g n keeper 1 (stocked slots) key ++ (R ++ S)) (sym (length-replicate logs freshRow)) (sym (length-queue slots))
+    ∙ ap₂ (λ (g n : ℕ). headerBytes g n keeper 1 (stocked slots slots) key ++ (R ++ S)) (sym (length-replicate logs freshRow)) (sym (length-queue slots))

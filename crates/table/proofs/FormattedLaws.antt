@@ -18,7 +18,7 @@ use Rattle.layout.specs.Layout.{Stock, stocked, readTable, writeWith}
 use Rattle.layout.specs.Fits.{RowFits, SlotFits, Fits}
 use Rattle.layout.proofs.ListLaws.{every-tabulate}
 use Rattle.layout.proofs.TableLaws.{fresh-fits, free-fits}
-use Rattle.table.specs.Chains.{walk, reaches, chain}
+use Rattle.table.specs.Chains.{walk, reaches, chain, lastOf}
 use Rattle.table.specs.Free.{freeChain, stockIn, writeTable, countUp, queuedNext, queue}
 use Rattle.table.specs.Format.{formatted, formatRefusal, formatBytes}
 use Rattle.table.specs.WholeImage.{all, freeOk, fresh, rowOk, rowsOk, heldBy, meets, wholeImage}
@@ -27,6 +27,7 @@ use Rattle.table.specs.Whole.{whole}
 use Rattle.layout.specs.Fits.{Range}
 use Rattle.layout.proofs.TestLaws.{and-yes}
 use Rattle.table.proofs.WalkLaws.{reached, slotsMet, walk-end, go-on, chain-short, chain-none}
+use Rattle.table.proofs.LinkLaws.{chain-within}
 use Rattle.table.proofs.CheckLaws.{length-meets}
 use Rattle.table.proofs.FillLaws.{length-queue, getD-queue, next-queued, none-queued}
 use Rattle.table.proofs.WholeLaws.{written-whole, read-write}
@@ -67,6 +68,11 @@ length-count : (s k : ℕ) → length (countUp s k) ≡ k
 unfolding countUp
 length-count s zero = refl
 length-count s (suc k) = ap suc (length-count (suc s) k)
+
+last-count : (s k : ℕ) → lastOf (countUp s (suc k)) ≡ s + k
+unfolding countUp lastOf
+last-count s zero = omega arith
+last-count s (suc k) = last-count (suc s) k ∙ omega arith
 
 -- fresh rows
 
@@ -109,16 +115,21 @@ module _ (logs slots keeper : ℕ) (key : List ℕ) where
   unfolding formatted chain
   formatted-queue h = ap slotsMet (queue-walk slots h)
 
-  -- so its number of free slots is S, also where S is 0
-  pub formatted-stock : stockIn (formatted logs slots keeper key) ≡ stocked slots
+  -- so its number of free slots is S, and the last of them slot S, also where S is 0
+  pub formatted-stock : stockIn (formatted logs slots keeper key) ≡ stocked slots slots
   unfolding formatted
-  formatted-stock = ap stocked (go slots refl)
+  formatted-stock = go slots refl
     where
-      go : (n : ℕ) → slots ≡ n → length (freeChain (formatted logs slots keeper key)) ≡ slots
-      go zero e = omega (arith, chain-short (queue slots) 0 1, length-queue slots)
-      go (suc n) e = ap length (formatted-queue (omega arith)) ∙ length-count 1 slots
+      go : (n : ℕ) → slots ≡ n → stockIn (formatted logs slots keeper key) ≡ stocked slots slots
+      go zero e =
+          let l : length (freeChain (formatted logs slots keeper key)) ≡ slots = omega (arith, chain-short (queue slots) 0 1, length-queue slots) in
+          let k : lastOf (freeChain (formatted logs slots keeper key)) ≡ slots = omega (arith, chain-within (queue slots) 0 1, length-queue slots) in
+          ap₂ stocked l k
+      go (suc n) e =
+          let q = formatted-queue (omega arith) in
+          ap₂ stocked (ap length q ∙ length-count 1 slots) (ap lastOf q ∙ ap (λ (k : ℕ). lastOf (countUp 1 k)) e ∙ last-count 1 n ∙ omega (arith, e))
 
-  pub formatted-bytes : writeWith (stocked slots) (formatted logs slots keeper key) ≡ writeTable (formatted logs slots keeper key)
+  pub formatted-bytes : writeWith (stocked slots slots) (formatted logs slots keeper key) ≡ writeTable (formatted logs slots keeper key)
   unfolding writeTable
   formatted-bytes = ap (λ (k : Stock). writeWith k (formatted logs slots keeper key)) (sym formatted-stock)
 

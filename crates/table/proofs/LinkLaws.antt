@@ -9,7 +9,7 @@ use borrow.Author.Tests.{eqb-true, eqb-false, leb-true, eq-eqb, ne-eqb, le-leb}
 use lib.Dec.{eqb, leb}
 use lib.ListN.{length}
 use Rattle.layout.specs.Image.{Slot, slotAt}
-use Rattle.table.specs.Chains.{walk, reaches, chain}
+use Rattle.table.specs.Chains.{walk, reaches, chain, lastOf}
 use Rattle.table.specs.Conditions.{Links}
 use Rattle.table.proofs.WalkLaws.{reached, slotsMet}
 
@@ -78,3 +78,18 @@ module _ (slots : List Slot) (o : ℕ) where
       go : (w : Option (List ℕ)) → walk slots o (length slots) s ≡ w → reached w ≡ true → Links slots o s (slotsMet w) 0
       go none e h = absurd (let z : _≡_ {A = ℕ} 0 1 = cc in omega arith)
       go (some c) e h = links-walk (length slots) s c e
+
+  -- the last slot of a chain stands in the table, or is 0
+  pub links-within : (s : ℕ) (c : List ℕ) → Links slots o s c 0 → lastOf c ≤ length slots
+  unfolding lastOf
+  links-within s [] h = omega arith
+  links-within s (t ∷ []) h = h .2
+  links-within s (t ∷ u ∷ c) h = links-within (slotAt slots t .next) (u ∷ c) (h .4)
+
+  pub chain-within : (s : ℕ) → lastOf (chain slots o s) ≤ length slots
+  unfolding chain lastOf
+  chain-within s = go (walk slots o (length slots) s) refl
+    where
+      go : (w : Option (List ℕ)) → walk slots o (length slots) s ≡ w → lastOf (slotsMet w) ≤ length slots
+      go none e = omega arith
+      go (some c) e = links-within s c (links-walk (length slots) s c e)

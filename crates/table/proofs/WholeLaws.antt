@@ -1,4 +1,4 @@
--- What a whole table tells its callers: its bytes are its image's table, and its number is that of its free slots; and whole bytes of an image are a whole image.
+-- What a whole table tells its callers: its bytes are its image's table, and its number and last are those of its free slots; and whole bytes of an image are a whole image.
 use Prim.Native.Nat.{ℕ}
 use mathlib.Core.Path.{_≡_, refl, sym, ap, _∙_}
 use mathlib.Core.List.{List}
@@ -6,6 +6,7 @@ use mathlib.Core.Bool.{Bool, true, false, _&&_}
 use native.Mathlib.Omega.{arith}
 use borrow.Author.Tests.{eq-eqb, eqb-true}
 use Rattle.octets.specs.Octets.{Bytes}
+use lib.Dec.{eqb}
 use lib.ListN.{length}
 use Rattle.layout.specs.Image.{Image}
 use Rattle.layout.specs.Layout.{Stock, stocked, logsOf, slotsOf, readTable, stockOf, writeWith}
@@ -13,7 +14,7 @@ use Rattle.layout.specs.Fits.{Fits, StockFits, Formed}
 use Rattle.layout.proofs.TableLaws.{logs-written, slots-written, read-with, stock-with, formed-with, write-read as write-with}
 use Rattle.table.specs.declared.Check.the-variants as check
 use Rattle.table.specs.Chains.{lastOf}
-use Rattle.table.specs.Free.{freeChain, stockIn, writeTable}
+use Rattle.table.specs.Free.{freeChain, joint, stockIn, writeTable}
 use Rattle.table.specs.WholeImage.{wholeImage}
 use Rattle.table.specs.Whole.{whole, stockFits, checked, checkOf}
 use Rattle.layout.specs.Tests.{headerFits, padsFit}
@@ -21,6 +22,7 @@ use Rattle.table.specs.Conditions.{Whole}
 use Rattle.layout.specs.Fits.{Range}
 use Rattle.layout.proofs.TestLaws.{and-yes, and-split}
 use Rattle.table.proofs.WalkLaws.{chain-short}
+use Rattle.table.proofs.LinkLaws.{chain-within}
 use Rattle.table.proofs.ConditionLaws.{constants-test, header-test, pads-test, whole-conditions}
 
 pub whole-formed : (b : List ℕ) → whole b ≡ true → Formed b
@@ -38,19 +40,28 @@ whole-parts b e =
 pub whole-image : (b : List ℕ) → whole b ≡ true → wholeImage (readTable b) ≡ true
 whole-image b e = whole-parts b e .0
 
+stock-parts : (b : List ℕ) → stockFits b ≡ true → (stockOf b .count ≡ length (freeChain (readTable b))) × (stockOf b .last ≡ lastOf (freeChain (readTable b)))
+unfolding stockFits
+stock-parts b e =
+    let s = and-split (eqb (stockOf b .count) (length (freeChain (readTable b)))) (eqb (stockOf b .last) (joint (readTable b))) e in
+    (eqb-true (stockOf b .count) (length (freeChain (readTable b))) (s .0), eqb-true (stockOf b .last) (joint (readTable b)) (s .1))
+
 -- request [1]: "On a whole table it equals the length of the free chain."
 pub whole-count : (b : List ℕ) → whole b ≡ true → stockOf b .count ≡ length (freeChain (readTable b))
-unfolding stockFits
-whole-count b e = eqb-true (stockOf b .count) (length (freeChain (readTable b))) (whole-parts b e .1)
+whole-count b e = stock-parts b (whole-parts b e .1) .0
+
+-- request [4]: "bytes 52–53 naming the last free slot, 0 if none"
+pub whole-last : (b : List ℕ) → whole b ≡ true → stockOf b .last ≡ lastOf (freeChain (readTable b))
+whole-last b e = stock-parts b (whole-parts b e .1) .1
 
 whole-stock : (b : List ℕ) → whole b ≡ true → stockOf b ≡ stockIn (readTable b)
-whole-stock b e = λ i. record { count = whole-count b e i }
+whole-stock b e = λ i. record { count = whole-count b e i; last = whole-last b e i }
 
 -- what the bytes of an image say, whatever its free chain
 module _ (m : Image) (h : Fits m) where
-  -- a chain is no longer than the table
+  -- a chain is no longer than the table, and stays in it
   stock-fits : StockFits (stockIn m)
-  stock-fits = record { count = omega (arith, chain-short (m .slots) 0 (m .free), h .count) }
+  stock-fits = record { count = omega (arith, chain-short (m .slots) 0 (m .free), h .count); last = omega (arith, chain-within (m .slots) 0 (m .free), h .count) }
 
   pub read-write : readTable (writeTable m) ≡ m
   unfolding writeTable
@@ -69,7 +80,7 @@ write-read b h e = ap (λ (k : Stock). writeWith k (readTable b)) (sym (whole-st
 formed-whole : (b : List ℕ) → Formed b → Range (logsOf b) (slotsOf b) → stockOf b ≡ stockIn (readTable b) → whole b ≡ wholeImage (readTable b)
 unfolding whole stockFits
 formed-whole b f r k =
-    and-true _ (eq-eqb (stockOf b .count) (length (freeChain (readTable b))) (ap (λ (x : Stock). x .count) k))
+    and-true _ (and-yes _ (eq-eqb (stockOf b .count) (length (freeChain (readTable b))) (ap (λ (x : Stock). x .count) k)) ∙ eq-eqb (stockOf b .last) (joint (readTable b)) (ap (λ (x : Stock). x .last) k))
     ∙ and-yes _ (and-yes _ (header-test b (constants-test b (f .marked) (f .zero)) r (f .sized)) ∙ pads-test b (logsOf b) (slotsOf b) (f .pads))
   where
     and-true : (x : Bool) {y : Bool} → y ≡ true → x && y ≡ x

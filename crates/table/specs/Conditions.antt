@@ -1,4 +1,4 @@
--- Document 01, "A table is whole if ..", as conditions: a field for each clause of the sentence, and request [1]'s. `proofs/ConditionLaws` shows that they hold exactly when the test `whole` does.
+-- Document 01, "A table is whole if ..", as conditions: a field for each clause of the sentence, and those of requests [1] and [4]. `proofs/ConditionLaws` shows that they hold exactly when the test `whole` does.
 use Prim.Native.Nat.{ℕ, suc, _+_, _≤_, _<_}
 use mathlib.Core.Path.{_≡_}
 use mathlib.Core.Logic.{_⊎_}
@@ -77,6 +77,8 @@ pub record Whole (b : List ℕ) : Type 0 where
   pub blank : Each (λ (s : ℕ). Blank (slotAt (readTable b .slots) s)) freed
   -- request [1]: "A table whose number differs is torn."
   pub number : stockOf b .count ≡ length freed
+  -- request [4]: "A table that names another is torn."
+  pub last : stockOf b .last ≡ lastOf freed
   -- "each row is fresh .. or has .. a chain"
   pub chains : List (List ℕ)
   pub rows : Rows (readTable b .slots) 0 (readTable b .rows) chains

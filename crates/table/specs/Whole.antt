@@ -1,4 +1,4 @@
--- Document 01, "A table is whole if ..", and request [1]'s clause, as a test on bytes.
+-- Document 01, "A table is whole if ..", and the clauses of requests [1] and [4], as a test on bytes.
 use Prim.Native.Nat.{ℕ}
 use mathlib.Core.List.{List, [], _∷_}
 use mathlib.Core.Option.{Option}
@@ -11,12 +11,12 @@ use Rattle.layout.specs.Tests.{headerFits, padsFit}
 use Rattle.table.specs.declared.Check.{Check}
 use Rattle.table.specs.declared.Check.the-variants as variants
 use Rattle.table.specs.Chains.{lastOf}
-use Rattle.table.specs.Free.{freeChain}
+use Rattle.table.specs.Free.{freeChain, joint}
 use Rattle.table.specs.WholeImage.{wholeImage}
 
--- request [1]: "A table whose number differs is torn."
+-- request [1]: "A table whose number differs is torn."; request [4], of the last free slot: "A table that names another is torn."
 unfoldable pub stockFits : List ℕ → Bool
-stockFits b = eqb (stockOf b .count) (length (freeChain (readTable b)))
+stockFits b = eqb (stockOf b .count) (length (freeChain (readTable b))) && eqb (stockOf b .last) (joint (readTable b))
 
 -- "A table is whole if the length, constants and counts are as above, and: .. Anything else is torn."
 unfoldable pub whole : List ℕ → Bool

@@ -1,10 +1,11 @@
-// Whether a table is whole (document 01, "A table is whole if ..", and request [1]'s number).
+// Whether a table is whole (document 01, "A table is whole if ..", and the number and last free slot of requests [1] and [4]).
 mod walks;
 
 use crate::walks::free_walk;
 use crate::walks::held_walk;
 use layout_header::count_of;
 use layout_header::header_fits;
+use layout_header::last_of;
 use layout_header::logs_of;
 use layout_header::slots_of;
 use layout_slots::pads_fit;
@@ -43,6 +44,9 @@ pub fn check(table: &[u8]) -> Check
         return Check::Torn;
     }
     if count_of(table) != count {
+        return Check::Torn;
+    }
+    if last_of(table) != last {
         return Check::Torn;
     }
     Check::Whole { free: count, last }

@@ -83,7 +83,16 @@ fn fill(table: &mut [u8], logs: usize, slots: usize, keeper: u64, key: &[u8])
     let rows = HEADER;
     let start = rows + ROW * logs;
     let end = start + SLOT * slots;
-    write_header(&mut table[0..rows], logs, slots, keeper, 1, slots, key);
+    write_header(
+        &mut table[0..rows],
+        logs,
+        slots,
+        keeper,
+        1,
+        slots,
+        slots,
+        key,
+    );
     fill_rows(&mut table[rows..start], logs);
     fill_slots(&mut table[start..end], slots);
 }

@@ -6,7 +6,7 @@ use mathlib.Core.List.{List}
 use Rattle.table.specs.Chains.{chain}
 use Rattle.layout.specs.Layout.{readTable}
 use Rattle.layout.proofs.HoldsLaws.{holds-counted}
-use Rattle.a2m.proofs.ReleaseLaws.{Releasing, Begins, begins, releasing-first, slot-within, last-most-free, count-most-free, freed-fits, releasing-on, falls, cut-held, cut-row, row-held, struck, struck-answer}
+use Rattle.a2m.proofs.ReleaseLaws.{Releasing, Begins, begins, releasing-first, slot-within, last-most-free, count-most-free, freed-fits, releasing-on, falls, cut-held, cut-row, row-held, count-held, struck, struck-answer}
 use Rattle.a2m.proofs.EnterLaws.{held-long}
 use Rattle.a2m.proofs.OpenedLaws.{opened-counted, opened-log, last-free-most, first-most}
 use native.Mathlib.Omega.{arith}
@@ -98,26 +98,52 @@ put-count-requires c κs =
     let n = opened-counted (p .args .table .now) (p .args .view) (p .pre .0) .slots-most in
     (held-long _ _ _ _ _ (row-held (p .args .table .now) (p .args .view) (p .args .n) (l .table) (l .last) (l .count) (l .s) (p .pre .0) (l .inv .1 (p .args .table .now) (begins (p .args .table .now) (p .args .view) (p .args .n) (j .join .last .0) (p .pre .0) (λ i. omega (arith, k .slice-known .given i)) (p .pre .1 .0) (p .pre .1 .1) (j .join .ensures))) (λ i. omega (arith, k .slice-known .given i)) (omega (arith, p .fits .n)) (d .join2 .last .0) (r .put-row .last .0) (t .truncate .result) (d .join2 .ensures) (t .truncate .ensures) (r .put-row .ensures)), omega arith)
 
-same-length : tie.Need-same-length Inv-loop μ-loop
-same-length c =
-    let r = c .before .before .before .before .before .before in
-    let d = r .before .before .before .before .before in
-    let q = d .before .before .before .before .before .before in
-    c .before .before .put-count .kept .0 ∙ r .put-row .kept .0 ∙ d .join2 .kept .0 ∙ q .loop .inv .0 ∙ q .before .before .before .join .kept .0
-
-returns : tie.Need-returns Inv-loop μ-loop
-returns c =
-    let q = c .before .before .before .before .before .before .before .before .before .before .before .before .before .before .before .before .before in
-    let l = q .loop in
-    let j = q .before .before .before in
-    let k = j .before .before .before in
-    let p = k .before in
-    let r = c .before .before .before .before .before .before in
+put-last-requires : tie.Need-put-last-requires Inv-loop μ-loop
+put-last-requires c κs =
+    let e = c .before .before .before in
+    let r = e .before .before .before .before in
     let t = r .before .before in
     let d = t .before .before .before in
     let i = d .before .before in
     let h = i .before .before in
-    (struck-answer (p .args .view) (p .args .n) (l .s) (t .truncate .result) (t .truncate .ensures), (refl, struck (p .args .table .now) (p .args .view) (p .args .n) (l .table) (l .last) (l .count) (l .s) (p .pre .0) (l .inv .1 (p .args .table .now) (begins (p .args .table .now) (p .args .view) (p .args .n) (j .join .last .0) (p .pre .0) (λ i. omega (arith, k .slice-known .given i)) (p .pre .1 .0) (p .pre .1 .1) (j .join .ensures))) (λ i. omega (arith, k .slice-known .given i)) (omega (arith, p .fits .n)) (h .link-at .result) (h .link-at .ensures) (i .if1 .taken) (d .join2 .last .0) (r .put-row .last .0) (c .before .before .put-count .last .0) (t .truncate .result) (d .join2 .ensures) (t .truncate .ensures) (r .put-row .ensures) (c .before .before .put-count .ensures)))
+    let q = h .before .before in
+    let l = q .loop in
+    let j = q .before .before .before in
+    let k = j .before .before .before in
+    let p = k .before in
+    let m = last-most-free (p .args .table .now) (p .args .view) (p .args .n) (l .table) (l .last) (l .count) (l .s) (p .pre .0) (l .inv .1 (p .args .table .now) (begins (p .args .table .now) (p .args .view) (p .args .n) (j .join .last .0) (p .pre .0) (λ i. omega (arith, k .slice-known .given i)) (p .pre .1 .0) (p .pre .1 .1) (j .join .ensures))) in
+    let n = opened-counted (p .args .table .now) (p .args .view) (p .pre .0) .slots-most in
+    (held-long _ _ _ _ _ (count-held (p .args .table .now) (p .args .view) (p .args .n) (l .table) (l .last) (l .count) (l .s) (p .pre .0) (l .inv .1 (p .args .table .now) (begins (p .args .table .now) (p .args .view) (p .args .n) (j .join .last .0) (p .pre .0) (λ i. omega (arith, k .slice-known .given i)) (p .pre .1 .0) (p .pre .1 .1) (j .join .ensures))) (λ i. omega (arith, k .slice-known .given i)) (omega (arith, p .fits .n)) (d .join2 .last .0) (r .put-row .last .0) (e .put-count .last .0) (t .truncate .result) (d .join2 .ensures) (t .truncate .ensures) (r .put-row .ensures) (e .put-count .ensures)), omega arith)
+
+same-length : tie.Need-same-length Inv-loop μ-loop
+same-length c =
+    let e = c .before .before .before .before .before .before in
+    let r = e .before .before .before .before in
+    let t = r .before .before in
+    let d = t .before .before .before in
+    let i = d .before .before in
+    let h = i .before .before in
+    let q = h .before .before in
+    let l = q .loop in
+    let j = q .before .before .before in
+    let k = j .before .before .before in
+    let p = k .before in
+    c .before .before .put-last .kept .0 ∙ e .put-count .kept .0 ∙ r .put-row .kept .0 ∙ d .join2 .kept .0 ∙ l .inv .0 ∙ j .join .kept .0
+
+returns : tie.Need-returns Inv-loop μ-loop
+returns c =
+    let e = c .before .before .before .before .before .before in
+    let r = e .before .before .before .before in
+    let t = r .before .before in
+    let d = t .before .before .before in
+    let i = d .before .before in
+    let h = i .before .before in
+    let q = h .before .before in
+    let l = q .loop in
+    let j = q .before .before .before in
+    let k = j .before .before .before in
+    let p = k .before in
+    (struck-answer (p .args .view) (p .args .n) (l .s) (t .truncate .result) (t .truncate .ensures), (refl, struck (p .args .table .now) (p .args .view) (p .args .n) (l .table) (l .last) (l .count) (l .s) (p .pre .0) (l .inv .1 (p .args .table .now) (begins (p .args .table .now) (p .args .view) (p .args .n) (j .join .last .0) (p .pre .0) (λ i. omega (arith, k .slice-known .given i)) (p .pre .1 .0) (p .pre .1 .1) (j .join .ensures))) (λ i. omega (arith, k .slice-known .given i)) (omega (arith, p .fits .n)) (h .link-at .result) (h .link-at .ensures) (i .if1 .taken) (d .join2 .last .0) (r .put-row .last .0) (e .put-count .last .0) (c .before .before .put-last .last .0) (t .truncate .result) (d .join2 .ensures) (t .truncate .ensures) (r .put-row .ensures) (e .put-count .ensures) (c .before .before .put-last .ensures)))
 
 pub strike-spec : {M : Type 1} → statement M
 strike-spec =
@@ -138,5 +164,6 @@ strike-spec =
     truncate-requires
     put-row-requires
     put-count-requires
+    put-last-requires
     same-length
     returns)

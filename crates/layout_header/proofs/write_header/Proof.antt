@@ -20,11 +20,22 @@ put-pair-requires-2 c κs = search needs
 put-requires : tie.Need-put-requires
 put-requires c κs = search needs
 
+put-pair-requires-3 : tie.Need-put-pair-requires-3
+put-pair-requires-3 c κs = search needs
+
 same-length : tie.Need-same-length
 same-length c = search needs
 
 returns : tie.Need-returns
-returns c = let x = c .before .before .before .before .before .before .before .before .before .before .before .before .before .before .before .before .before .before .before .before .before .before in header-fields (x .args .part .now) (x .args .logs) (x .args .slots) (x .args .keeper) (x .args .free) (stocked (x .args .count)) (x .args .key .now) (x .pre .1 .1 .1 .1 .1) (x .pre .0) (c .before .before .before .before .before .before .before .before .before .before .before .before .before .before .before .before .before .before .write-counts .ensures) (c .before .before .before .before .before .before .before .before .before .before .before .before .before .before .put-u64 .ensures) (c .before .before .before .before .before .before .before .before .before .before .put-pair .ensures) (c .before .before .before .before .before .before .put-pair2 .ensures) (c .before .before .put .ensures)
+returns c =
+    let l = c .before .before in
+    let k = l .before .before .before .before in
+    let n = k .before .before .before .before in
+    let f = n .before .before .before .before in
+    let i = f .before .before .before .before in
+    let w = i .before .before .before .before in
+    let x = w .before .before .before .before in
+    header-fields (x .args .part .now) (x .args .logs) (x .args .slots) (x .args .keeper) (x .args .free) (stocked (x .args .count) (x .args .last)) (x .args .key .now) (x .pre .1 .1 .1 .1 .1 .1) (x .pre .0) (w .write-counts .ensures) (i .put-u64 .ensures) (f .put-pair .ensures) (n .put-pair2 .ensures) (k .put .ensures) (l .put-pair3 .ensures)
 
 pub write-header-spec : {M : Type 1} → statement M
 write-header-spec =
@@ -35,5 +46,6 @@ write-header-spec =
     put-pair-requires
     put-pair-requires-2
     put-requires
+    put-pair-requires-3
     same-length
     returns)

@@ -2,7 +2,7 @@
 use borrow.Author.Tests.{not-false}
 use mathlib.Core.Path.{sym, _∙_}
 use Rattle.layout.proofs.HeaderLaws.{header-long, counted}
-use Rattle.table.proofs.CheckLaws.{torn-header, torn-pads, torn-free, torn-held, torn-over, torn-total, torn-number, is-whole}
+use Rattle.table.proofs.CheckLaws.{torn-header, torn-pads, torn-free, torn-held, torn-over, torn-total, torn-number, torn-last, is-whole}
 use borrow.Author.Needs.{needs}
 use Rattle.table_check.proofs.check.Statement.{statement}
 use Rattle.table_check.proofs.check.Tie as tie
@@ -85,16 +85,34 @@ returns-7 c =
     let p17 = p15 .before .before in
     torn-number (p17 .args .table .now) (p13 .logs-of .result) (p12 .slots-of .result) (counted (p17 .args .table .now) (p13 .logs-of .result) (p12 .slots-of .result) (p15 .header-fits .result) (p15 .header-fits .ensures) (p14 .if1 .left) (p13 .logs-of .ensures .0) (p12 .slots-of .ensures .0)) (d .before .before .before .before .before .before .before .count .given .0 .0) _ (d .before .before .before .held .given .0 .0) (sym (d .before .before .before .before .before .before .before .count .given .1) ∙ d .before .before .before .before .before .before .before .before .before .free-walk .ensures) (sym (d .before .before .before .held .given .1) ∙ d .before .before .before .before .before .held-walk .ensures) (c .before .count-of .result) (c .before .count-of .ensures .0) (c .if5 .taken)
 
+last-of-requires : tie.Need-last-of-requires
+last-of-requires c κs =
+    let p17 = c .before .before .before .before .before .before .before .before .before .before .before .before .before .before .before .before .before in
+    header-long (p17 .before .before .args .table .now) (sym (p17 .header-fits .ensures) ∙ not-false _ (c .before .before .before .before .before .before .before .before .before .before .before .before .before .before .before .before .if1 .left))
+
 returns-8 : tie.Need-returns-8
 returns-8 c =
-    let d = c .before .before in
+    let e = c .before .before in
+    let d = e .before .before in
     let p11 = d .before .before .before .before .before .before .before .before .before .before .before in
     let p12 = p11 .before in
     let p13 = p12 .before in
     let p14 = p13 .before in
     let p15 = p14 .before in
     let p17 = p15 .before .before in
-    is-whole (p17 .args .table .now) (p13 .logs-of .result) (p12 .slots-of .result) (counted (p17 .args .table .now) (p13 .logs-of .result) (p12 .slots-of .result) (p15 .header-fits .result) (p15 .header-fits .ensures) (p14 .if1 .left) (p13 .logs-of .ensures .0) (p12 .slots-of .ensures .0)) (d .before .before .before .before .before .before .before .count .given .0 .0) _ (d .before .before .before .held .given .0 .0) (sym (d .before .before .before .before .before .before .before .count .given .1) ∙ d .before .before .before .before .before .before .before .before .before .free-walk .ensures) (sym (d .before .before .before .held .given .1) ∙ d .before .before .before .before .before .held-walk .ensures) (p15 .header-fits .result) (p11 .pads-fit .result) (c .before .count-of .result) (p15 .header-fits .ensures) (p14 .if1 .left) (p11 .pads-fit .ensures) (d .before .before .before .before .before .before .before .before .before .before .if2 .left) (d .before .if3 .left) (d .if4 .left) (c .before .count-of .ensures .0) (c .if5 .left)
+    torn-last (p17 .args .table .now) (p13 .logs-of .result) (p12 .slots-of .result) (counted (p17 .args .table .now) (p13 .logs-of .result) (p12 .slots-of .result) (p15 .header-fits .result) (p15 .header-fits .ensures) (p14 .if1 .left) (p13 .logs-of .ensures .0) (p12 .slots-of .ensures .0)) (d .before .before .before .before .before .before .before .count .given .0 .0) _ (d .before .before .before .held .given .0 .0) (sym (d .before .before .before .before .before .before .before .count .given .1) ∙ d .before .before .before .before .before .before .before .before .before .free-walk .ensures) (sym (d .before .before .before .held .given .1) ∙ d .before .before .before .before .before .held-walk .ensures) (c .before .last-of .result) (c .before .last-of .ensures .0) (c .if6 .taken)
+
+returns-9 : tie.Need-returns-9
+returns-9 c =
+    let e = c .before .before in
+    let d = e .before .before in
+    let p11 = d .before .before .before .before .before .before .before .before .before .before .before in
+    let p12 = p11 .before in
+    let p13 = p12 .before in
+    let p14 = p13 .before in
+    let p15 = p14 .before in
+    let p17 = p15 .before .before in
+    is-whole (p17 .args .table .now) (p13 .logs-of .result) (p12 .slots-of .result) (counted (p17 .args .table .now) (p13 .logs-of .result) (p12 .slots-of .result) (p15 .header-fits .result) (p15 .header-fits .ensures) (p14 .if1 .left) (p13 .logs-of .ensures .0) (p12 .slots-of .ensures .0)) (d .before .before .before .before .before .before .before .count .given .0 .0) _ (d .before .before .before .held .given .0 .0) (sym (d .before .before .before .before .before .before .before .count .given .1) ∙ d .before .before .before .before .before .before .before .before .before .free-walk .ensures) (sym (d .before .before .before .held .given .1) ∙ d .before .before .before .before .before .held-walk .ensures) (p15 .header-fits .result) (p11 .pads-fit .result) (e .before .count-of .result) (c .before .last-of .result) (p15 .header-fits .ensures) (p14 .if1 .left) (p11 .pads-fit .ensures) (d .before .before .before .before .before .before .before .before .before .before .if2 .left) (d .before .if3 .left) (d .if4 .left) (e .before .count-of .ensures .0) (e .if5 .left) (c .before .last-of .ensures .0) (c .if6 .left)
 
 pub check-spec : {M : Type 1} → statement M
 check-spec =
@@ -118,4 +136,6 @@ check-spec =
     returns-6
     count-of-requires
     returns-7
-    returns-8)
+    last-of-requires
+    returns-8
+    returns-9)

@@ -1,5 +1,5 @@
 -- `a2m_put::entering::enter` meets its contract. Assumes nothing.
-use Rattle.a2m.proofs.EnterLaws.{slot-good, row-good, next-good, held-1, held-2, held-3, held-4, held-long, some-free, entered, enter-answer}
+use Rattle.a2m.proofs.EnterLaws.{slot-good, row-good, next-good, held-1, held-2, held-3, held-4, held-5, held-long, some-free, last-most-after, entered, enter-answer}
 use Rattle.layout.proofs.HoldsLaws.{holds-counted}
 use Rattle.a2m.proofs.OpenedLaws.{opened-counted, opened-log, free-most, count-most, last-most}
 use native.Mathlib.Omega.{arith}
@@ -62,12 +62,13 @@ put-count-requires c κs =
     let n = opened-counted (a .table .now) (a .view) (p .0) .slots-most in
     (held-long _ _ _ _ _ (held-4 (a .table .now) (a .view) (a .after) (a .value .now) (a .digest .now) (p .0) (λ i. omega (arith, y .slice-known .given i)) (p .1 .0) (p .1 .1 .0) (p .1 .1 .1 .0) (p .1 .1 .1 .1 .0) (p .1 .1 .1 .1 .1) (s .put-slot .last .0) (h .hook .last .0) (r .put-row .last .0) (f .put-free .last .0) (k .link-at .result) (k .link-at .ensures) (s .put-slot .ensures) (h .hook .ensures) (r .put-row .ensures) (f .put-free .ensures)), omega arith)
 
-same-length : tie.Need-same-length
-same-length c = search needs
+last-after-requires : tie.Need-last-after-requires
+last-after-requires c κs = search needs
 
-returns : tie.Need-returns
-returns c =
-    let f = c .before .before .before .before .before .before .before in
+put-last-requires : tie.Need-put-last-requires
+put-last-requires c κs =
+    let n = c .before .before .before .before in
+    let f = n .before .before .before .before .before in
     let r = f .before .before .before .before in
     let h = r .before .before .before .before in
     let s = h .before .before .before .before in
@@ -75,7 +76,25 @@ returns c =
     let y = k .before .before .before .before .before in
     let p = y .before .pre in
     let a = y .before .args in
-    (enter-answer (a .view) (a .after) (p .1 .1 .0), (refl, entered (a .table .now) (a .view) (a .after) (a .value .now) (a .digest .now) (p .0) (λ i. omega (arith, y .slice-known .given i)) (p .1 .0) (p .1 .1 .0) (p .1 .1 .1 .0) (p .1 .1 .1 .1 .0) (p .1 .1 .1 .1 .1) (s .put-slot .last .0) (h .hook .last .0) (r .put-row .last .0) (f .put-free .last .0) (c .before .before .put-count .last .0) (k .link-at .result) (k .link-at .ensures) (s .put-slot .ensures) (h .hook .ensures) (r .put-row .ensures) (f .put-free .ensures) (c .before .before .put-count .ensures)))
+    let m = last-most-after (a .table .now) (a .view) (a .after) (a .value .now) (a .digest .now) (p .0) (λ i. omega (arith, y .slice-known .given i)) (p .1 .0) (p .1 .1 .0) (p .1 .1 .1 .0) (p .1 .1 .1 .1 .0) (p .1 .1 .1 .1 .1) (k .link-at .result .next) in
+    let z = opened-counted (a .table .now) (a .view) (p .0) .slots-most in
+    (held-long _ _ _ _ _ (held-5 (a .table .now) (a .view) (a .after) (a .value .now) (a .digest .now) (p .0) (λ i. omega (arith, y .slice-known .given i)) (p .1 .0) (p .1 .1 .0) (p .1 .1 .1 .0) (p .1 .1 .1 .1 .0) (p .1 .1 .1 .1 .1) (s .put-slot .last .0) (h .hook .last .0) (r .put-row .last .0) (f .put-free .last .0) (n .put-count .last .0) (k .link-at .result) (k .link-at .ensures) (s .put-slot .ensures) (h .hook .ensures) (r .put-row .ensures) (f .put-free .ensures) (n .put-count .ensures)), omega (arith, c .last-after .ensures))
+
+same-length : tie.Need-same-length
+same-length c = search needs
+
+returns : tie.Need-returns
+returns c =
+    let n = c .before .before .before .before .before .before .before in
+    let f = n .before .before .before .before .before in
+    let r = f .before .before .before .before in
+    let h = r .before .before .before .before in
+    let s = h .before .before .before .before in
+    let k = s .before .before in
+    let y = k .before .before .before .before .before in
+    let p = y .before .pre in
+    let a = y .before .args in
+    (enter-answer (a .view) (a .after) (p .1 .1 .0), (refl, entered (a .table .now) (a .view) (a .after) (a .value .now) (a .digest .now) (p .0) (λ i. omega (arith, y .slice-known .given i)) (p .1 .0) (p .1 .1 .0) (p .1 .1 .1 .0) (p .1 .1 .1 .1 .0) (p .1 .1 .1 .1 .1) (s .put-slot .last .0) (h .hook .last .0) (r .put-row .last .0) (f .put-free .last .0) (n .put-count .last .0) (c .before .before .put-last .last .0) (k .link-at .result) (c .before .before .before .last-after .result) (k .link-at .ensures) (s .put-slot .ensures) (h .hook .ensures) (r .put-row .ensures) (f .put-free .ensures) (n .put-count .ensures) (c .before .before .before .last-after .ensures) (c .before .before .put-last .ensures)))
 
 pub enter-spec : {M : Type 1} → statement M
 enter-spec =
@@ -89,6 +108,8 @@ enter-spec =
     put-free-requires
     sub-put-count
     put-count-requires
+    last-after-requires
+    put-last-requires
     same-length
     returns)
 

@@ -1,0 +1,15 @@
+-- `layout_header::last_of` meets its contract.
+use Rattle.layout.specs.Layout.{stockOf}
+use borrow.Author.Needs.{needs}
+use Rattle.layout_header.proofs.last_of.Statement.{statement}
+use Rattle.layout_header.proofs.last_of.Tie as tie
+
+pair-at-requires : tie.Need-pair-at-requires
+pair-at-requires c κs = search needs
+
+returns : tie.Need-returns
+unfolding stockOf
+returns c = c .pair-at .ensures
+
+pub last-of-spec : {M : Type 1} → statement M
+last-of-spec = tie.close (tie.spec pair-at-requires returns)
