@@ -1,5 +1,6 @@
 pub mod Accepted
 pub mod Along
+pub mod Backed
 pub mod Changes
 pub mod Demand3
 pub mod Entries
@@ -23,9 +24,11 @@ pub mod Reading
 pub mod Refusals
 pub mod Remembers
 pub mod Represents
+pub mod SameLog
 pub mod Shown
 pub mod Skipped
 pub mod Sound
+pub mod Stage
 pub mod Standings
 pub mod Step
 pub mod TableClaim
