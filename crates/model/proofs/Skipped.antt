@@ -34,7 +34,7 @@ use Rattle.model.proofs.Shown.{shown-kind, length-LOOKUP}
 use Rattle.model.proofs.Along.{Keeps}
 use Rattle.model.proofs.Lookups.{foundAs}
 use Rattle.model.proofs.OfTable.{table-step}
-use Rattle.model.proofs.OfWhole.{log-in, model-sound}
+use Rattle.model.proofs.OfWhole.{log-in, model-sound, whole-linked}
 use Rattle.model.proofs.Verified.{whole-keeps, found-in}
 
 -- of position n of a log a shows the entry at its reference, value and digest the entry's own: that is the next one above n, and none stands at n
@@ -68,7 +68,7 @@ module _ (m : Image) (w : wholeImage m ≡ true) (g n : ℕ) (c : List ℕ) (n1 
   unfolding logIn lookupAttested foundAs referenceOf shownFor rules rules01
   skipped-shows two =
       let l = logIn m g in
-      let ok : LogOk l = subst LogOk (log-in m g) (model-sound m w g) in
+      let ok : LogOk l = subst LogOk (log-in m g) (model-sound m (whole-linked m w) g) in
       let f = found-in m g n ok n1 in
       let s = skipped-only (standing l n) (ap (λ (x : Found). x .kind) (sym f) ∙ two) in
       let e = s .0 in

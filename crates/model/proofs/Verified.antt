@@ -34,7 +34,7 @@ use Rattle.model.specs.Question.{questionOf, nonceOf, valuesIn, valuesOf
 use Rattle.model.proofs.Represents.{LogOk}
 use Rattle.model.proofs.Lookups.{foundAs, lookup-is}
 use Rattle.model.proofs.Along.{Keeps}
-use Rattle.model.proofs.OfWhole.{log-in, model-sound}
+use Rattle.model.proofs.OfWhole.{log-in, model-sound, whole-linked}
 use Rattle.model.proofs.OfTable.{table-step}
 use Rattle.model.proofs.Accepted.{attests, step-verified}
 
@@ -56,7 +56,7 @@ slot-sizes m f (suc i) = (f .slots i .value, f .slots i .digest)
 pub whole-keeps : (m : Image) → wholeImage m ≡ true → Fits m → Keeps (modelOf m)
 unfolding modelOf logIn entriesIn
 whole-keeps m w f = record {
-  sound = model-sound m w;
+  sound = model-sound m (whole-linked m w);
   keeper = f .keeper;
   fits = λ (g : ℕ). rw (log-in m g) (record {
     high = f .rows g .high;
@@ -75,7 +75,7 @@ module _ (m : Image) (w : wholeImage m ≡ true) where
   unfolding valuesOf valuesIn carried lookupAttested modelOf foundAs
   lookup-values g n c k n1 =
       ap (λ (l : Log). m .keeper ∷ g ∷ n ∷ kindOf (standing l n) ∷ referenceOf l (standing l n) ∷ []) (log-in m g)
-      ∙ ap (λ (f : Found). m .keeper ∷ g ∷ n ∷ f .kind ∷ f .reference ∷ []) (sym (found-in m g n (subst LogOk (log-in m g) (model-sound m w g)) n1))
+      ∙ ap (λ (f : Found). m .keeper ∷ g ∷ n ∷ f .kind ∷ f .reference ∷ []) (sym (found-in m g n (subst LogOk (log-in m g) (model-sound m (whole-linked m w) g)) n1))
 
   end-values : (g : ℕ) (c : List ℕ) (k : ℕ) → valuesOf (modelOf m) (end g c k) ≡ valuesIn m (end g c k)
   unfolding valuesOf valuesIn carried endAttested modelOf logIn
