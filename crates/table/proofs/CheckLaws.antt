@@ -13,14 +13,13 @@ use Rattle.layout.specs.Image.{Image}
 use Rattle.layout.specs.Layout.{logsOf, slotsOf, readTable, stockOf}
 use Rattle.layout.specs.Fits.{Counted}
 use Rattle.table.specs.declared.Walk.the-variants as walked
-use Rattle.table.specs.declared.Held.{Held}
 use Rattle.table.specs.declared.Held.the-variants as held
 use Rattle.table.specs.declared.Check.{Check}
 use Rattle.table.specs.declared.Check.the-variants as check
 use Rattle.table.specs.Chains.{lastOf}
 use Rattle.table.specs.Free.{freeChain, joint}
-use Rattle.table.specs.Reserve.{lackFrom, lackBut, lackAll}
-use Rattle.table.specs.Walks.{walkOf, heldOf}
+use Rattle.table.specs.Reserve.{lackBut, lackAll}
+use Rattle.table.specs.Walks.{walkOf, heldWalk}
 use Rattle.table.specs.WholeImage.{freeOk, rowsOk, heldBy, meets, linked, wholeImage}
 use Rattle.table.specs.Whole.{whole, stockFits, wholeRefusal, checked, checkOf}
 use Rattle.layout.specs.Tests.{headerFits, padsFit}
@@ -57,22 +56,16 @@ module _ (b : List ℕ) (logs slots : ℕ) (c : Counted b logs slots) where
   unfolding wholeImage
   torn-free e = torn-image b (and-no _ (and-no _ (and-no _ (walk-broken (freeOk (readTable b)) (freeChain (readTable b)) e))))
 
-  -- what the walk of all logs answers, for a call on log g
-  abbrev heldIs : ℕ → Held
-  heldIs g =
-      let m : Image = readTable b in
-      heldOf (rowsOk (m .slots) 0 (m .rows)) (heldBy (m .slots) 0 (m .rows)) (lackFrom (m .slots) (length (m .rows)) 0 (m .rows)) (lackFrom (m .slots) g 0 (m .rows))
-
-  pub torn-held : (g : ℕ) → held.Broken ≡ heldIs g → check.Torn ≡ checkOf b g
-  unfolding wholeImage
+  pub torn-held : (g : ℕ) → held.Broken ≡ heldWalk (readTable b) g → check.Torn ≡ checkOf b g
+  unfolding wholeImage heldWalk
   torn-held g e = torn-image b (and-no _ (and-no _ (and-not (freeOk (readTable b)) (held-broken (rowsOk (readTable b .slots) 0 (readTable b .rows)) (heldBy (readTable b .slots) 0 (readTable b .rows)) _ _ e)))) g
 
-  module _ (count last n lack others g : ℕ) (free : walked.Met count last ≡ walkOf (freeOk (readTable b)) (freeChain (readTable b))) (held : held.Slots n lack others ≡ heldIs g) where
+  module _ (count last n lack others g : ℕ) (free : walked.Met count last ≡ walkOf (freeOk (readTable b)) (freeChain (readTable b))) (held : held.Slots n lack others ≡ heldWalk (readTable b) g) where
     f : (freeOk (readTable b) ≡ true) × (length (freeChain (readTable b)) ≡ count) × (lastOf (freeChain (readTable b)) ≡ last)
     f = walk-met (freeOk (readTable b)) (freeChain (readTable b)) count last free
 
     h : (rowsOk (readTable b .slots) 0 (readTable b .rows) ≡ true) × (length (heldBy (readTable b .slots) 0 (readTable b .rows)) ≡ n) × (lackAll (readTable b) ≡ lack) × (lackBut (readTable b) g ≡ others)
-    unfolding lackAll lackBut
+    unfolding heldWalk
     h = held-slots (rowsOk (readTable b .slots) 0 (readTable b .rows)) (heldBy (readTable b .slots) 0 (readTable b .rows)) _ _ n lack others held
 
     total : length (meets (readTable b)) ≡ count + n

@@ -11,13 +11,13 @@ use lib.Dec.{eqb}
 use lib.ListN.{length, drop, length-append, drop-of-length-le}
 use lib.Seq.{drop-cons}
 use Rattle.layout.specs.declared.Row.{Row}
-use Rattle.layout.specs.Image.{Slot, rowAt, freshRow}
+use Rattle.layout.specs.Image.{Slot, Image, rowAt, freshRow}
 use Rattle.table.specs.declared.Walk.the-variants.{Met, Broken}
 use Rattle.table.specs.declared.Held.{Held}
 use Rattle.table.specs.declared.Held.the-variants as held
 use Rattle.table.specs.Chains.{chain, lastOf}
-use Rattle.table.specs.Reserve.{lackIn, lackFrom}
-use Rattle.table.specs.Walks.{walkOf, heldOf, rowWalk}
+use Rattle.table.specs.Reserve.{lackIn, lackFrom, lackBut, lackAll}
+use Rattle.table.specs.Walks.{walkOf, heldOf, heldWalk, rowWalk}
 use Rattle.table.specs.WholeImage.{rowOk, rowsOk, heldBy}
 use Rattle.table.proofs.WalkLaws.{chain-short}
 
@@ -51,13 +51,6 @@ module _ (slots : List Slot) (top log : ℕ) where
   -- the rows from log g on
   abbrev pub heldFrom : ℕ → List Row → Held
   heldFrom g rows = heldOf (rowsOk slots g rows) (heldBy slots g rows) (lackFrom slots top g rows) (lackFrom slots log g rows)
-
-  pub held-first : (rows : List Row) → heldFrom 0 rows ≡ plus 0 0 0 (heldFrom 0 (drop 0 rows))
-  held-first rows = go (heldFrom 0 rows)
-    where
-      go : (h : Held) → h ≡ plus 0 0 0 h
-      go held.Broken = refl
-      go (held.Slots k p q) = held-eq (sym (zero-add k)) (sym (zero-add p)) (sym (zero-add q))
 
   module _ (rows : List Row) (x : Held) (n l o g : ℕ) (inv : x ≡ plus n l o (heldFrom g (drop g rows))) where
     pub held-last : length rows ≤ g → held.Slots n l o ≡ x
@@ -101,3 +94,20 @@ module _ (slots : List Slot) (top log : ℕ) where
             more : (t : Bool) (c d : List ℕ) {p q a b : ℕ} (u v : ℕ) → length c ≡ count → p ≡ a → q ≡ b → plus n l o (heldOf t (c ++ d) (p + u) (q + v)) ≡ plus (n + count) (l + a) (o + b) (heldOf t d u v)
             more true c d u v f e₁ e₂ = held-eq (omega (arith, length-append c d)) (omega arith) (omega arith)
             more false c d u v f e₁ e₂ = refl
+
+-- before the first row
+pub held-first : (m : Image) (log : ℕ) → heldWalk m log ≡ plus 0 0 0 (heldFrom (m .slots) (length (m .rows)) log 0 (drop 0 (m .rows)))
+unfolding heldWalk lackAll lackBut
+held-first m log = go (heldFrom (m .slots) (length (m .rows)) log 0 (m .rows))
+  where
+    go : (h : Held) → h ≡ plus 0 0 0 h
+    go held.Broken = refl
+    go (held.Slots k p q) = held-eq (sym (zero-add k)) (sym (zero-add p)) (sym (zero-add q))
+
+-- a log adds no more to the others' lack than it lacks
+pub own-most : (g log lack : ℕ) {own : ℕ} → own ≡ cond (eqb g log) 0 lack → own ≤ lack
+own-most g log lack = go (eqb g log)
+  where
+    go : (t : Bool) {own : ℕ} → own ≡ cond t 0 lack → own ≤ lack
+    go true e = omega arith
+    go false e = omega arith

@@ -10,13 +10,11 @@ ghost use mathlib.Core.Path.{_≡_};
 ghost use mathlib.Core.Bool.{cond};
 ghost use Prim.Native.Nat.{_-_, _≤_, _<_};
 ghost use lib.Dec.{eqb};
-ghost use lib.ListN.{length};
 ghost use Rattle.layout.specs.Layout.{readTable};
 ghost use Rattle.layout.specs.Fits.{Counted};
 ghost use Rattle.table.specs.Free.{freeChain};
-ghost use Rattle.table.specs.Reserve.{lackFrom};
-ghost use Rattle.table.specs.Walks.{walkOf, heldOf, rowWalk, startedWalk};
-ghost use Rattle.table.specs.WholeImage.{fresh, freeOk, rowsOk, heldBy};
+ghost use Rattle.table.specs.Walks.{walkOf, heldWalk, rowWalk, startedWalk};
+ghost use Rattle.table.specs.WholeImage.{fresh, freeOk};
 
 // Whether a row is a fresh log's.
 fn is_fresh(row: Row) -> bool
@@ -140,7 +138,7 @@ fn unless_own(g: usize, log: u64, lack: usize) -> usize
 // The chains of all logs, with what they lack of their reserves, and what all but the given log lack.
 pub fn held_walk(table: &[u8], logs: usize, slots: usize, log: u64) -> Held
     requires { ⌜ Counted (now table) logs slots ⌝ }
-    ensures { λ r. ⌜ r ≡ heldOf (rowsOk (readTable (now (table .entry)) .slots) 0 (readTable (now (table .entry)) .rows)) (heldBy (readTable (now (table .entry)) .slots) 0 (readTable (now (table .entry)) .rows)) (lackFrom (readTable (now (table .entry)) .slots) (length (readTable (now (table .entry)) .rows)) 0 (readTable (now (table .entry)) .rows)) (lackFrom (readTable (now (table .entry)) .slots) log 0 (readTable (now (table .entry)) .rows)) ⌝ }
+    ensures { λ r. ⌜ r ≡ heldWalk (readTable (now (table .entry))) log ⌝ }
 {
     let mut held = 0;
     let mut lack = 0;
