@@ -9,6 +9,7 @@ pub mod Fresh
 pub mod History
 pub mod ImageClaim
 pub mod Jumped
+pub mod Lacking
 pub mod Later
 pub mod Lookups
 pub mod MarkedSet
@@ -29,6 +30,7 @@ pub mod Shown
 pub mod Skipped
 pub mod Sound
 pub mod Stage
+pub mod StageLog
 pub mod Standings
 pub mod Step
 pub mod TableClaim

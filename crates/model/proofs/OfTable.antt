@@ -18,16 +18,18 @@ use Rattle.a2m.proofs.FitsAfter.{step-fits}
 use Rattle.a2m.proofs.Written.{step-written}
 use Rattle.model.specs.Model.{rules, modelStep}
 use Rattle.model.specs.ModelOf.{modelOf}
-use Rattle.model.proofs.OfWhole.{model-says, model-sound, whole-step}
+use Rattle.model.proofs.OfWhole.{model-says, model-sound, whole-linked, model-backed, whole-step}
 use Rattle.model.proofs.TableClaim.{Stands, in-range, table-whole}
 
 module _ (b : List ℕ) (h : Bytes b) (w : whole b ≡ true) where
   stands : Stands (readTable b) (modelOf (readTable b))
   stands =
-      let says = model-says (readTable b) (whole-image b w) in
+      let l = whole-linked (readTable b) (whole-image b w) in
+      let says = model-says (readTable b) l in
       record {
         says = says;
-        sound = model-sound (readTable b) (whole-image b w);
+        sound = model-sound (readTable b) l;
+        backed = model-backed (readTable b) (whole-image b w);
         fits = fits-read b h (whole-formed b w);
         counts = rw (sym (says .count) ∙ length-rows b, sym (says .size) ∙ length-slots b) (whole-range b w);
       }
