@@ -14,13 +14,14 @@ use Rattle.table.specs.Format.{formatted}
 use Rattle.table.specs.Reserve.{sum}
 use Rattle.table.proofs.FillLaws.{length-queue}
 use Rattle.table.proofs.FormattedLaws.{formatted-image}
+use Rattle.table.proofs.ReserveLaws.{whole-linked}
 use Rattle.table.proofs.WalkLaws.{chain-none}
 use Rattle.a2m.specs.ImageCalls.{rowIn, entriesIn}
 use Rattle.model.specs.Log.{freshLog, lastEntry}
 use Rattle.model.specs.Model.{Model, newModel, logAt}
 use Rattle.model.specs.ModelOf.{logIn, modelOf}
 use Rattle.model.proofs.Represents.{Rep, LogOk, Sound}
-use Rattle.model.proofs.OfWhole.{log-in, model-says, whole-linked}
+use Rattle.model.proofs.OfWhole.{log-in, model-says}
 
 module _ (S keeper : ℕ) (key reserves : List ℕ) where
   fresh-log : (g : ℕ) → logIn (formatted S keeper key reserves) g ≡ logAt (map freshLog reserves) g

@@ -8,11 +8,12 @@ use native.Mathlib.Omega.{arith}
 use native.Mathlib.Nat.{zero-add, add-zero, add-suc, suc-add}
 use lib.ListN.{length}
 use lib.Dec.{leb}
-use borrow.Author.Tests.{eq-eqb, ne-eqb, leb-true, le-leb}
+use borrow.Author.Tests.{eq-eqb, le-leb}
 use Rattle.layout.specs.declared.Row.{Row}
 use Rattle.layout.specs.Image.{Slot, Image, rowAt}
 use Rattle.table.specs.Free.{freeChain}
 use Rattle.table.specs.Reserve.{heldIn, lackIn, lackFrom, lackBut, lackAll}
+use Rattle.table.proofs.ReserveLaws.{lack-in}
 use Rattle.a2m.specs.ImageCalls.{rowIn}
 use Rattle.model.specs.Log.{Log, lack}
 use Rattle.model.specs.Model.{Model, logAt, total, lacks, lacksBut}
@@ -38,7 +39,7 @@ lack-all slots g k (r ∷ rs) [] e h n = absurd (omega arith)
 lack-all slots g k (r ∷ rs) (l ∷ ls) e h n =
     let other : k ≢ g = λ (z : k ≡ g). n 0 (omega arith) (omega arith) in
     let first : lackIn slots k r ≡ lack l = rw add-zero at (h 0) in
-    ap₂ (λ (x y : ℕ). x + y) (ap (λ (t : Bool). cond t 0 (lackIn slots k r)) (ne-eqb k g other) ∙ first)
+    ap₂ (λ (x y : ℕ). x + y) (lack-in slots g k r other ∙ first)
     (lack-all slots g (suc k) rs ls (omega arith) (next-alike slots k r rs l ls h) (λ (i : ℕ) (q : i < length rs) (z : suc k + i ≡ g). n (suc i) (omega arith) (omega arith)))
 
 -- log g is the one at i
@@ -54,7 +55,7 @@ lack-but slots zero k (r ∷ rs) (l ∷ ls) e h =
 lack-but slots (suc i) k (r ∷ rs) (l ∷ ls) e h =
     let first : lackIn slots k r ≡ lack l = rw add-zero at (h 0) in
     let at : suc k + i ≡ k + suc i = omega arith in
-    ap₂ (λ (x y : ℕ). x + y) (ap (λ (t : Bool). cond t 0 (lackIn slots k r)) (ne-eqb k (k + suc i) (λ (z : k ≡ k + suc i). omega arith)) ∙ first)
+    ap₂ (λ (x y : ℕ). x + y) (lack-in slots (k + suc i) k r (λ (z : k ≡ k + suc i). omega arith) ∙ first)
     (subst (λ (g : ℕ). lackFrom slots g (suc k) rs ≡ lacksBut i ls) at (lack-but slots i (suc k) rs ls (omega arith) (next-alike slots k r rs l ls h)))
 
 -- ---- an image that says a model
@@ -81,8 +82,7 @@ module _ (m : Image) (b : Model) (R : Rep m b) where
   pub enough-of : Backed b → leb (lackAll m) (length (freeChain m)) ≡ true
   enough-of k = le-leb (lackAll m) (length (freeChain m)) (omega (arith, k, lack-all-is, free-is))
 
-  pub of-enough : leb (lackAll m) (length (freeChain m)) ≡ true → Backed b
+  pub of-enough : lackAll m ≤ length (freeChain m) → Backed b
   of-enough h =
-      let le = leb-true (lackAll m) (length (freeChain m)) h in
       let s : total (b .logs) ≤ b .size = omega (arith, R .sum, R .size) in
-      omega (arith, le, s, lack-all-is, free-is)
+      omega (arith, h, s, lack-all-is, free-is)

@@ -11,6 +11,7 @@ use Rattle.layout.specs.Fits.{Range}
 use Rattle.layout.proofs.TableLaws.{length-rows, length-slots, fits-read}
 use Rattle.table.specs.Whole.{whole}
 use Rattle.table.proofs.WholeLaws.{whole-formed, whole-range, whole-image, read-write, write-read}
+use Rattle.table.proofs.ReserveLaws.{whole-linked}
 use Rattle.a2m.specs.Call.{Call, Wide, AllWide, Effect, after}
 use Rattle.a2m.specs.ImageCalls.{imageStep}
 use Rattle.a2m.specs.TableCalls.{written, tableStep}
@@ -18,7 +19,7 @@ use Rattle.a2m.proofs.FitsAfter.{step-fits}
 use Rattle.a2m.proofs.Written.{step-written}
 use Rattle.model.specs.Model.{rules, modelStep}
 use Rattle.model.specs.ModelOf.{modelOf}
-use Rattle.model.proofs.OfWhole.{model-says, model-sound, whole-linked, model-backed, whole-step}
+use Rattle.model.proofs.OfWhole.{model-says, model-sound, model-backed, whole-step}
 use Rattle.model.proofs.TableClaim.{Stands, in-range, table-whole}
 
 module _ (b : List ℕ) (h : Bytes b) (w : whole b ≡ true) where

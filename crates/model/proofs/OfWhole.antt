@@ -9,7 +9,6 @@ use lib.ListN.{length, length-append, length-map, List·getD-eq-default}
 use lib.Seq.{ext-getD}
 use lib.Dec.{ltb}
 use borrow.Author.Tests.{ltb-true, ltb-false}
-use Rattle.octets.proofs.Tests.{and-left, and-right}
 use Rattle.layout.specs.declared.Row.{Row}
 use Rattle.layout.specs.Lists.{tabulate}
 use Rattle.layout.specs.Image.{Image, entryOf, slotAt, freshRow}
@@ -17,6 +16,7 @@ use Rattle.layout.proofs.ListLaws.{length-tabulate, getD-tabulate}
 use Rattle.table.specs.Chains.{chain, lastOf, entriesOf}
 use Rattle.table.specs.Free.{freeChain}
 use Rattle.table.specs.WholeImage.{heldBy, meets, linked, wholeImage}
+use Rattle.table.proofs.ReserveLaws.{whole-linked, whole-lack}
 use Rattle.a2m.specs.Call.{Call, Effect}
 use Rattle.a2m.specs.ImageCalls.{rowIn, entriesIn, imageStep}
 use Rattle.a2m.proofs.Links.{chain-links}
@@ -99,14 +99,9 @@ rep-model m b R =
 
 -- ---- calls on a whole image
 
-pub whole-linked : (m : Image) → wholeImage m ≡ true → linked m ≡ true
-unfolding wholeImage
-whole-linked m w = and-left (linked m) _ w
-
 -- the slots promised are there
 pub model-backed : (m : Image) → wholeImage m ≡ true → Backed (modelOf m)
-unfolding wholeImage
-model-backed m w = of-enough m (modelOf m) (model-says m (whole-linked m w)) (and-right (linked m) _ w)
+model-backed m w = of-enough m (modelOf m) (model-says m (whole-linked m w)) (whole-lack m w)
 
 -- a call answers as the model, leaves an image that says the model after, and that is whole
 pub record Follows (m : Image) (call : Call) (o : Effect Image) : Type 0 where

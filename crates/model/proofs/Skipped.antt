@@ -16,6 +16,7 @@ use Rattle.layout.specs.Layout.{readTable}
 use Rattle.layout.proofs.TableLaws.{fits-read}
 use Rattle.table.specs.Whole.{whole}
 use Rattle.table.specs.WholeImage.{wholeImage}
+use Rattle.table.proofs.ReserveLaws.{whole-linked}
 use Rattle.table.proofs.WholeLaws.{whole-formed, whole-image}
 use Rattle.a2m.specs.Call.{lookup, receiptIn}
 use Rattle.a2m.specs.Search.{Found, lookedUp}
@@ -34,7 +35,7 @@ use Rattle.model.proofs.Shown.{shown-kind, length-LOOKUP}
 use Rattle.model.proofs.Along.{Keeps}
 use Rattle.model.proofs.Lookups.{foundAs}
 use Rattle.model.proofs.OfTable.{table-step}
-use Rattle.model.proofs.OfWhole.{log-in, model-sound, whole-linked}
+use Rattle.model.proofs.OfWhole.{log-in, model-sound}
 use Rattle.model.proofs.Verified.{whole-keeps, found-in}
 
 -- of position n of a log a shows the entry at its reference, value and digest the entry's own: that is the next one above n, and none stands at n

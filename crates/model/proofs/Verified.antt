@@ -20,6 +20,7 @@ use Rattle.layout.proofs.TableLaws.{length-rows, fits-read}
 use Rattle.table.specs.Chains.{chain}
 use Rattle.table.specs.Whole.{whole}
 use Rattle.table.specs.WholeImage.{wholeImage}
+use Rattle.table.proofs.ReserveLaws.{whole-linked}
 use Rattle.table.proofs.WholeLaws.{whole-formed, whole-range, whole-image}
 use Rattle.a2m.specs.Call.{Call, append, advance, truncate, lookup, end, logOf, Wide, receiptIn}
 use Rattle.a2m.specs.Search.{Found, lookedUp}
@@ -34,7 +35,7 @@ use Rattle.model.specs.Question.{questionOf, nonceOf, valuesIn, valuesOf
 use Rattle.model.proofs.Represents.{LogOk}
 use Rattle.model.proofs.Lookups.{foundAs, lookup-is}
 use Rattle.model.proofs.Along.{Keeps}
-use Rattle.model.proofs.OfWhole.{log-in, model-sound, whole-linked}
+use Rattle.model.proofs.OfWhole.{log-in, model-sound}
 use Rattle.model.proofs.OfTable.{table-step}
 use Rattle.model.proofs.Accepted.{attests, step-verified}
 
