@@ -11,10 +11,8 @@ use Rattle.layout.specs.Image.{freshRow}
 use Rattle.layout.proofs.ListLaws.{length-tabulate}
 use Rattle.table.specs.Chains.{entriesOf}
 use Rattle.table.specs.Format.{formatted}
-use Rattle.table.specs.Reserve.{sum}
 use Rattle.table.proofs.FillLaws.{length-queue}
-use Rattle.table.proofs.FormattedLaws.{formatted-image}
-use Rattle.table.proofs.ReserveLaws.{whole-linked}
+use Rattle.table.proofs.FormattedLaws.{formatted-linked}
 use Rattle.table.proofs.WalkLaws.{chain-none}
 use Rattle.a2m.specs.ImageCalls.{rowIn, entriesIn}
 use Rattle.model.specs.Log.{freshLog, lastEntry}
@@ -42,10 +40,10 @@ module _ (S keeper : ℕ) (key reserves : List ℕ) where
       let size = length-queue S in
       λ i. record { size = size i; keeper = keeper; key = key; logs = logs i }
 
-  pub formatted-rep : 1 ≤ S → sum reserves ≤ S → Rep (formatted S keeper key reserves) (newModel S keeper key reserves)
-  formatted-rep h k =
+  pub formatted-rep : 1 ≤ S → Rep (formatted S keeper key reserves) (newModel S keeper key reserves)
+  formatted-rep h =
       let m = formatted S keeper key reserves in
-      subst (λ (b : Model). Rep m b) formatted-model (model-says m (whole-linked m (formatted-image S keeper key reserves h k)))
+      subst (λ (b : Model). Rep m b) formatted-model (model-says m (formatted-linked S keeper key reserves h))
 
 fresh-ok : (reserve : ℕ) → LogOk (freshLog reserve)
 unfolding lastEntry
