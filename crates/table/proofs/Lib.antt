@@ -7,6 +7,7 @@ pub mod CheckLaws
 pub mod FillLaws
 pub mod FormatLaws
 pub mod LinkLaws
+pub mod ReserveLaws
 pub mod ConditionLaws
 pub mod WholeLaws
 pub mod FormattedLaws
