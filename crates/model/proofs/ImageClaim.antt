@@ -2,7 +2,7 @@
 use Prim.Native.Nat.{ℕ, _^_, _≤_, _<_}
 use mathlib.Core.Path.{_≡_, refl, sym, ap, ap₂, subst, _∙_}
 use mathlib.Core.List.{List, [], _∷_, _++_}
-use lib.ListN.{length, getD, List·getD-map}
+use lib.ListN.{length, List·getD-map}
 use lib.Dec.{lit<}
 use Rattle.layout.specs.Image.{Entry, Image}
 use Rattle.a2m.specs.Call.{Call, Reply, replies, works, after, Wide, AllWide}

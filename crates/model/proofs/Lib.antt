@@ -2,6 +2,7 @@ pub mod Accepted
 pub mod Along
 pub mod Backed
 pub mod Changes
+pub mod Crowded
 pub mod Demand3
 pub mod Entries
 pub mod FreeHolds

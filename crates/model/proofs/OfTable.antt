@@ -3,11 +3,8 @@ use Prim.Native.Nat.{ℕ}
 use mathlib.Core.Path.{_≡_, sym, ap, _∙_}
 use mathlib.Core.List.{List, [], _∷_}
 use mathlib.Core.Bool.{true}
-use lib.ListN.{length}
 use Rattle.octets.specs.Octets.{Bytes}
-use Rattle.layout.specs.Image.{Image}
 use Rattle.layout.specs.Layout.{readTable}
-use Rattle.layout.specs.Fits.{Range}
 use Rattle.layout.proofs.TableLaws.{length-rows, length-slots, fits-read}
 use Rattle.table.specs.Whole.{whole}
 use Rattle.table.proofs.WholeLaws.{whole-formed, whole-range, whole-image, read-write, write-read}

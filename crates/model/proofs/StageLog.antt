@@ -1,7 +1,7 @@
 -- Request [5], "A stage log asked to append or advance only while it holds fewer entries than its reserve then gives the same calls in the same order the same
 -- answers and receipts after one formatting, the table passed on as in demand 3, however the other logs are called", on bytes.
 use Prim.Native.Nat.{ℕ, _^_, _<_}
-use mathlib.Core.Path.{_≡_, sym, ap, ap₂, subst, _∙_}
+use mathlib.Core.Path.{_≡_, ap, subst, _∙_}
 use mathlib.Core.List.{List, [], _∷_}
 use mathlib.Core.Option.{none}
 use lib.ListN.{length}
@@ -10,7 +10,7 @@ use Rattle.layout.specs.Layout.{readTable}
 use Rattle.table.specs.Free.{writeTable}
 use Rattle.table.specs.Format.{formatted, formatRefusal, formatBytes}
 use Rattle.table.proofs.WholeLaws.{read-write}
-use Rattle.a2m.specs.Call.{Call, logOf, Puts, AllWide, Reply, Effect, replies, works}
+use Rattle.a2m.specs.Call.{Call, logOf, Puts, AllWide, Effect, replies, works}
 use Rattle.a2m.specs.ImageCalls.{rowIn, entriesIn, imageStep}
 use Rattle.a2m.specs.TableCalls.{tableStep}
 use Rattle.a2m.proofs.Written.{step-written}
