@@ -1,6 +1,6 @@
 -- Two models with one log in common: a call on that log, made while it holds fewer entries than its reserve, answers alike in both and leaves the log alike;
 -- a call on another log leaves it.
-use Prim.Native.Nat.{ℕ, suc, _-_, _^_, _<_}
+use Prim.Native.Nat.{ℕ, _-_, _^_, _<_}
 use mathlib.Core.Path.{_≡_, refl, sym, ap, subst, _∙_}
 use mathlib.Core.Logic.{_≢_}
 use mathlib.Core.Bool.{Bool, true, false, cond, _||_}
@@ -10,8 +10,7 @@ use lib.Seq.{getD-set-same, getD-set-other}
 use lib.Dec.{eqb, leb}
 use borrow.Author.Tests.{leb-false}
 use Rattle.a2m.specs.Call.{Call, append, advance, truncate, lookup, end, logOf, Puts, done, Effect}
-use Rattle.a2m.specs.NewEntry.{newEntry}
-use Rattle.model.specs.Log.{Log, freshLog, lastEntry, entered, cutAt}
+use Rattle.model.specs.Log.{Log, freshLog}
 use Rattle.model.specs.Model.{Model, logAt, withLog, not32, slotRule, rules01, rules, modelRefusal, modelReceipt, modelLookup, modelEnd, modelDone, modelAccept, modelStep}
 use Rattle.model.proofs.Passed.{Passed, passed, Stepped, turned, taken, stepped}
 use Rattle.model.proofs.Backed.{Backed, room}
@@ -105,9 +104,9 @@ module _ (b d : Model) (kb : Backed b) (kd : Backed d) where
 
   accept-alike : (c : Call) → Same (logOf c) b d → Passed rules b c → Alike (logOf c) (modelAccept rules b c) (modelAccept rules d c)
   unfolding modelAccept modelLookup modelEnd modelReceipt
-  accept-alike (append g x) s a = done-alike 2 g s (a .log) _ _ (ap (λ (l : Log). entered l (newEntry (suc (l .high)) x (lastEntry (l .entries) .digest))) (s .log))
-  accept-alike (advance g n y x) s a = done-alike 2 g s (a .log) _ _ (ap (λ (l : Log). entered l (newEntry n x y)) (s .log))
-  accept-alike (truncate g n) s a = done-alike 0 g s (a .log) _ _ (ap (λ (l : Log). cutAt n l) (s .log))
+  accept-alike (append g x) s a = done-alike _ g s (a .log) _ _ (rw (s .log))
+  accept-alike (advance g n y x) s a = done-alike _ g s (a .log) _ _ (rw (s .log))
+  accept-alike (truncate g n) s a = done-alike _ g s (a .log) _ _ (rw (s .log))
   accept-alike (lookup g n c r) s a = record { reply = rw (s .log, s .key, s .keeper); blocks = refl; state = s }
   accept-alike (end g c r) s a = record { reply = rw (s .log, s .key, s .keeper); blocks = refl; state = s }
 
