@@ -54,7 +54,7 @@ read-row r h =
     let e : List ℕ = be 2 (r .last) in
     let v : List ℕ = be 2 (r .reserve) in
     let past : (a n : ℕ) → part (l ++ (m ++ (f ++ (e ++ v)))) (8 + (8 + a)) n ≡ part (f ++ (e ++ v)) a n =
-        λ a n. skip l (m ++ (f ++ (e ++ v))) 8 (8 + a) n (length-be 8 (r .low)) ∙ skip m (f ++ (e ++ v)) 8 a n (length-be 8 (r .high)) in
+    λ a n. skip l (m ++ (f ++ (e ++ v))) 8 (8 + a) n (length-be 8 (r .low)) ∙ skip m (f ++ (e ++ v)) 8 a n (length-be 8 (r .high)) in
     λ i. record {
       low = (ap unbe (here l (m ++ (f ++ (e ++ v))) 8 (length-be 8 (r .low))) ∙ unbe-be 8 (r .low) (h .low)) i;
       high = (ap unbe (skip l (m ++ (f ++ (e ++ v))) 8 0 8 (length-be 8 (r .low)) ∙ here m (f ++ (e ++ v)) 8 (length-be 8 (r .high))) ∙ unbe-be 8 (r .high) (h .high)) i;

@@ -3,9 +3,9 @@ use Prim.Native.Nat.{ℕ, zero, suc, _+_, _-_, _≤_, _<_}
 use mathlib.Core.Path.{_≡_, refl, sym, ap, ap₂, _∙_}
 use mathlib.Core.Logic.{_⊎_, inl, inr}
 use mathlib.Core.List.{List, [], _∷_}
-use mathlib.Core.Bool.{Bool, true, false, cond, _&&_, _||_}
+use mathlib.Core.Bool.{Bool, true, false, _&&_, _||_}
 use native.Mathlib.Omega.{arith}
-use borrow.Author.Tests.{eq-eqb, ne-eqb, le-leb, eqb-true, eqb-false, leb-true}
+use borrow.Author.Tests.{eq-eqb, le-leb, eqb-true, eqb-false, leb-true}
 use lib.Dec.{eqb, leb}
 use lib.ListN.{length, length-append}
 use Rattle.octets.specs.Octets.{part, same, zeros}
@@ -16,7 +16,7 @@ use Rattle.layout.specs.Layout.{mark, zeroOffset, padOffset, logsOf, slotsOf, t
 use Rattle.layout.proofs.TableLaws.{length-slots}
 use Rattle.table.specs.Chains.{reaches, chain, lastOf, positionsOf}
 use Rattle.table.specs.Free.{freeChain}
-use Rattle.table.specs.Reserve.{lackIn, lackFrom, lackBut, lackAll}
+use Rattle.table.specs.Reserve.{lackFrom, lackBut, lackAll}
 use Rattle.table.specs.WholeImage.{all, freeOk, fresh, risingFrom, started, rowOk, rowsOk, heldBy, meets, linked, wholeImage}
 use Rattle.layout.specs.Tests.{blank}
 use Rattle.table.specs.Whole.{whole, stockFits}
@@ -28,6 +28,7 @@ use Rattle.table.proofs.WalkLaws.{chain-none}
 use Rattle.layout.proofs.HeaderLaws.{in-range, range-in, header-parts}
 use Rattle.table.proofs.CheckLaws.{length-meets}
 use Rattle.table.proofs.LinkLaws.{links-reach, reach-links}
+use Rattle.table.proofs.ReserveLaws.{lack-in}
 
 -- blank slots
 
@@ -134,10 +135,6 @@ module _ (slots : List Slot) (g : ℕ) (r : Row) where
 
 -- all rows
 
--- a log that is not left out adds its lack
-counted-in : (slots : List Slot) (top g : ℕ) (r : Row) → g < top → cond (eqb g top) 0 (lackIn slots g r) ≡ lackIn slots g r
-counted-in slots top g r h = ap (λ (t : Bool). cond t 0 (lackIn slots g r)) (ne-eqb g top (λ e. omega arith))
-
 -- top is no log's number from g on
 rows-conditions : (slots : List Slot) (top g : ℕ) (rs : List Row) → g + length rs ≤ top → rowsOk slots g rs ≡ true
     → (cs : List (List ℕ)) × Rows slots g rs cs × (totalOf cs ≡ length (heldBy slots g rs)) × (lackWith rs cs ≡ lackFrom slots top g rs)
@@ -147,7 +144,7 @@ rows-conditions slots top g (r ∷ rs) l e =
     let t = and-split (rowOk slots g r) (rowsOk slots (suc g) rs) e in
     let k = rows-conditions slots top (suc g) rs (omega arith) (t .1) in
     let c : List ℕ = chain slots (suc g) (r .first) in
-    (c ∷ k .0, (row-conditions slots g r (t .0), k .1), ap (λ (n : ℕ). length c + n) (k .2) ∙ sym (length-append c (heldBy slots (suc g) rs)), ap₂ _+_ (sym (counted-in slots top g r (omega arith))) (k .3))
+    (c ∷ k .0, (row-conditions slots g r (t .0), k .1), ap (λ (n : ℕ). length c + n) (k .2) ∙ sym (length-append c (heldBy slots (suc g) rs)), ap₂ _+_ (sym (lack-in slots top g r (λ e. omega arith))) (k .3))
 
 rows-test : (slots : List Slot) (top g : ℕ) (rs : List Row) (cs : List (List ℕ)) → g + length rs ≤ top → Rows slots g rs cs → totalOf cs ≤ length slots
     → (rowsOk slots g rs ≡ true) × (length (heldBy slots g rs) ≡ totalOf cs) × (lackFrom slots top g rs ≡ lackWith rs cs)
@@ -158,7 +155,7 @@ rows-test slots top g (r ∷ rs) [] q h l = absurd h
 rows-test slots top g (r ∷ rs) (c ∷ cs) q h l =
     let k = rows-test slots top (suc g) rs cs (omega arith) (h .1) (omega arith) in
     let t = row-test slots g r c (omega arith) (h .0) in
-    (and-yes _ (t .0) ∙ k .0, length-append (chain slots (suc g) (r .first)) (heldBy slots (suc g) rs) ∙ ap₂ _+_ (ap length (t .1)) (k .1), ap₂ _+_ (counted-in slots top g r (omega arith) ∙ ap (λ (d : List ℕ). r .reserve - length d) (t .1)) (k .2))
+    (and-yes _ (t .0) ∙ k .0, length-append (chain slots (suc g) (r .first)) (heldBy slots (suc g) rs) ∙ ap₂ _+_ (ap length (t .1)) (k .1), ap₂ _+_ (lack-in slots top g r (λ e. omega arith) ∙ ap (λ (d : List ℕ). r .reserve - length d) (t .1)) (k .2))
 
 -- zero bytes of slots
 

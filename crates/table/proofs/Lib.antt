@@ -4,6 +4,7 @@ pub mod WalkedLaws
 pub mod TurnLaws
 pub mod HeldLaws
 pub mod CheckLaws
+pub mod SumLaws
 pub mod FillLaws
 pub mod FormatLaws
 pub mod LinkLaws
