@@ -1,5 +1,5 @@
 -- Request [5], "A stage log asked to append or advance only while it holds fewer entries than its reserve": the calls on one log of a list, their answers, and
--- what the log is asked to.
+-- when the log is so asked.
 use Prim.Native.Nat.{ℕ, _<_}
 use mathlib.Core.Path.{_≡_}
 use mathlib.Core.List.{List, [], _∷_}
