@@ -84,8 +84,8 @@ promised m (end g c k) = false
 unfoldable pub faults : Bool → Image → Call → List Fault
 faults torn m call =
     fault 7 (wrongLength call) ∷ fault 1 torn ∷ fault 2 (leb (length (m .rows)) (logOf call)) ∷ fault 3 (misplaced (rowIn m (logOf call)) call) ∷
-    fault 4 (spent (rowIn m (logOf call)) call) ∷ fault 6 (nothingHeld (rowIn m (logOf call)) call) ∷ fault 5 (full m call) ∷
-    fault 16 (promised m call) ∷ []
+    fault 4 (spent (rowIn m (logOf call)) call) ∷ fault 6 (nothingHeld (rowIn m (logOf call)) call) ∷
+    fault 5 (full m call) ∷ fault 16 (promised m call) ∷ []
 
 unfoldable pub imageRefusal : Image → Call → Option ℕ
 imageRefusal m call = firstFault (faults (not (wholeImage m)) m call)

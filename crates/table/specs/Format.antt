@@ -22,9 +22,9 @@ formatted slots keeper key reserves = record { keeper = keeper; key = key; free 
 unfoldable pub formatRefusal : ℕ → ℕ → ℕ → ℕ → List ℕ → Option ℕ
 formatRefusal size logs slots keySize reserves =
     firstFault (
-        fault 8 (not (inRange logs slots)) ∷
-        fault 7 (not (eqb keySize 32 && eqb size (tableSize logs slots) && eqb (length reserves) logs)) ∷
-        fault 8 (ltb slots (sum reserves)) ∷ [])
+    fault 8 (not (inRange logs slots)) ∷
+    fault 7 (not (eqb keySize 32 && eqb size (tableSize logs slots) && eqb (length reserves) logs)) ∷
+    fault 8 (ltb slots (sum reserves)) ∷ [])
 
 -- the buffer after the call; "A refusal changes no lent byte"
 unfoldable pub formatBytes : List ℕ → ℕ → ℕ → ℕ → List ℕ → List ℕ → List ℕ
