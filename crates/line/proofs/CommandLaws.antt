@@ -128,9 +128,12 @@ pub no-numbers : (l w : List ℕ) (fs : List (List ℕ)) → length l ≤ 200 �
 no-numbers l w fs h e o = command-fields l h ∙ ap ofFields e ∙ ap (ofNumbers (wordOf w)) o
 
 -- a malformed line has no reserves
-pub malformed-line : (l : List ℕ) → commandOf l ≡ Malformed → parsed Malformed [] ≡ parsed (commandOf l) (reservesOf l)
+pub malformed-reserves : (l : List ℕ) → commandOf l ≡ Malformed → reservesOf l ≡ []
 unfolding reservesOf
-malformed-line l e = ap (λ (c : Command). parsed c (reservesIn c (numbersIn (fieldsOf l)))) (sym e)
+malformed-reserves l e = ap (λ (c : Command). reservesIn c (numbersIn (fieldsOf l))) e
+
+pub malformed-line : (l : List ℕ) → commandOf l ≡ Malformed → parsed Malformed [] ≡ parsed (commandOf l) (reservesOf l)
+malformed-line l e = ap₂ parsed (sym e) (sym (malformed-reserves l e))
 
 -- a line of a word and numbers
 pub read-line : (r : Line) (l f : List ℕ) (fs : List (List ℕ)) (ns v : List ℕ) (w : Word) (n : ℕ) → length l ≤ 200 → fieldsOf l ≡ f ∷ fs → numbersOf fs ≡ some ns
