@@ -7,7 +7,7 @@ pub use answer::render;
 pub use commands::parse;
 pub use fields::find;
 
-// What a script line says. A format's reserves stand beside it, in `Line`: an enum holds no array.
+// What a script line says. A format's reserves stand beside it, in `Line`: an enum that holds an array is not covered.
 pub enum Command {
     Format {
         logs: u64,
