@@ -21,7 +21,11 @@ const VERIFY_END: usize = 11;
 const CERTIFY: usize = 12;
 const COMPARE: usize = 13;
 
-/// What is spoiled of plain C's first accepted answer to a call, to see that the check finds it.
+/// The numbers that calls return: 15 is for lines of a script.
+const NUMBERS: [usize; 16] = [0, 1, 2, 3, 4, 5, 6, 7, 8, 9, 10, 11, 12, 13, 14, 16];
+
+/// What is spoiled of plain C's first accepted answer to a call, to see that the check finds it. A promise is its first
+/// answer 16.
 #[derive(Clone, Copy, PartialEq, Debug)]
 pub enum Part {
     Number,
@@ -29,6 +33,30 @@ pub enum Part {
     Result,
     Byte,
     BehindTheBuffer,
+    Reserve,
+    Promise,
+}
+
+impl Part {
+    const ALL: [Part; 7] = [
+        Part::Number,
+        Part::Blocks,
+        Part::Result,
+        Part::Byte,
+        Part::BehindTheBuffer,
+        Part::Reserve,
+        Part::Promise,
+    ];
+
+    /// Whether an answer to the call has it.
+    fn is_of(self, call: usize) -> bool {
+        match self {
+            Part::Blocks => ![CHECK, FREE].contains(&call),
+            Part::Reserve => call == FORMAT,
+            Part::Promise => [APPEND, ADVANCE].contains(&call),
+            _ => true,
+        }
+    }
 }
 
 /// Results stand at this before a call, and after a refused one. It is other than 0 in every byte.
@@ -78,7 +106,7 @@ struct Answer {
 pub struct Check {
     random: Random,
     /// Answers by call and number.
-    pub counts: [[u64; 15]; CALLS.len()],
+    pub counts: [[u64; 17]; CALLS.len()],
     /// Accepted comparisons of runs by verdict, and accepted lookups by kind.
     pub verdicts: [u64; 3],
     pub kinds: [u64; 4],
@@ -120,7 +148,7 @@ impl Check {
     pub fn new(seed: u64, spoil: Option<(usize, Part)>) -> Check {
         Check {
             random: Random(seed),
-            counts: [[0; 15]; CALLS.len()],
+            counts: [[0; 17]; CALLS.len()],
             verdicts: [0; 3],
             kinds: [0; 4],
             longest: 0,
@@ -147,7 +175,7 @@ impl Check {
         }
         let (mut plain, keeper) = (both.pop().unwrap(), both.pop().unwrap());
         if let Some((at, part)) = self.spoil {
-            if at == call && plain.0.number == 0 {
+            if at == call && plain.0.number == if part == Part::Promise { 16 } else { 0 } {
                 self.spoil = None;
                 match part {
                     Part::Number => plain.0.number = 1,
@@ -155,6 +183,8 @@ impl Check {
                     Part::Result => plain.1[0] ^= 1,
                     Part::Byte => *plain.2[0].get_mut().last_mut().unwrap() ^= 1,
                     Part::BehindTheBuffer => *plain.2[0].bytes.last_mut().unwrap() ^= 1,
+                    Part::Reserve => plain.2[0].get_mut()[reserve_at(0) + 1] ^= 1,
+                    Part::Promise => plain.0.number = 5,
                 }
             }
         }
@@ -175,7 +205,7 @@ impl Check {
             }
         }
         for (side, (returned, results, own)) in [(&KEEPER, &keeper), (&PLAIN, &plain)] {
-            if returned.number > 14 {
+            if !NUMBERS.contains(&(returned.number as usize)) {
                 wrong.push(format!("{}: no number of a call", side.name));
             }
             if own.iter().any(|b| !b.guarded()) {
@@ -233,10 +263,15 @@ impl Check {
         reports_if_done(TAG, answer, long + padded(64 + text.len()) + padded(64 + 32))
     }
 
-    fn format(&mut self, table: &[u8], g: u64, s: u64, keeper: u64, key: &[u8]) -> Checked<Answer> {
+    fn format(
+        &mut self, table: &[u8], g: u64, s: u64, keeper: u64, key: &[u8], reserves: &[u64],
+    ) -> Checked<Answer> {
+        // Beside them stand numbers that no slots allow, for who reads too far.
+        let lent = [&[u64::MAX], reserves, &[u64::MAX]].concat();
+        let within = &lent[1..=reserves.len()];
         let run =
-            |side: &Side, b: &mut [Lent], _: &mut [u64; 5]| side.format(b[0].get_mut(), g, s, keeper, key);
-        let says = || format!("logs {g}, slots {s}, keeper {keeper}, key {}", hex(key));
+            |side: &Side, b: &mut [Lent], _: &mut [u64; 5]| side.format(b[0].get_mut(), g, s, keeper, key, within);
+        let says = || format!("logs {g}, slots {s}, keeper {keeper}, key {}, reserves {reserves:?}", hex(key));
         let answer = self.case(FORMAT, &[table], run, says)?;
         reports(FORMAT, answer, 0)
     }
@@ -414,6 +449,48 @@ impl Check {
         }
     }
 
+    /// Reserves that the slots allow: none, some, or all slots promised.
+    fn reserves(&mut self, g: u64, s: u64) -> Vec<u64> {
+        let mut reserves = vec![0; g as usize];
+        let mut left = match self.random.below(4) {
+            0 => 0,
+            1 => s,
+            _ => self.random.below(s + 1),
+        };
+        while left > 0 {
+            let part = 1 + self.random.below(left);
+            reserves[self.random.below(g) as usize] += part;
+            left -= part;
+        }
+        reserves
+    }
+
+    /// Another number of reserves, or such that the slots do not allow.
+    fn no_reserves(&mut self, g: u64, s: u64) -> Vec<u64> {
+        let mut reserves = self.reserves(g, s);
+        let (count, together) = (reserves.len(), reserves.iter().sum::<u64>());
+        let (one, other) = (self.random.below(g) as usize, self.random.below(g) as usize);
+        match self.random.below(5) {
+            0 | 1 => {
+                let n = self.random.pick(&[0, count - 1, count + 1, 2 * count, 16, 17]);
+                reserves.resize(n, 0);
+            }
+            2 => reserves[one] += s - together + 1,
+            3 => {
+                let n = self.random.next();
+                reserves[one] = self.random.pick(&[s + 1, 801, 65535, 65536, 65537, 1 << 32, 1 << 63, u64::MAX, n]);
+            }
+            _ => {
+                // Two that are nothing together where sums are cut to 64 bits, or to 16.
+                let n = self.random.pick(&[1, 1 << 63, 65535, 65536]);
+                reserves.fill(0);
+                reserves[one] = n;
+                reserves[other] = if n == 65535 { 1 } else { n.wrapping_neg() };
+            }
+        }
+        reserves
+    }
+
     fn hashes(&mut self, times: u64) -> Checked<()> {
         for (message, digest) in [
             (&b""[..], "e3b0c44298fc1c149afbf4c8996fb92427ae41e4649b934ca495991b7852b855"),
@@ -486,8 +563,14 @@ impl Check {
 
     fn formats(&mut self, times: u64) -> Checked<()> {
         for _ in 0..100 * times {
-            let g = self.random.pick(&[0, 1, 2, 3, 15, 16, 17, 255, 256, 257, 1 << 32, u64::MAX]);
-            let s = self.random.pick(&[0, 1, 2, 7, 40, 799, 800, 801, 65535, 65536, 65537, 1 << 32, u64::MAX]);
+            let (g, s) = if self.random.once_in(2) {
+                (1 + self.random.below(16), self.random.pick(&[1, 2, 7, 40, 799, 800]))
+            } else {
+                (
+                    self.random.pick(&[0, 1, 2, 3, 15, 16, 17, 255, 256, 257, 1 << 32, u64::MAX]),
+                    self.random.pick(&[0, 1, 2, 7, 40, 799, 800, 801, 65535, 65536, 65537, 1 << 32, u64::MAX]),
+                )
+            };
             let fits = (1..=16).contains(&g) && (1..=800).contains(&s);
             let mut n = if fits { table_bytes(g, s) } else { self.random.below(200) as usize };
             if self.random.once_in(4) {
@@ -495,10 +578,30 @@ impl Check {
             }
             let (table, keeper, key) = (self.random.bytes(n), self.random.next(), self.length(32));
             let key = self.random.bytes(key);
-            let answer = self.format(&table, g, s, keeper, &key)?;
+            let (most, room) = (g.clamp(1, 17), s.min(800));
+            let reserves = if self.random.once_in(3) { self.no_reserves(most, room) } else { self.reserves(most, room) };
+            let answer = self.format(&table, g, s, keeper, &key, &reserves)?;
+            let together: u128 = reserves.iter().map(|n| *n as u128).sum();
+            let due = if !fits {
+                8
+            } else if n != table_bytes(g, s) || key.len() != 32 || reserves.len() as u64 != g {
+                7
+            } else if together > s as u128 {
+                8
+            } else {
+                0
+            };
+            if answer.number != due {
+                return Err(format!("format: {} and not {due} for logs {g}, slots {s}, {reserves:?}", answer.number));
+            }
             if answer.number == 0 {
-                self.check(&answer.lent[0])?;
+                if self.check(&answer.lent[0])?.number != 0 {
+                    return Err(format!("format: the table with the reserves {reserves:?} is torn"));
+                }
                 self.stocked(&answer.lent[0])?;
+                if (0..g).any(|log| get(&answer.lent[0], reserve_at(log), 2) != reserves[log as usize]) {
+                    return Err(format!("format: the rows have other reserves than {reserves:?}"));
+                }
                 if !free_chain(&answer.lent[0]).into_iter().eq(1..=s) {
                     return Err("format: the free slots are not 1 to S in rising order".to_string());
                 }
@@ -513,7 +616,8 @@ impl Check {
         let after = match self.random.below(12) {
             0..=3 => {
                 let value = self.value();
-                self.append(t, log, &value)?.lent.swap_remove(0)
+                let answer = self.append(t, log, &value)?;
+                room(t, log, answer)?.lent.swap_remove(0)
             }
             4 | 5 => {
                 let high = if log < logs(t) { bounds(t, log).1 } else { 0 };
@@ -524,7 +628,8 @@ impl Check {
                     _ => self.position(t, log),
                 };
                 let (digest, value) = (self.value(), self.value());
-                self.advance(t, log, n, &digest, &value)?.lent.swap_remove(0)
+                let answer = self.advance(t, log, n, &digest, &value)?;
+                room(t, log, answer)?.lent.swap_remove(0)
             }
             6 | 7 => {
                 let n = self.position(t, log);
@@ -557,7 +662,7 @@ impl Check {
         let at = slot(self);
         let other = slot(self);
         let row = row_at(self.random.below(g));
-        match self.random.below(27) {
+        match self.random.below(29) {
             0..=2 => {
                 let at = self.random.below(t.len() as u64) as usize;
                 t[at] ^= 1 << self.random.below(8);
@@ -604,7 +709,7 @@ impl Check {
             }
             16 => {
                 let n = t.len();
-                let around = [n - 2, n - 1, n + 1, n + 2, n - 76, n - 20, n + 76, n + 20];
+                let around = [n - 2, n - 1, n + 1, n + 2, n - 76, n - 22, n - 20, n + 76, n + 22, n + 20];
                 let header = [0, 1, 4, 19, 20, 51, 52, 53, 54, 55];
                 let n = if self.random.once_in(2) { self.random.pick(&around) } else { self.random.pick(&header) };
                 t.resize(n, 0);
@@ -667,6 +772,13 @@ impl Check {
                         put(t, 52, 2, first);
                     }
                 }
+            }
+            26 | 27 => {
+                // Another reserve.
+                let n = get(t, row + 20, 2);
+                let free = named_free(t);
+                let n = self.random.pick(&[0, 1, n + 1, n.wrapping_sub(1), free, n + free, s, s + 1, 65535, n ^ 1 << 8]);
+                put(t, row + 20, 2, n & 0xffff);
             }
             _ => {
                 let n = t.len();
@@ -741,7 +853,7 @@ impl Check {
         }
         use Step::*;
         let (key, digest, value) = (self.random.bytes(32), self.random.bytes(32), self.random.bytes(32));
-        let mut t = self.format(&vec![0; table_bytes(1, 4)], 1, 4, 7, &key)?.lent.swap_remove(0);
+        let mut t = self.format(&vec![0; table_bytes(1, 4)], 1, 4, 7, &key, &[0])?.lent.swap_remove(0);
         self.queued(&t, &[1, 2, 3, 4])?;
         let steps: [(Step, &[u64]); 13] = [
             (Append, &[2, 3, 4]),
@@ -771,6 +883,146 @@ impl Check {
             }
             t = answer.lent.swap_remove(0);
             self.queued(&t, slots)?;
+        }
+        Ok(())
+    }
+
+    /// Request [5]: reserves as format takes them, and what they promise, with the answers written beside.
+    fn promises(&mut self) -> Checked<()> {
+        let (key, digest, value) = (self.random.bytes(32), self.random.bytes(32), self.random.bytes(32));
+        let expect = |answer: Answer, number: u64, what: &str| -> Checked<Vec<u8>> {
+            if answer.number == number {
+                return Ok(answer.lent[0].clone());
+            }
+            Err(format!("{what}: {}, not {number}", answer.number))
+        };
+        let bytes = vec![0; table_bytes(2, 3)];
+        let formats: [(&[u64], usize, u64); 17] = [
+            (&[], 32, 7),
+            (&[1], 32, 7),
+            (&[4], 32, 7),
+            (&[0, 0, 0], 32, 7),
+            (&[0, 0], 32, 0),
+            (&[1, 2], 32, 0),
+            (&[3, 0], 32, 0),
+            (&[2, 2], 32, 8),
+            (&[2, 2], 31, 7),
+            (&[0, 4], 32, 8),
+            (&[65536, 0], 32, 8),
+            (&[0, 65536], 32, 8),
+            (&[65535, 1], 32, 8),
+            (&[u64::MAX, 0], 32, 8),
+            (&[u64::MAX, 1], 32, 8),
+            (&[1, u64::MAX], 32, 8),
+            (&[1 << 63, 1 << 63], 32, 8),
+        ];
+        for (reserves, n, number) in formats {
+            let answer = self.format(&bytes, 2, 3, 7, &key[..n], reserves)?;
+            expect(answer, number, &format!("format with {reserves:?} and a key of {n}"))?;
+        }
+        for (g, s, number) in [(0, 3, 8), (17, 3, 8), (2, 0, 8), (2, 801, 8)] {
+            let answer = self.format(&bytes, g, s, 7, &key, &vec![900; g as usize + 1])?;
+            expect(answer, number, "format with counts out of range")?;
+        }
+
+        /// Log, position where there is one, and the number due.
+        enum Step {
+            Append(u64, u64),
+            Advance(u64, u64, u64),
+            Truncate(u64, u64, u64),
+        }
+        use Step::*;
+        let lists: [(&[u64], &[Step]); 5] = [
+            // Log 0 is promised one of the three slots.
+            (
+                &[1, 0],
+                &[
+                    Append(1, 0), Append(1, 0), Append(1, 16), Advance(1, 9, 16), Append(0, 0), Append(0, 5), Append(1, 5),
+                    Truncate(1, 2, 0), Append(0, 0), Append(1, 5),
+                ],
+            ),
+            // Log 0 is promised all of them: log 1 gets none, also of those that log 0 frees.
+            (
+                &[3, 0],
+                &[
+                    Append(1, 16), Append(0, 0), Advance(0, 7, 0), Advance(1, 3, 16), Append(0, 0), Append(1, 5),
+                    Append(0, 5), Truncate(0, 8, 0), Append(1, 16), Append(0, 0), Append(0, 0), Append(0, 5),
+                ],
+            ),
+            // What log 0 holds above its reserve does not make up for what log 1 lacks.
+            (
+                &[1, 1],
+                &[
+                    Append(0, 0), Append(0, 0), Append(0, 16), Advance(0, 9, 16), Append(1, 0), Append(1, 5),
+                    Truncate(0, 2, 0), Append(1, 0), Append(1, 5),
+                ],
+            ),
+            // 3 and 4 come before 16, and before 5.
+            (
+                &[1, 1],
+                &[
+                    Append(0, 0), Advance(0, u64::MAX, 0), Append(0, 4), Advance(0, 4, 3), Advance(0, u64::MAX, 3),
+                    Append(1, 0), Append(0, 4), Advance(0, 4, 3), Append(1, 5),
+                ],
+            ),
+            (&[0, 0], &[Append(0, 0), Append(0, 0), Append(0, 0), Append(1, 5)]),
+        ];
+        for (reserves, steps) in lists {
+            let answer = self.format(&bytes, 2, 3, 7, &key, reserves)?;
+            let mut t = expect(answer, 0, "format")?;
+            for (i, step) in steps.iter().enumerate() {
+                let (answer, number) = match *step {
+                    Append(log, number) => (self.append(&t, log, &value)?, number),
+                    Advance(log, n, number) => (self.advance(&t, log, n, &digest, &value)?, number),
+                    Truncate(log, n, number) => (self.truncate(&t, log, n)?, number),
+                };
+                t = expect(answer, number, &format!("reserves {reserves:?}, call {i}"))?;
+                self.repromised(&t)?;
+            }
+        }
+
+        // With all of three slots free a reserve may be 3 and not 4.
+        let answer = self.format(&bytes, 2, 3, 7, &key, &[0, 0])?;
+        let mut t = expect(answer, 0, "format")?;
+        for log in 0..2 {
+            for (reserve, torn) in [(3, false), (4, true), (256, true), (65535, true), (0, false)] {
+                put(&mut t, reserve_at(log), 2, reserve);
+                if torn {
+                    self.torn(&t)?;
+                } else {
+                    expect(self.check(&t)?, 0, "a table whose reserves the free slots make up for")?;
+                }
+                self.shows(&t, Some(3))?;
+            }
+        }
+        Ok(())
+    }
+
+    /// Another reserve of one log of a whole table: it stays whole exactly where the free slots make up for what its logs
+    /// lack, and the puts go by it.
+    fn repromised(&mut self, t: &[u8]) -> Checked<()> {
+        let log = self.random.below(logs(t));
+        let (free, held) = (free_chain(t).len() as u64, positions(t, log).len() as u64);
+        let most = held + free - lacks(t, log).1;
+        let any = self.random.below(most + 1);
+        for reserve in [0, held, any, most, most + 1, most + 256, 65535] {
+            let mut changed = t.to_vec();
+            put(&mut changed, reserve_at(log), 2, reserve);
+            if reserve > most {
+                self.torn(&changed)?;
+                continue;
+            }
+            if self.check(&changed)?.number != 0 {
+                return Err(format!("check: log {log} holds {held}, {free} slots are free, torn by the reserve {reserve}"));
+            }
+            let value = self.random.bytes(32);
+            for putting in [log, self.random.below(logs(t))] {
+                let answer = self.append(&changed, putting, &value)?;
+                room(&changed, putting, answer)?;
+                let above = bounds(t, putting).1.saturating_add(2);
+                let answer = self.advance(&changed, putting, above, &value, &value)?;
+                room(&changed, putting, answer)?;
+            }
         }
         Ok(())
     }
@@ -809,7 +1061,11 @@ impl Check {
             longer.push(0);
             // With a header of 52 bytes, as it was before request [4].
             let short = [&t[..52], &t[HEADER..]].concat();
-            for other in [&t[..HEADER], &t[..HEADER + 1], &t[..t.len() - 1], &longer, &short] {
+            // With rows of 20 bytes, as they were before request [5].
+            let (rows, slots) = t[HEADER..].split_at(ROW * g as usize);
+            let rows: Vec<u8> = rows.chunks(ROW).flat_map(|row| &row[..20]).copied().collect();
+            let narrow = [&t[..HEADER], &rows, slots].concat();
+            for other in [&t[..HEADER], &t[..HEADER + 1], &t[..t.len() - 1], &longer, &short, &narrow] {
                 self.torn(other)?;
                 self.shows(other, Some(n))?;
             }
@@ -829,6 +1085,7 @@ impl Check {
     fn tables(&mut self, times: u64) -> Checked<()> {
         self.example()?;
         self.queue()?;
+        self.promises()?;
         self.screens()?;
         for i in 0..60 * times {
             let g = self.random.pick(&[1, 1, 2, 2, 3, 5, 16]);
@@ -838,8 +1095,8 @@ impl Check {
                 _ => 1 + self.random.below(14),
             };
             let (keeper, key) = (self.random.next(), self.random.bytes(32));
-            let before = self.random.bytes(table_bytes(g, s));
-            let mut t = self.format(&before, g, s, keeper, &key)?.lent.swap_remove(0);
+            let (before, reserves) = (self.random.bytes(table_bytes(g, s)), self.reserves(g, s));
+            let mut t = self.format(&before, g, s, keeper, &key, &reserves)?.lent.swap_remove(0);
             for _ in 0..40 + 2 * s.min(100) {
                 let (after, receipt) = self.step(&t)?;
                 t = after;
@@ -850,6 +1107,9 @@ impl Check {
                 if self.random.once_in(50) {
                     shuffle(&mut t, &mut self.random);
                     self.check(&t)?;
+                }
+                if self.random.once_in(10) {
+                    self.repromised(&t)?;
                 }
                 if self.random.once_in(5) {
                     let mut torn = t.clone();
@@ -886,7 +1146,7 @@ impl Check {
             }
             if good { Ok(answer) } else { Err("document 01's example is answered otherwise".to_string()) }
         };
-        t = expect(self.format(&t, 2, 3, 7, &zeros)?, 0, &[], &[])?.lent.swap_remove(0);
+        t = expect(self.format(&t, 2, 3, 7, &zeros, &[0, 0])?, 0, &[], &[])?.lent.swap_remove(0);
         self.shows(&t, Some(3))?;
         t = expect(self.append(&t, 0, &number(41))?, 0, &[1, 1], &[])?.lent.swap_remove(0);
         self.shows(&t, Some(2))?;
@@ -1147,8 +1407,8 @@ impl Check {
     fn every_byte(&mut self) -> Checked<()> {
         for (g, s, steps) in [(1, 1, 0), (1, 2, 3), (2, 3, 6), (2, 4, 30)] {
             let key = self.random.bytes(32);
-            let before = vec![0; table_bytes(g, s)];
-            let mut t = self.format(&before, g, s, 7, &key)?.lent.swap_remove(0);
+            let (before, reserves) = (vec![0; table_bytes(g, s)], self.reserves(g, s));
+            let mut t = self.format(&before, g, s, 7, &key, &reserves)?.lent.swap_remove(0);
             for _ in 0..steps {
                 t = self.step(&t)?.0;
             }
@@ -1184,11 +1444,12 @@ impl Check {
     }
 
     /// Every way to link three slots of one log or none, with positions at random, the number of free slots that the owners
-    /// leave and the last that the links lead to; where the table is whole, every other number and every other last too.
+    /// leave and the last that the links lead to; where the table is whole, every other number and every other last too, and
+    /// every reserve, of which three slots make up for 3.
     fn every_link(&mut self) -> Checked<()> {
         let nothing = vec![0; table_bytes(1, 3)];
         let key = self.random.bytes(32);
-        let fresh = self.format(&nothing, 1, 3, 7, &key)?.lent.swap_remove(0);
+        let fresh = self.format(&nothing, 1, 3, 7, &key, &[0])?.lent.swap_remove(0);
         for links in 0..4u64.pow(6) {
             let link = |i: u32| links / 4u64.pow(i) % 4;
             for held in 0..8u64 {
@@ -1227,6 +1488,12 @@ impl Check {
                         }
                         put(&mut t, at, 2, right);
                     }
+                    for reserve in 0..6 {
+                        put(&mut t, reserve_at(0), 2, reserve);
+                        if (self.check(&t)?.number == 0) != (reserve <= 3) {
+                            return Err(format!("check: of three slots a reserve of {reserve} is taken otherwise"));
+                        }
+                    }
                 }
             }
         }
@@ -1244,6 +1511,27 @@ impl Check {
         self.every_byte()?;
         self.every_link()
     }
+}
+
+/// The answer, if a put on a whole table that got to ask for a slot was answered by request [5]'s sentence.
+fn room(t: &[u8], log: u64, answer: Answer) -> Checked<Answer> {
+    if ![0, 5, 16].contains(&answer.number) {
+        return Ok(answer);
+    }
+    let (free, others) = (free_chain(t).len() as u64, lacks(t, log).1);
+    let (held, reserve) = (positions(t, log).len() as u64, get(t, reserve_at(log), 2));
+    let due = if free == 0 {
+        5
+    } else if held < reserve || free > others {
+        0
+    } else {
+        16
+    };
+    if answer.number == due {
+        return Ok(answer);
+    }
+    let number = answer.number;
+    Err(format!("a put is answered {number} and not {due}: {held} of {reserve} held, {free} free, others lack {others}"))
 }
 
 fn known(answer: &Answer, digest: &str) -> Checked<()> {
@@ -1264,14 +1552,14 @@ pub fn run(seed: u64, times: u64) -> bool {
         return false;
     }
     print!("  {:<11}{:>9}", "answers", 0);
-    for number in 1..15 {
+    for number in &NUMBERS[1..] {
         print!("{number:>7}");
     }
     println!();
     for (call, counts) in CALLS.iter().zip(&check.counts) {
         print!("  {call:<11}{:>9}", counts[0]);
-        for count in &counts[1..] {
-            if *count == 0 {
+        for count in NUMBERS[1..].iter().map(|number| counts[*number]) {
+            if count == 0 {
                 print!("{:>7}", "-");
             } else {
                 print!("{count:>7}");
@@ -1287,7 +1575,7 @@ pub fn run(seed: u64, times: u64) -> bool {
     );
     println!("  longest message hashed: {} bytes", check.longest);
     let mut full = true;
-    for number in 0..15 {
+    for number in NUMBERS {
         if check.counts.iter().all(|c| c[number] == 0) {
             println!("  number {number} never came up: the check is too weak");
             full = false;
@@ -1307,17 +1595,15 @@ pub fn run(seed: u64, times: u64) -> bool {
 pub fn self_test(seed: u64) -> bool {
     let mut found = 0;
     for call in 0..CALLS.len() {
-        for part in [Part::Number, Part::Blocks, Part::Result, Part::Byte, Part::BehindTheBuffer] {
-            if part == Part::Blocks && [CHECK, FREE].contains(&call) {
-                continue;
-            }
+        for part in Part::ALL.into_iter().filter(|part| part.is_of(call)) {
             let mut check = Check::new(seed, Some((call, part)));
             let finding = match part {
-                Part::Number => "the numbers differ",
+                Part::Number | Part::Promise => "the numbers differ",
                 Part::Blocks => "the blocks differ",
                 Part::Result => "the results differ",
                 Part::Byte => "the bytes of buffer 0 differ",
                 Part::BehindTheBuffer => "plain C: wrote outside a buffer",
+                Part::Reserve => "the bytes of buffer 0 differ, first at 75",
             };
             match check.all(1) {
                 Err(text) if text.starts_with(&format!("{}: {finding}", CALLS[call])) => found += 1,

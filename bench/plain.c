@@ -1,4 +1,4 @@
-/* The keeper in plain C: the bench's yardstick, and an independent reading of document 01 and requests [1] to [4]. Portable C,
+/* The keeper in plain C: the bench's yardstick, and an independent reading of document 01 and requests [1] to [5]. Portable C,
  * no intrinsics. Blocks are counted where they are compressed, and added up on the way out. */
 #include "plain.h"
 
@@ -213,13 +213,13 @@ keeper_result plain_tag(const uint8_t *key, size_t key_bytes, const uint8_t *tex
 
 /* ---- the table's bytes ---- */
 
-enum { HEADER = 54, ROW = 20, SLOT = 76, MAX_LOGS = 16, MAX_SLOTS = 800 };
+enum { HEADER = 54, ROW = 22, SLOT = 76, MAX_LOGS = 16, MAX_SLOTS = 800 };
 
 static const uint8_t mark[4] = {'A', '2', 'M', 'U'};
 
 /* Offsets in the header, a row and a slot. */
 enum { H_LOGS = 4, H_ZERO = 5, H_SLOTS = 6, H_KEEPER = 8, H_FREE = 16, H_COUNT = 18, H_KEY = 20, H_FREE_LAST = 52 };
-enum { R_LOW = 0, R_HIGH = 8, R_FIRST = 16, R_LAST = 18 };
+enum { R_LOW = 0, R_HIGH = 8, R_FIRST = 16, R_LAST = 18, R_RESERVE = 20 };
 enum { S_OWNER = 0, S_ZERO = 1, S_NEXT = 2, S_POSITION = 4, S_VALUE = 12, S_DIGEST = 44 };
 
 static inline size_t row_at(uint64_t log)
@@ -244,9 +244,16 @@ static inline int all_zero(const uint8_t *p, size_t words)
     return any == 0;
 }
 
+/* What the check of a whole table counts on its way. */
+typedef struct {
+    uint32_t free;
+    uint32_t lack;           /* what the logs together lack of their reserves */
+    uint32_t held[MAX_LOGS]; /* entries of each log */
+} tally;
+
 /* The number of logs of a whole table, 0 of a torn one. Each chain is walked once; a chain that goes on for more than S slots
  * has a loop. */
-static uint32_t whole(const uint8_t *t, size_t bytes)
+static uint32_t whole(const uint8_t *t, size_t bytes, tally *seen)
 {
     if (bytes < HEADER || memcmp(t, mark, 4) != 0 || t[H_ZERO] != 0)
         return 0;
@@ -268,14 +275,17 @@ static uint32_t whole(const uint8_t *t, size_t bytes)
     if (count != get16(t + H_COUNT) || last != get16(t + H_FREE_LAST))
         return 0;
 
+    uint32_t free = count, lack = 0;
     for (uint32_t g = 0; g < logs; g++) {
         const uint8_t *r = t + row_at(g);
         uint64_t low = get64(r + R_LOW), high = get64(r + R_HIGH);
-        uint32_t i = get16(r + R_FIRST);
+        uint32_t i = get16(r + R_FIRST), reserve = get16(r + R_RESERVE), before = count;
         last = get16(r + R_LAST);
         if (i == 0) {
             if (low != 1 || high != 0 || last != 0)
                 return 0;
+            seen->held[g] = 0;
+            lack += reserve;
             continue;
         }
         if (low < 1 || low > high)
@@ -296,13 +306,20 @@ static uint32_t whole(const uint8_t *t, size_t bytes)
         } while (i != 0);
         if (at != last || above != high)
             return 0;
+        uint32_t held = count - before;
+        seen->held[g] = held;
+        if (held < reserve)
+            lack += reserve - held;
     }
-    return count == slots ? logs : 0;
+    seen->free = free;
+    seen->lack = lack;
+    return count == slots && lack <= free ? logs : 0;
 }
 
 uint8_t plain_check(const uint8_t *table, size_t table_bytes)
 {
-    return whole(table, table_bytes) != 0 ? KEEPER_DONE : KEEPER_TORN;
+    tally seen;
+    return whole(table, table_bytes, &seen) != 0 ? KEEPER_DONE : KEEPER_TORN;
 }
 
 uint8_t plain_free(const uint8_t *table, size_t table_bytes, uint64_t *free)
@@ -319,12 +336,20 @@ uint64_t plain_two_bytes(const uint8_t *table)
 }
 
 keeper_result plain_format(uint8_t *table, size_t table_bytes, uint64_t logs, uint64_t slots, uint64_t keeper,
-                           const uint8_t *key, size_t key_bytes)
+                           const uint8_t *key, size_t key_bytes, const uint64_t *reserves, size_t reserve_count)
 {
     if (logs < 1 || logs > MAX_LOGS || slots < 1 || slots > MAX_SLOTS)
         return refused(KEEPER_COUNTS);
-    if (table_bytes != KEEPER_TABLE_BYTES(logs, slots) || key_bytes != 32)
+    if (table_bytes != KEEPER_TABLE_BYTES(logs, slots) || key_bytes != 32 || reserve_count != logs)
         return refused(KEEPER_LENGTH);
+    uint64_t together = 0; /* 16 reserves of 800 at most */
+    for (uint32_t g = 0; g < logs; g++) {
+        if (reserves[g] > slots)
+            return refused(KEEPER_COUNTS);
+        together += reserves[g];
+    }
+    if (together > slots)
+        return refused(KEEPER_COUNTS);
     memset(table, 0, table_bytes);
     memcpy(table, mark, 4);
     table[H_LOGS] = (uint8_t)logs;
@@ -334,8 +359,10 @@ keeper_result plain_format(uint8_t *table, size_t table_bytes, uint64_t logs, ui
     put16(table + H_COUNT, (uint32_t)slots);
     memcpy(table + H_KEY, key, 32);
     put16(table + H_FREE_LAST, (uint32_t)slots);
-    for (uint32_t g = 0; g < logs; g++)
+    for (uint32_t g = 0; g < logs; g++) {
         put64(table + row_at(g) + R_LOW, 1);
+        put16(table + row_at(g) + R_RESERVE, (uint32_t)reserves[g]);
+    }
     for (uint32_t i = 1; i < slots; i++)
         put16(table + slot_at((uint32_t)logs, i) + S_NEXT, i + 1);
     return done(0);
@@ -349,6 +376,17 @@ static void block_of(uint8_t *block, uint64_t position, const uint8_t *value, co
     put64(block, position);
     memcpy(block + 8, value, 32);
     memcpy(block + 40, previous, 32);
+}
+
+/* Whether an entry of the log may take a free slot: 0, or why not. A log that holds less than its reserve always may, since the
+ * table is whole. Another lacks nothing, so what all logs lack is what the others lack, and one slot has to be free beyond it. */
+static uint64_t no_slot(const uint8_t *t, const tally *seen, uint64_t log)
+{
+    if (seen->free == 0)
+        return KEEPER_FULL;
+    if (seen->held[log] < get16(t + row_at(log) + R_RESERVE) || seen->free > seen->lack)
+        return KEEPER_DONE;
+    return KEEPER_PROMISED;
 }
 
 /* Puts an entry into the first free slot, which exists, at the end of the log's chain. Gives the number of blocks hashed. */
@@ -384,7 +422,8 @@ keeper_result plain_append(uint8_t *table, size_t table_bytes, uint64_t log, con
     static const uint8_t zeros[32];
     if (value_bytes != 32)
         return refused(KEEPER_LENGTH);
-    uint32_t logs = whole(table, table_bytes);
+    tally seen;
+    uint32_t logs = whole(table, table_bytes, &seen);
     if (logs == 0)
         return refused(KEEPER_TORN);
     if (log >= logs)
@@ -393,8 +432,9 @@ keeper_result plain_append(uint8_t *table, size_t table_bytes, uint64_t log, con
     uint64_t top = get64(r + R_HIGH);
     if (top == UINT64_MAX)
         return refused(KEEPER_SPENT);
-    if (get16(table + H_FREE) == 0)
-        return refused(KEEPER_FULL);
+    uint64_t why = no_slot(table, &seen, log);
+    if (why != KEEPER_DONE)
+        return refused(why);
     uint32_t last = get16(r + R_LAST);
     const uint8_t *previous = last == 0 ? zeros : table + slot_at(logs, last) + S_DIGEST;
     return done(put_entry(table, logs, log, top + 1, value, previous, low, high));
@@ -405,22 +445,25 @@ keeper_result plain_advance(uint8_t *table, size_t table_bytes, uint64_t log, ui
 {
     if (digest_bytes != 32 || value_bytes != 32)
         return refused(KEEPER_LENGTH);
-    uint32_t logs = whole(table, table_bytes);
+    tally seen;
+    uint32_t logs = whole(table, table_bytes, &seen);
     if (logs == 0)
         return refused(KEEPER_TORN);
     if (log >= logs)
         return refused(KEEPER_NO_LOG);
     if (position <= get64(table + row_at(log) + R_HIGH))
         return refused(KEEPER_POSITION);
-    if (get16(table + H_FREE) == 0)
-        return refused(KEEPER_FULL);
+    uint64_t why = no_slot(table, &seen, log);
+    if (why != KEEPER_DONE)
+        return refused(why);
     return done(put_entry(table, logs, log, position, value, digest, low, high));
 }
 
 keeper_result plain_truncate(uint8_t *table, size_t table_bytes, uint64_t log, uint64_t position, uint64_t *low,
                              uint64_t *high)
 {
-    uint32_t logs = whole(table, table_bytes);
+    tally seen;
+    uint32_t logs = whole(table, table_bytes, &seen);
     if (logs == 0)
         return refused(KEEPER_TORN);
     if (log >= logs)
@@ -488,7 +531,8 @@ keeper_result plain_lookup(const uint8_t *table, size_t table_bytes, uint64_t lo
 {
     if (nonce_bytes != 32 || receipt_bytes != 160)
         return refused(KEEPER_LENGTH);
-    uint32_t logs = whole(table, table_bytes);
+    tally seen;
+    uint32_t logs = whole(table, table_bytes, &seen);
     if (logs == 0)
         return refused(KEEPER_TORN);
     if (log >= logs)
@@ -525,7 +569,8 @@ keeper_result plain_end(const uint8_t *table, size_t table_bytes, uint64_t log, 
 {
     if (nonce_bytes != 32 || receipt_bytes != 160)
         return refused(KEEPER_LENGTH);
-    uint32_t logs = whole(table, table_bytes);
+    tally seen;
+    uint32_t logs = whole(table, table_bytes, &seen);
     if (logs == 0)
         return refused(KEEPER_TORN);
     if (log >= logs)

@@ -1,4 +1,4 @@
-/* The keeper in plain C, written for the bench from document 01 and requests [1] to [4] alone: the same calls as in
+/* The keeper in plain C, written for the bench from document 01 and requests [1] to [5] alone: the same calls as in
  * keeper.h, with the same arguments, numbers and orders of refusal. The constants and the types of result and verdict are
  * keeper.h's. */
 #ifndef PLAIN_H
@@ -12,7 +12,7 @@ keeper_result plain_tag(const uint8_t *key, size_t key_bytes, const uint8_t *tex
                         size_t tag_bytes);
 
 keeper_result plain_format(uint8_t *table, size_t table_bytes, uint64_t logs, uint64_t slots, uint64_t keeper,
-                           const uint8_t *key, size_t key_bytes);
+                           const uint8_t *key, size_t key_bytes, const uint64_t *reserves, size_t reserve_count);
 
 uint8_t plain_check(const uint8_t *table, size_t table_bytes);
 

@@ -32,7 +32,7 @@ pub struct Side {
     pub name: &'static str,
     hash: unsafe extern "C" fn(In, usize, Out, usize) -> KeeperResult,
     tag: unsafe extern "C" fn(In, usize, In, usize, Out, usize) -> KeeperResult,
-    format: unsafe extern "C" fn(Out, usize, u64, u64, u64, In, usize) -> KeeperResult,
+    format: unsafe extern "C" fn(Out, usize, u64, u64, u64, In, usize, *const u64, usize) -> KeeperResult,
     check: unsafe extern "C" fn(In, usize) -> u8,
     free: unsafe extern "C" fn(In, usize, Num) -> u8,
     append: unsafe extern "C" fn(Out, usize, u64, In, usize, Num, Num) -> KeeperResult,
@@ -55,6 +55,7 @@ macro_rules! side {
             fn $tag(key: In, key_bytes: usize, text: In, text_bytes: usize, tag: Out, tag_bytes: usize) -> KeeperResult;
             fn $format(
                 t: Out, t_bytes: usize, logs: u64, slots: u64, keeper: u64, key: In, key_bytes: usize,
+                reserves: *const u64, reserve_count: usize,
             ) -> KeeperResult;
             fn $check(t: In, t_bytes: usize) -> u8;
             fn $free(t: In, t_bytes: usize, free: Num) -> u8;
@@ -133,8 +134,15 @@ impl Side {
         }
     }
 
-    pub fn format(&self, table: &mut [u8], logs: u64, slots: u64, keeper: u64, key: &[u8]) -> KeeperResult {
-        unsafe { (self.format)(table.as_mut_ptr(), table.len(), logs, slots, keeper, key.as_ptr(), key.len()) }
+    pub fn format(
+        &self, table: &mut [u8], logs: u64, slots: u64, keeper: u64, key: &[u8], reserves: &[u64],
+    ) -> KeeperResult {
+        unsafe {
+            (self.format)(
+                table.as_mut_ptr(), table.len(), logs, slots, keeper, key.as_ptr(), key.len(), reserves.as_ptr(),
+                reserves.len(),
+            )
+        }
     }
 
     pub fn check(&self, table: &[u8]) -> u8 {

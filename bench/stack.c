@@ -10,6 +10,7 @@
 static uint8_t stack[1 << 16] __attribute__((aligned(16)));
 static uint8_t *at_call;
 
+static const uint64_t reserves[2] = {1, 2};
 static uint8_t table[KEEPER_TABLE_BYTES(2, 6)], key[100], nonce[32], value[32], receipt[160], end[160], collision[144];
 static uint8_t roster[3 * KEEPER_MEMBER_BYTES], certificate[32 * 160], values[4 * 32];
 static uint64_t low, high, examined, place;
@@ -30,7 +31,7 @@ static keeper_verdict verdict;
 
 CALL(keeper_hash, values, sizeof values, collision, 32)
 CALL(keeper_tag, key, sizeof key, values, sizeof values, collision, 32)
-CALL(keeper_format, table, sizeof table, 2, 6, 7, key, 32)
+CALL(keeper_format, table, sizeof table, 2, 6, 7, key, 32, reserves, 2)
 CALL_ALONE(keeper_check, table, sizeof table)
 CALL_ALONE(keeper_free, table, sizeof table, &low)
 CALL(keeper_append, table, sizeof table, 0, value, 32, &low, &high)

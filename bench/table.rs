@@ -290,8 +290,25 @@ impl Table {
                     shuffle(&mut t, &mut random);
                     self.calls(&t, how);
                 }
+                // Every log holds 25 of the 50 slots promised to it, and the free slots are just what the logs lack.
+                self.calls(&filled_with(&[50; 16], s, s / 2, &mut random), "half, reserves");
+                self.promised();
             }
         }
+    }
+
+    /// Log 0 is promised nothing, and the free slots, 400, are just what the others lack: 775 less 375 that they hold.
+    fn promised(&mut self) {
+        let mut random = Random(10);
+        let reserves = [0, 52, 52, 52, 52, 52, 52, 52, 52, 52, 52, 51, 51, 51, 51, 51];
+        let t = filled_with(&reserves, 800, 400, &mut random);
+        let value = random.bytes(32);
+        let (mut l, mut h, mut l2, mut h2) = (0, 0, 0, 0);
+        self.call(
+            "append (16,800) half, promised", Some(1.5), &t,
+            &mut |t| KEEPER.append(t, 0, &value, &mut l, &mut h).number,
+            &mut |t| PLAIN.append(t, 0, &value, &mut l2, &mut h2).number,
+        );
     }
 
     /// Its time is that of a few bytes, whatever the table.
@@ -442,7 +459,8 @@ pub fn run(quick: bool) -> bool {
          the table, the bytes that it changed are put back after each call within the timed part, by the same code on\n\
          both sides; what that takes by itself stands in the row and is not taken off. Half of (1,1) is empty. Lookup\n\
          asks for the middle of log 0, truncate frees half of its entries. Shuffled: the same chains over slots at\n\
-         random. The place of the code in memory alone moves a ratio by some percent. \"over\": both are\n\
+         random. Reserves: each log is promised 50 slots and holds 25; promised: the free slots are promised to the other\n\
+         logs. The place of the code in memory alone moves a ratio by some percent. \"over\": both are\n\
          above the aim by more than {NOISE}."
     );
     let mut table = Table { timer: Timer { quick }, over: Vec::new(), rows: 0 };

@@ -1,8 +1,8 @@
-//! Tables and receipts as the driver makes and reads them; offsets are document 01's, as requests [1] and [4] change them.
+//! Tables and receipts as the driver makes and reads them; offsets are document 01's, as requests [1], [4] and [5] change them.
 use crate::sides::{Random, PLAIN};
 
 pub const HEADER: usize = 54;
-pub const ROW: usize = 20;
+pub const ROW: usize = 22;
 pub const SLOT: usize = 76;
 
 pub fn get(bytes: &[u8], at: usize, width: usize) -> u64 {
@@ -52,6 +52,18 @@ pub fn positions(t: &[u8], log: u64) -> Vec<u64> {
         slot = get(t, at + 2, 2);
     }
     found
+}
+
+/// Where a log's reserve stands.
+pub fn reserve_at(log: u64) -> usize {
+    row_at(log) + 20
+}
+
+/// What all logs of a table that is whole but for its reserves lack of them, and what all but this one lack.
+pub fn lacks(t: &[u8], log: u64) -> (u64, u64) {
+    let lack = |g: u64| get(t, reserve_at(g), 2).saturating_sub(positions(t, g).len() as u64);
+    let all: u64 = (0..logs(t)).map(lack).sum();
+    (all, all - if log < logs(t) { lack(log) } else { 0 })
 }
 
 /// The slots of the free chain; of a torn table as far as it goes, at most as many as there are.
@@ -108,9 +120,15 @@ pub fn shuffle(t: &mut [u8], random: &mut Random) {
 
 /// A table with so many entries, one to each log in turn, at positions from 1 without gaps.
 pub fn filled(g: u64, s: u64, entries: u64, random: &mut Random) -> Vec<u8> {
+    filled_with(&vec![0; g as usize], s, entries, random)
+}
+
+/// The same, with these reserves.
+pub fn filled_with(reserves: &[u64], s: u64, entries: u64, random: &mut Random) -> Vec<u8> {
+    let g = reserves.len() as u64;
     let mut t = vec![0; table_bytes(g, s)];
     let key = random.bytes(32);
-    assert_eq!(PLAIN.format(&mut t, g, s, 7, &key).number, 0);
+    assert_eq!(PLAIN.format(&mut t, g, s, 7, &key, reserves).number, 0);
     let (mut low, mut high) = (0, 0);
     for i in 0..entries {
         assert_eq!(PLAIN.append(&mut t, i % g, &random.bytes(32), &mut low, &mut high).number, 0);

@@ -17,8 +17,8 @@
  *
  * What every function asks:
  * - A pointer is not null, also where the length beside it is 0 (any address will do then). The bytes from it on, as many as
- *   the length says, can be read, and written unless they are const; the length is below 2^63. A result is aligned as its
- *   type.
+ *   the length says, can be read, and written unless they are const; the length is below 2^63. Beside reserves stands how
+ *   many numbers they are, below 2^60. Results and reserves are aligned as their type.
  * - Buffers and results that are written overlap nothing else that is lent to the same call, and nobody else touches them
  *   meanwhile.
  *
@@ -35,7 +35,7 @@ extern "C" {
 #endif
 
 /* One more with each change of a prototype, a constant, a rule, or the bytes of a table or receipt. */
-#define KEEPER_VERSION 5
+#define KEEPER_VERSION 6
 
 /* Numbers returned. */
 enum {
@@ -46,14 +46,16 @@ enum {
     KEEPER_SPENT = 4,           /* append to a log whose H is 2^64 - 1 */
     KEEPER_FULL = 5,            /* append or advance, and no slot is free */
     KEEPER_NOTHING_HELD = 6,    /* end of a fresh log */
-    KEEPER_LENGTH = 7,          /* a buffer of another length than its own, or a message longer than FIPS 180-4 allows */
-    KEEPER_COUNTS = 8,          /* format with a log or slot count out of range */
+    KEEPER_LENGTH = 7,          /* a buffer of another length than its own, another number of reserves than logs, or a
+                                   message longer than FIPS 180-4 allows */
+    KEEPER_COUNTS = 8,          /* format with a log or slot count out of range, or reserves that together pass the slots */
     KEEPER_NO_RECEIPT = 9,      /* not 160 bytes or no possible entry; a certificate that is not 0 to 32 whole receipts */
     KEEPER_TAG = 10,            /* the tag is wrong */
     KEEPER_OTHER_QUESTION = 11, /* the receipt answers another question */
     KEEPER_ROSTER = 12,         /* no roster */
     KEEPER_TOO_FEW = 13,        /* no pair of value and digest is certified */
-    KEEPER_NO_RUN = 14          /* no values, not a multiple of 32 bytes, first position 0, or last beyond 2^64 - 1 */
+    KEEPER_NO_RUN = 14,         /* no values, not a multiple of 32 bytes, first position 0, or last beyond 2^64 - 1 */
+    KEEPER_PROMISED = 16        /* append or advance, and slots are free, but other logs lack as many of their reserves */
 };
 
 /* Lengths of buffers, in bytes. */
@@ -70,8 +72,8 @@ enum {
 /* The most of each. */
 enum { KEEPER_MAX_LOGS = 16, KEEPER_MAX_SLOTS = 800, KEEPER_MAX_MEMBERS = 31, KEEPER_MAX_RECEIPTS = 32 };
 
-/* The bytes of a table of so many logs (1 to 16) and slots (1 to 800), and of the largest one: 61,174. */
-#define KEEPER_TABLE_BYTES(logs, slots) ((size_t)54 + (size_t)20 * (logs) + (size_t)76 * (slots))
+/* The bytes of a table of so many logs (1 to 16) and slots (1 to 800), and of the largest one: 61,206. */
+#define KEEPER_TABLE_BYTES(logs, slots) ((size_t)54 + (size_t)22 * (logs) + (size_t)76 * (slots))
 #define KEEPER_MAX_TABLE_BYTES KEEPER_TABLE_BYTES(KEEPER_MAX_LOGS, KEEPER_MAX_SLOTS)
 
 /* The stack that a call takes at most, its return address included; memcpy is not called where it is deepest. */
@@ -127,10 +129,15 @@ keeper_result keeper_tag(const uint8_t *key, size_t key_bytes, const uint8_t *te
                          size_t tag_bytes);
 
 /* Writes a table of fresh logs and free slots over all of the buffer, which has KEEPER_TABLE_BYTES(logs, slots) bytes.
- * Blocks: 0. Refused, in this order: 8 unless 1 <= logs <= 16 and 1 <= slots <= 800; 7 for another length of table, or a key
- * of another length than 32. */
+ *
+ * The reserves, one for each log from log 0 on, promise slots: while a log holds fewer entries than its reserve, an append or
+ * advance on it is never refused with 5 or 16. Beyond that it gets a slot exactly if more are free than the other logs still
+ * lack of their reserves. All 0: every log takes any free slot.
+ *
+ * Blocks: 0. Refused, in this order: 8 unless 1 <= logs <= 16 and 1 <= slots <= 800; 7 for another length of table, a key of
+ * another length than 32, or another number of reserves than logs; 8 for reserves that together pass the slots. */
 keeper_result keeper_format(uint8_t *table, size_t table_bytes, uint64_t logs, uint64_t slots, uint64_t keeper,
-                            const uint8_t *key, size_t key_bytes);
+                            const uint8_t *key, size_t key_bytes, const uint64_t *reserves, size_t reserve_count);
 
 /* Whether the table is whole: 0, or refused with 1. Hashes nothing. */
 uint8_t keeper_check(const uint8_t *table, size_t table_bytes);
@@ -141,12 +148,13 @@ uint8_t keeper_check(const uint8_t *table, size_t table_bytes);
 uint8_t keeper_free(const uint8_t *table, size_t table_bytes, uint64_t *free);
 
 /* Puts a value of 32 bytes at the log's next position; low and high become the log's lowest and highest position after it.
- * Blocks: 2, or 0 where refused. Refused, in this order: 7 the value's length; 1; 2; 4; 5. */
+ * Blocks: 2, or 0 where refused. Refused, in this order: 7 the value's length; 1; 2; 4; 5; 16. */
 keeper_result keeper_append(uint8_t *table, size_t table_bytes, uint64_t log, const uint8_t *value, size_t value_bytes,
                             uint64_t *low, uint64_t *high);
 
 /* Puts a value at a position above the log's highest, chained to the given digest; positions between become skipped.
- * Blocks: 2, or 0 where refused. Refused, in this order: 7 the digest's or value's length; 1; 2; 3 unless position > H; 5. */
+ * Blocks: 2, or 0 where refused. Refused, in this order: 7 the digest's or value's length; 1; 2; 3 unless position > H; 5;
+ * 16. */
 keeper_result keeper_advance(uint8_t *table, size_t table_bytes, uint64_t log, uint64_t position, const uint8_t *digest,
                              size_t digest_bytes, const uint8_t *value, size_t value_bytes, uint64_t *low,
                              uint64_t *high);

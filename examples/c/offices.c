@@ -35,10 +35,11 @@ static int record(void)
     for (int k = 0; k < KEEPERS; k++) {
         const uint64_t readings[] = {412, 431, k == 2 ? 155 : 455};
         uint8_t *member = roster + k * KEEPER_MEMBER_BYTES, *key = member + 8, value[KEEPER_VALUE_BYTES];
+        const uint64_t reserves[1] = {0}; /* one log has all slots anyway */
         uint64_t low, high;
         put_number(member, 8, 7 + k);
         put_number(key, KEEPER_KEY_BYTES, 1000 + k);
-        if (keeper_format(tables[k], sizeof tables[k], 1, 8, 7 + k, key, KEEPER_KEY_BYTES).number != KEEPER_DONE)
+        if (keeper_format(tables[k], sizeof tables[k], 1, 8, 7 + k, key, KEEPER_KEY_BYTES, reserves, 1).number != KEEPER_DONE)
             return 0;
         for (int i = 0; i < 3; i++) {
             put_number(value, sizeof value, readings[i]);

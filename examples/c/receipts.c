@@ -8,6 +8,7 @@ enum { KEEPER = 7, STAGE = 0, LOGS = 2, SLOTS = 6 };
 
 static uint8_t table[KEEPER_TABLE_BYTES(LOGS, SLOTS)];
 static const uint8_t key[KEEPER_KEY_BYTES] = "32 bytes that only two know.....";
+static const uint64_t reserves[LOGS]; /* no slot is promised */
 static uint8_t nonce[KEEPER_NONCE_BYTES];
 static uint8_t receipt[KEEPER_RECEIPT_BYTES];
 
@@ -47,7 +48,7 @@ int main(void)
     uint64_t low, high;
 
     /* Readings 412, 431 and 455 at positions 1, 2 and 5, the first of which is then forgotten. */
-    uint64_t failed = keeper_format(table, sizeof table, LOGS, SLOTS, KEEPER, key, sizeof key).number;
+    uint64_t failed = keeper_format(table, sizeof table, LOGS, SLOTS, KEEPER, key, sizeof key, reserves, LOGS).number;
     value[30] = 1, value[31] = 156;
     failed |= keeper_append(table, sizeof table, STAGE, value, sizeof value, &low, &high).number;
     value[31] = 175;

@@ -8,6 +8,7 @@ use lib.ListN.{length}
 use lib.Seq.{getD-set-same}
 use Rattle.layout.specs.Image.{Entry, Image, freeSlot, freshRow, slotAt, rowAt}
 use Rattle.layout.specs.Changes.{advancedRow, truncatedRow}
+use Rattle.table.proofs.ReserveLaws.{whole-linked}
 use Rattle.table.specs.Chains.{chain, lastOf}
 use Rattle.table.specs.Free.{freeChain, joint}
 use Rattle.table.specs.WholeImage.{wholeImage}
@@ -26,7 +27,7 @@ pub record Chained (m : Image) (g : ℕ) (c : List ℕ) (es : List Entry) (q : L
 
 pub whole-chained : (m : Image) → wholeImage m ≡ true → (g : ℕ) → Chained m g (chain (m .slots) (suc g) (rowIn m g .first)) (entriesIn m g) (freeChain m)
 unfolding entriesIn
-whole-chained m w g = let r = log-chain m w g in record { log = record { links = r .links; held = refl }; last = r .last; free = free-links m w }
+whole-chained m w g = let l = whole-linked m w in let r = log-chain m l g in record { log = record { links = r .links; held = refl }; last = r .last; free = free-links m l }
 
 module _ (m : Image) (g : ℕ) (c : List ℕ) (es : List Entry) (q : List ℕ) where
   -- the last slot of the free chain
@@ -41,7 +42,7 @@ module _ (m : Image) (g : ℕ) (c : List ℕ) (es : List Entry) (q : List ℕ) w
   unfolding put advancedRow
   put-chained h gG e =
       let M = put-move h e in
-      let r : rowAt (put m g e .rows) g ≡ advancedRow (rowIn m g) (e .position) (m .free) = getD-set-same (m .rows) g (advancedRow (rowIn m g) (e .position) (m .free)) freshRow gG in
+      let r : rowAt (put m g e .rows) g ≡ advancedRow (rowIn m g) (e .position) (m .free) = getD-set-same (m .rows) g (advancedRow (rowIn m g) (e .position) (m .free)) (freshRow 0) gG in
       record {
         log = rw r (move-to _ _ _ _ _ _ _ _ _ M es (h .log .held));
         last = rw r (sym (lastOf-snoc c (m .free)));
@@ -57,7 +58,7 @@ module _ (m : Image) (g t : ℕ) (c : List ℕ) (x : Entry) (es : List Entry) (q
   unfolding release truncatedRow lastOf
   release-chained h gG =
       let M = release-move h in
-      let r : rowAt (release m g .rows) g ≡ truncatedRow (rowIn m g) (rowIn m g .low) (slotAt (m .slots) (rowIn m g .first) .next) = getD-set-same (m .rows) g (truncatedRow (rowIn m g) (rowIn m g .low) (slotAt (m .slots) (rowIn m g .first) .next)) freshRow gG in
+      let r : rowAt (release m g .rows) g ≡ truncatedRow (rowIn m g) (rowIn m g .low) (slotAt (m .slots) (rowIn m g .first) .next) = getD-set-same (m .rows) g (truncatedRow (rowIn m g) (rowIn m g .low) (slotAt (m .slots) (rowIn m g .first) .next)) (freshRow 0) gG in
       record {
         log = rw r (move-from _ _ _ _ _ _ _ _ _ M es (tail-eq-of-cons-eq (h .log .held)));
         last = rw r (h .last);

@@ -76,7 +76,7 @@ module _ (b : List ℕ) (v : View) (after : Row) (x d : List ℕ) (o : Opened b 
       let h = opened-holds b v o bytes in
       let r : RowFits (v .row) = subst RowFits (sym (view-row b v o)) (h .fits .rows (v .log)) in
       let f : v .free < 256 ^ 2 = let p = free-most b v o in let q = h .slots-most in omega arith in
-      subst RowFits (sym rowed) (record { low = r .low; high = high; first = first-fits (v .row .last) (v .row .first) (v .free) (r .first) f; last = f })
+      subst RowFits (sym rowed) (record { low = r .low; high = high; first = first-fits (v .row .last) (v .row .first) (v .free) (r .first) f; last = f; reserve = r .reserve })
 
   pub next-good : (l : Link) → l ≡ linkOf (slotAt (readTable b .slots) (v .free)) → l .next < 65536
   next-good l e = let h = opened-holds b v o bytes in let q = slot-fits (readTable b .slots) (h .fits .slots) (v .free) .next in omega (arith, ap (λ (y : Link). y .next) e)

@@ -63,7 +63,7 @@ changed-fits m f free g r slots hf hr hl hs = record {
   keeper = f .keeper;
   free = hf;
   key = f .key;
-  rows = every-set RowFits (m .rows) g r freshRow (f .rows) hr;
+  rows = every-set RowFits (m .rows) g r (freshRow 0) (f .rows) hr;
   slots = hs;
 }
 
@@ -72,7 +72,7 @@ unfolding put advancedRow
 put-fits m f g gG e hp hv hd =
     let r = f .rows g in
     changed-fits m f _ g _ _ (slot-fits (m .slots) (f .slots) (m .free) .next)
-    (record { low = r .low; high = hp; first = first-fits (rowIn m g .last) (rowIn m g .first) (m .free) (r .first) (f .free); last = f .free })
+    (record { low = r .low; high = hp; first = first-fits (rowIn m g .last) (rowIn m g .first) (m .free) (r .first) (f .free); last = f .free; reserve = r .reserve })
     (length-joined (m .slots) (m .free) (rowIn m g .last) (heldSlot g e))
     (joined-fits (m .slots) (f .slots) (m .free) (rowIn m g .last) (heldSlot g e) (f .free)
     (record { owner = let l = f .logs in omega arith; next = omega arith; position = hp; value = hv; digest = hd }))
@@ -82,7 +82,7 @@ unfolding release truncatedRow
 release-fits m f g =
     let r = f .rows g in
     changed-fits m f _ g _ _ (first-fits (joint m) (m .free) (rowIn m g .first) (f .free) (r .first))
-    (record { low = r .low; high = r .high; first = slot-fits (m .slots) (f .slots) (rowIn m g .first) .next; last = r .last })
+    (record { low = r .low; high = r .high; first = slot-fits (m .slots) (f .slots) (rowIn m g .first) .next; last = r .last; reserve = r .reserve })
     (length-joined (m .slots) (rowIn m g .first) (joint m) (freeSlot 0))
     (joined-fits (m .slots) (f .slots) (rowIn m g .first) (joint m) (freeSlot 0) (r .first) (free-fits 0 (omega arith)))
 
@@ -99,7 +99,7 @@ lowered-fits : (m : Image) → Fits m → (g n : ℕ) → n < 256 ^ 8 → Fits (
 unfolding lowered truncatedRow
 lowered-fits m f g n h =
     let r = f .rows g in
-    changed-fits m f (m .free) g _ (m .slots) (f .free) (record { low = h; high = r .high; first = r .first; last = r .last }) refl (f .slots)
+    changed-fits m f (m .free) g _ (m .slots) (f .free) (record { low = h; high = r .high; first = r .first; last = r .last; reserve = r .reserve }) refl (f .slots)
 
 is32 : (x : List ℕ) → not (eqb (length x) 32) ≡ false → length x ≡ 32
 is32 x h = eqb-true (length x) 32 (not-false (eqb (length x) 32) h)

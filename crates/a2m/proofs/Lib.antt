@@ -14,6 +14,7 @@ pub mod ReleaseLaws
 pub mod Queue
 pub mod QueueBytes
 pub mod Releases
+pub mod Room
 pub mod SearchLaws
 pub mod SlotLaws
 pub mod Unchanged

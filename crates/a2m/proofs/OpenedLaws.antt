@@ -22,6 +22,7 @@ use Rattle.layout.proofs.HoldsLaws.{Holds, holds-read}
 use Rattle.table.specs.declared.Check.the-variants as check
 use Rattle.table.specs.Chains.{chain, reaches, lastOf, entriesOf}
 use Rattle.table.specs.Free.{freeChain, joint}
+use Rattle.table.specs.Reserve.{lackBut}
 use Rattle.table.specs.Whole.{whole, checkOf}
 use Rattle.a2m.specs.declared.View.{View}
 use Rattle.a2m.specs.declared.Opening.the-variants as opening
@@ -40,12 +41,12 @@ use Rattle.table.proofs.WholeLaws.{whole-range, whole-formed, whole-image, chec
 -- ---- opening
 
 module _ (b : List ℕ) (g : ℕ) where
-  pub open-torn : check.Torn ≡ checkOf b → opening.Refused why.Torn ≡ openingOf b g
+  pub open-torn : check.Torn ≡ checkOf b g → opening.Refused why.Torn ≡ openingOf b g
   unfolding openingOf
-  open-torn h = rw (openingOf, check-torn b h)
+  open-torn h = rw (openingOf, check-torn b g h)
 
-  pub check-whole : (free last : ℕ) → check.Whole free last ≡ checkOf b → (whole b ≡ true) × (free ≡ length (freeChain (readTable b))) × (last ≡ joint (readTable b))
-  check-whole free last h = let w = found-whole b free last h in (w .0, sym (w .1), sym (w .2))
+  pub check-whole : (free last others : ℕ) → check.Whole free last others ≡ checkOf b g → (whole b ≡ true) × (free ≡ length (freeChain (readTable b))) × (last ≡ joint (readTable b)) × (others ≡ lackBut (readTable b) g)
+  check-whole free last others h = let w = found-whole b g free last others h in (w .0, sym (w .1), sym (w .2), sym (w .3))
 
   pub open-beyond : whole b ≡ true → logsOf b ≤ g → opening.Refused why.NoLog ≡ openingOf b g
   unfolding openingOf
@@ -55,12 +56,12 @@ module _ (b : List ℕ) (g : ℕ) where
   unfolding openingOf
   open-at v w h e = rw (openingOf, w, lt-leb (logsOf b) g h) (ap opening.Open e)
 
-  pub open-found : whole b ≡ true → (logs slots free count last : ℕ) (row : Row) → g < logs → logs ≡ logsOf b → slots ≡ slotsOf b → row ≡ rowIn (readTable b) g → free ≡ freeOf b → count ≡ length (freeChain (readTable b)) → last ≡ joint (readTable b)
-      → opening.Open (record { logs = logs; slots = slots; log = g; row = row; free = free; count = count; last = last }) ≡ openingOf b g
+  pub open-found : whole b ≡ true → (logs slots free count last others : ℕ) (row : Row) → g < logs → logs ≡ logsOf b → slots ≡ slotsOf b → row ≡ rowIn (readTable b) g → free ≡ freeOf b → count ≡ length (freeChain (readTable b)) → last ≡ joint (readTable b) → others ≡ lackBut (readTable b) g
+      → opening.Open (record { logs = logs; slots = slots; log = g; row = row; free = free; count = count; last = last; others = others }) ≡ openingOf b g
   unfolding viewOf
-  open-found w logs slots free count last row h el es er ef ec ej =
-      open-at (record { logs = logs; slots = slots; log = g; row = row; free = free; count = count; last = last }) w (omega (arith, el))
-      (λ i. record { logs = el i; slots = es i; log = g; row = er i; free = ef i; count = ec i; last = ej i })
+  open-found w logs slots free count last others row h el es er ef ec ej eo =
+      open-at (record { logs = logs; slots = slots; log = g; row = row; free = free; count = count; last = last; others = others }) w (omega (arith, el))
+      (λ i. record { logs = el i; slots = es i; log = g; row = er i; free = ef i; count = ec i; last = ej i; others = eo i })
 
   -- an opened table
   pub opened : (v : View) → opening.Open v ≡ openingOf b g → Opened b v × (v .log ≡ g)
@@ -160,6 +161,10 @@ module _ (b : List ℕ) (v : View) (o : Opened b v) where
   pub view-last : v .last ≡ joint (readTable b)
   unfolding viewOf
   view-last = ap (λ (x : View). x .last) (o .is)
+
+  pub view-others : v .others ≡ lackBut (readTable b) (v .log)
+  unfolding viewOf
+  view-others = ap (λ (x : View). x .others) (o .is)
 
   pub slots-length : length (readTable b .slots) ≡ v .slots
   slots-length = length-slots b ∙ sym view-slots

@@ -10,6 +10,7 @@ use borrow.Author.Tests.{lt-ltb, le-ltb, leb-true, leb-false}
 use Rattle.octets.proofs.Tests.{and-left, and-right}
 use Rattle.layout.specs.declared.Row.{Row}
 use Rattle.layout.specs.Image.{Entry, Slot, Image, entryOf, slotAt}
+use Rattle.table.proofs.ReserveLaws.{whole-linked}
 use Rattle.table.specs.Chains.{chain, lastOf, positionsOf, entriesOf}
 use Rattle.table.specs.Conditions.{Links}
 use Rattle.table.specs.Free.{freeChain, below}
@@ -124,7 +125,7 @@ module _ (m : Image) (w : wholeImage m ≡ true) (g : ℕ) (gG : g < length (m .
   unfolding lowered entriesIn
   truncate-queue =
       let c = chain (m .slots) (suc g) (rowIn m g .first) in
-      let r = log-chain m w g in
+      let r = log-chain m (whole-linked m w) g in
       let p = places-of (m .slots) c in
       run (length (m .slots)) n m g (rowIn m g .low) c (entriesIn m g) (freeChain m) (whole-chained m w g) gG (ap (risingFrom (rowIn m g .low)) p ∙ r .rising) (omega (arith, ap lastOf p, r .top)) (omega (arith, r .low1)) (links-fit (m .slots) (suc g) (rowIn m g .first) c (r .links))
       ∙ ap (λ (l : List ℕ). freeChain m ++ l) (sym (below-beside n (m .slots) c))

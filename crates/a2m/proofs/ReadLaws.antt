@@ -26,7 +26,7 @@ use Rattle.a2m.specs.declared.View.{View}
 use Rattle.a2m.specs.declared.Hit.{Hit}
 use Rattle.a2m.specs.declared.Opening.the-variants as opening
 use Rattle.a2m.specs.Call.{Call, lookup, end, logOf, Reply, refused, found, ended}
-use Rattle.a2m.specs.ImageCalls.{rowIn, entriesIn, wrongLength, misplaced, spent, nothingHeld, full, lookupAttested, endAttested, imageAccept}
+use Rattle.a2m.specs.ImageCalls.{rowIn, entriesIn, wrongLength, misplaced, spent, nothingHeld, full, promised, lookupAttested, endAttested, imageAccept}
 use Rattle.a2m.specs.Search.{Found, lookedUp}
 use Rattle.a2m.specs.TableCalls.{tableRefusal, tableStep}
 use Rattle.a2m.specs.Opened.{openingOf, Opened, foundOf, receiptAfter}
@@ -123,12 +123,12 @@ module _ (b c old : List ℕ) where
     pub end-done : v .row .last ≢ 0 → (keeper w : ℕ) (out : List ℕ) → keeper ≡ keeperOf b → w ≡ 6
         → out ≡ receiptBytes (readTable b .key) (attestationOf (facts name.End 1 (v .log) keeper (v .row .high) (v .row .high)) c (slotAt (readTable b .slots) (v .row .last) .value) (slotAt (readTable b .slots) (v .row .last) .digest))
         → Reads b (end (v .log) c (length old)) (ended out) w out old
-    unfolding misplaced spent nothingHeld full imageAccept receiptAfter
+    unfolding misplaced spent nothingHeld full promised imageAccept receiptAfter
     end-done n keeper w out ek ew e =
         let call = end (v .log) c (length old) in
         let m = readTable b in
         read-accepted b call (ended out) w out old
-        (no-refusal b call (end-sized (v .log) (length old) h k) (o .whole) (opened-known b v o) refl refl (ne-eqb _ _ (λ (q : rowIn m (v .log) .last ≡ 0). n (last-is ∙ q))) refl)
+        (no-refusal b call (end-sized (v .log) (length old) h k) (o .whole) (opened-known b v o) refl refl (ne-eqb _ _ (λ (q : rowIn m (v .log) .last ≡ 0). n (last-is ∙ q))) refl refl)
         (ap ended (e ∙ ap (receiptBytes (m .key)) (of-end b c v keeper (view-row b v o) ek)))
         ew
         refl
@@ -158,13 +158,13 @@ module _ (b c old : List ℕ) (n : ℕ) where
     pub lookup-done : n ≢ 0 → (hit : Hit) (keeper w : ℕ) (out : List ℕ) → foundOf (readTable b .slots) hit ≡ lookedUp (v .row) (entriesIn (readTable b) (v .log)) n → keeper ≡ keeperOf b → w ≡ 6
         → out ≡ receiptBytes (readTable b .key) (attestationOf (facts name.Lookup (hit .kind) (v .log) keeper n (hit .reference)) c (slotAt (readTable b .slots) (hit .slot) .value) (slotAt (readTable b .slots) (hit .slot) .digest))
         → Reads b (lookup (v .log) n c (length old)) (found out (hit .examined)) w out old
-    unfolding misplaced spent nothingHeld full imageAccept receiptAfter
+    unfolding misplaced spent nothingHeld full promised imageAccept receiptAfter
     lookup-done z hit keeper w out eh ek ew e =
         let call = lookup (v .log) n c (length old) in
         let m = readTable b in
         let f : foundOf (m .slots) hit ≡ lookedUp (rowIn m (v .log)) (entriesIn m (v .log)) n = eh ∙ ap (λ (r : Row). lookedUp r (entriesIn m (v .log)) n) (view-row b v o) in
         read-accepted b call (found out (hit .examined)) w out old
-        (no-refusal b call (lookup-sized (v .log) (length old) h k) (o .whole) (opened-known b v o) (ne-eqb n 0 z) refl refl refl)
+        (no-refusal b call (lookup-sized (v .log) (length old) h k) (o .whole) (opened-known b v o) (ne-eqb n 0 z) refl refl refl refl)
         (ap (λ (x : List ℕ). found x (hit .examined)) (e ∙ ap (receiptBytes (m .key)) (of-lookup b c v n hit keeper ek)) ∙ ap (λ (y : Found). found (receiptBytes (m .key) (lookupAttested m (v .log) n c y)) (y .examined)) f)
         ew
         refl

@@ -19,6 +19,7 @@ use Rattle.layout.specs.Changes.{withRow, withSlot, withNext, slotOf, linkOf, t
 use Rattle.layout.specs.Fits.{RowFits, SlotFits}
 use Rattle.layout.proofs.TableLaws.{length-rows, free-fits}
 use Rattle.layout.proofs.HoldsLaws.{Holds, holds-image, holds-row, holds-slot, holds-next, holds-free, holds-count, holds-last}
+use Rattle.table.proofs.ReserveLaws.{whole-linked}
 use Rattle.table.specs.Chains.{chain, lastOf, positionsOf, entriesOf}
 use Rattle.table.specs.Free.{freeChain, joint, stockIn, writeTable}
 use Rattle.a2m.specs.declared.View.{View}
@@ -179,23 +180,23 @@ joins-behind b a last t n e = rw (joinedAt, ne-eqb last 0 n) e
 -- ---- what releases keep of the log's row
 
 abbrev Keeps : Image → Image → ℕ → Type 0
-Keeps a m g = (g < length (a .rows)) × (rowIn a g .high ≡ rowIn m g .high) × (rowIn a g .last ≡ rowIn m g .last)
+Keeps a m g = (g < length (a .rows)) × (rowIn a g .high ≡ rowIn m g .high) × (rowIn a g .last ≡ rowIn m g .last) × (rowIn a g .reserve ≡ rowIn m g .reserve)
 
 pub release-keeps : (m : Image) (g : ℕ) → g < length (m .rows) → Keeps (release m g) m g
 unfolding release truncatedRow
 release-keeps m g h =
     let r = truncatedRow (rowIn m g) (rowIn m g .low) (slotAt (m .slots) (rowIn m g .first) .next) in
-    let e : rowIn (release m g) g ≡ r = getD-set-same (m .rows) g r freshRow h in
-    (omega (arith, length-set (m .rows) g r), ap (λ (x : Row). x .high) e, ap (λ (x : Row). x .last) e)
+    let e : rowIn (release m g) g ≡ r = getD-set-same (m .rows) g r (freshRow 0) h in
+    (omega (arith, length-set (m .rows) g r), ap (λ (x : Row). x .high) e, ap (λ (x : Row). x .last) e, ap (λ (x : Row). x .reserve) e)
 
 pub releases-keep : (k n : ℕ) (m : Image) (g : ℕ) → g < length (m .rows) → Keeps (releases k n m g) m g
 unfolding releases
-releases-keep zero n m g h = (h, refl, refl)
+releases-keep zero n m g h = (h, refl, refl, refl)
 releases-keep (suc k) n m g h = let p = release-keeps m g h in go p (leb n (slotAt (m .slots) (rowIn m g .first) .position)) (releases-keep k n (release m g) g (p .0))
   where
     go : Keeps (release m g) m g → (z : Bool) → Keeps (releases k n (release m g) g) (release m g) g → Keeps (elim z [ true ↦ m | false ↦ releases k n (release m g) g ]) m g
-    go p true r = (h, refl, refl)
-    go p false r = (r .0, r .1 ∙ p .1, r .2 ∙ p .2)
+    go p true r = (h, refl, refl, refl)
+    go p false r = (r .0, r .1 ∙ p .1, r .2 ∙ p .2, r .3 ∙ p .3)
 
 -- ---- before the first slot
 
@@ -214,11 +215,11 @@ module _ (b : List ℕ) (v : View) (o : Opened b v) (n : ℕ) (n1 : 1 ≤ n) (nH
 
       go : (C : List ℕ) → chain (m .slots) (suc (v .log)) (rowIn m (v .log) .first) ≡ C → (c : List ℕ) × (chain (m .slots) (suc (v .log)) (rowIn m (v .log) .first) ≡ v .row .first ∷ c)
       go [] e =
-          let r = log-chain m (whole-image b (o .whole)) (v .log) in
+          let r = log-chain m (whole-linked m (whole-image b (o .whole))) (v .log) in
           let z : 0 ≡ rowIn m (v .log) .high = subst (λ (c : List ℕ). lastOf (positionsOf (m .slots) c) ≡ rowIn m (v .log) .high) e (r .top) in
           absurd (omega (arith, ap (λ (x : Row). x .high) (view-row b v o)))
       go (t ∷ c) e =
-          let r = log-chain m (whole-image b (o .whole)) (v .log) in
+          let r = log-chain m (whole-linked m (whole-image b (o .whole))) (v .log) in
           let l : Links (m .slots) (suc (v .log)) (rowIn m (v .log) .first) (t ∷ c) 0 = subst (λ (d : List ℕ). Links (m .slots) (suc (v .log)) (rowIn m (v .log) .first) d 0) e (r .links) in
           (c, e ∙ ap (λ (x : ℕ). x ∷ c) (sym (l .0) ∙ sym (ap (λ (x : Row). x .first) (view-row b v o))))
 
@@ -229,7 +230,7 @@ module _ (b : List ℕ) (v : View) (o : Opened b v) (n : ℕ) (n1 : 1 ≤ n) (nH
         keeper = m .keeper;
         key = m .key;
         free = m .free;
-        rows = (ap (set (m .rows) (v .log)) (view-row b v o) ∙ set-getD (m .rows) (v .log) freshRow) i;
+        rows = (ap (set (m .rows) (v .log)) (view-row b v o) ∙ set-getD (m .rows) (v .log) (freshRow 0)) i;
         slots = m .slots;
       }
 
@@ -239,7 +240,7 @@ module _ (b : List ℕ) (v : View) (o : Opened b v) (n : ℕ) (n1 : 1 ≤ n) (nH
       let m = readTable b in
       let g = v .log in
       let q = first-cons in
-      let r = log-chain m (whole-image b (o .whole)) g in
+      let r = log-chain m (whole-linked m (whole-image b (o .whole))) g in
       let h = opened-chained b v o in
       let fit = links-fit (m .slots) (suc g) (rowIn m g .first) (chain (m .slots) (suc g) (rowIn m g .first)) (r .links) in
       record {
@@ -427,7 +428,7 @@ module _ (b : List ℕ) (v : View) (n : ℕ) (table : List ℕ) (last count s : 
       let r : RowFits (v .row) = subst RowFits (sym (view-row b v o)) f in
       let k = slot-within .1 in
       let q = R .held .slots-most in
-      subst RowFits (sym e) (record { low = h; high = r .high; first = omega arith; last = r .last })
+      subst RowFits (sym e) (record { low = h; high = r .high; first = omega arith; last = r .last; reserve = r .reserve })
 
   row-is : releases (v .slots) n (readTable b) (v .log) ≡ I → (after : Row) → after ≡ truncatedRow (v .row) n s → after ≡ truncatedRow (rowIn I (v .log)) n (rowIn I (v .log) .first)
   unfolding truncatedRow
@@ -436,7 +437,8 @@ module _ (b : List ℕ) (v : View) (n : ℕ) (table : List ℕ) (last count s : 
       let k = releases-keep (v .slots) n (readTable b) g (omega (arith, o .log, length-rows b)) in
       let hi : v .row .high ≡ rowIn I g .high = ap (λ (x : Row). x .high) (view-row b v o) ∙ sym (k .1) ∙ ap (λ (x : Image). rowIn x g .high) st in
       let la : v .row .last ≡ rowIn I g .last = ap (λ (x : Row). x .last) (view-row b v o) ∙ sym (k .2) ∙ ap (λ (x : Image). rowIn x g .last) st in
-      e ∙ (λ i. record { low = n; high = hi i; first = sym starts i; last = la i })
+      let re : v .row .reserve ≡ rowIn I g .reserve = ap (λ (x : Row). x .reserve) (view-row b v o) ∙ sym (k .3) ∙ ap (λ (x : Image). rowIn x g .reserve) st in
+      e ∙ (λ i. record { low = n; high = hi i; first = sym starts i; last = la i; reserve = re i })
 
   pub row-held : Bytes b → n < 2 ^ 64 → (a₁ a₂ : List ℕ) (after : Row) → a₁ ≡ joinedAt table last 0 → after ≡ truncatedRow (v .row) n s → a₂ ≡ putRow a₁ (v .log) after
       → Holds a₂ (stockOf b) (withRow (withRow I (v .log) (v .row)) (v .log) after) (v .logs) (v .slots)

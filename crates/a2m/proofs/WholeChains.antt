@@ -1,4 +1,4 @@
--- What the test of wholeness says of an image: its chains, and the positions along them.
+-- What document 01's test of wholeness says of an image: its chains, and the positions along them.
 use Prim.Native.Nat.{ℕ, zero, suc, _+_, _≤_}
 use mathlib.Core.Path.{_≡_, refl, sym, _∙_}
 use mathlib.Core.List.{List, [], _∷_}
@@ -13,7 +13,7 @@ use Rattle.layout.specs.declared.Row.{Row}
 use Rattle.layout.specs.Image.{Slot, Image, slotAt, rowAt}
 use Rattle.table.specs.Chains.{chain, reaches, lastOf, positionsOf}
 use Rattle.table.specs.Free.{freeChain}
-use Rattle.table.specs.WholeImage.{all, freeOk, fresh, risingFrom, started, rowOk, rowsOk, meets, wholeImage}
+use Rattle.table.specs.WholeImage.{all, freeOk, fresh, risingFrom, started, rowOk, rowsOk, meets, linked}
 use Rattle.layout.specs.Tests.{blank}
 use Rattle.a2m.proofs.Lists.{lastOf-nil}
 use Rattle.table.specs.Conditions.{Links}
@@ -65,23 +65,21 @@ row-at slots g [] h i = refl
 row-at slots g (r ∷ rs) h zero = rw add-zero (and-left (rowOk slots g r) (rowsOk slots (suc g) rs) h)
 row-at slots g (r ∷ rs) h (suc i) = rw (add-suc, ← suc-add) (row-at slots (suc g) rs (and-right (rowOk slots g r) (rowsOk slots (suc g) rs) h) i)
 
-module _ (m : Image) (w : wholeImage m ≡ true) where
+module _ (m : Image) (w : linked m ≡ true) where
   -- every log's chain; a log beyond the table's has a fresh row
   pub log-chain : (g : ℕ) → RowChain (m .slots) g (rowAt (m .rows) g)
-  unfolding wholeImage
   log-chain g =
       let rows : rowsOk (m .slots) 0 (m .rows) ≡ true = and-right (freeOk m) _ (and-left _ _ w) in
       row-chain (m .slots) g (rowAt (m .rows) g) (rw zero-add at (row-at (m .slots) 0 (m .rows) rows g))
 
   -- the free chain
   pub free-links : Links (m .slots) 0 (m .free) (freeChain m) 0
-  unfolding wholeImage freeOk
+  unfolding freeOk
   free-links = reach-links (m .slots) 0 (m .free) (and-left _ _ (and-left _ _ (and-left _ _ w)))
 
   pub free-blank : all (λ (s : ℕ). blank (slotAt (m .slots) s)) (freeChain m) ≡ true
-  unfolding wholeImage freeOk
+  unfolding freeOk
   free-blank = and-right (reaches (m .slots) 0 (m .free)) _ (and-left _ _ (and-left _ _ w))
 
   pub sum-meets : length (meets m) ≡ length (m .slots)
-  unfolding wholeImage
   sum-meets = eqb-true (length (meets m)) (length (m .slots)) (and-right (freeOk m && rowsOk (m .slots) 0 (m .rows)) _ w)

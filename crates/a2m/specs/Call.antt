@@ -19,6 +19,14 @@ logOf (truncate g n) = g
 logOf (lookup g n c k) = g
 logOf (end g c k) = g
 
+-- request [5]: "asked to append or advance", whatever else is given
+abbrev pub Puts : Call → Type 0
+Puts (append g x) = Unit {0}
+Puts (advance g n d x) = Unit {0}
+Puts (truncate g n) = ⊥
+Puts (lookup g n c k) = ⊥
+Puts (end g c k) = ⊥
+
 -- the numbers are as wide as their types: positions have 64 bits. Any log number is given, and any list of bytes
 abbrev pub Wide : Call → Type 0
 Wide (append g x) = Unit {0}

@@ -11,7 +11,8 @@ use Rattle.layout.specs.declared.Row.{Row}
 use Rattle.layout.specs.Image.{Entry, Slot, Image, freeSlot, slotAt, setSlot, rowAt}
 use Rattle.layout.specs.Changes.{withNext, slotOf, advancedRow, truncatedRow}
 use Rattle.table.specs.Chains.{chain, entriesOf}
-use Rattle.table.specs.Free.{taken, afterTaken, joint}
+use Rattle.table.specs.Free.{freeChain, taken, afterTaken, joint}
+use Rattle.table.specs.Reserve.{heldIn, lackBut}
 use Rattle.table.specs.WholeImage.{wholeImage}
 use Rattle.a2m.specs.Call.{Call, append, advance, truncate, lookup, end, logOf, refused, done, found, ended, Effect, effect}
 use Rattle.a2m.specs.NewEntry.{newEntry}
@@ -66,11 +67,25 @@ full m (truncate g n) = false
 full m (lookup g n c k) = false
 full m (end g c k) = false
 
--- "Order: table calls 7 (receipt output included), 1, 2, 3, 4, 6, 5"; torn tells whether the table is not whole
+-- request [5]: a put "always gets a slot while its log holds fewer entries than its reserve. Beyond that it gets one exactly if the free slots outnumber what
+-- the other logs still lack of their reserves"
+unfoldable pub withheld : Image → ℕ → Bool
+withheld m g = not (ltb (heldIn (m .slots) g (rowIn m g)) (rowIn m g .reserve)) && leb (length (freeChain m)) (lackBut m g)
+
+-- 16: "append or advance with free slots none of which may be taken"
+unfoldable pub promised : Image → Call → Bool
+promised m (append g x) = withheld m g
+promised m (advance g n d x) = withheld m g
+promised m (truncate g n) = false
+promised m (lookup g n c k) = false
+promised m (end g c k) = false
+
+-- "Order: table calls 7 (receipt output included), 1, 2, 3, 4, 6, 5"; 16 "tested after 5"; torn tells whether the table is not whole
 unfoldable pub faults : Bool → Image → Call → List Fault
 faults torn m call =
     fault 7 (wrongLength call) ∷ fault 1 torn ∷ fault 2 (leb (length (m .rows)) (logOf call)) ∷ fault 3 (misplaced (rowIn m (logOf call)) call) ∷
-    fault 4 (spent (rowIn m (logOf call)) call) ∷ fault 6 (nothingHeld (rowIn m (logOf call)) call) ∷ fault 5 (full m call) ∷ []
+    fault 4 (spent (rowIn m (logOf call)) call) ∷ fault 6 (nothingHeld (rowIn m (logOf call)) call) ∷
+    fault 5 (full m call) ∷ fault 16 (promised m call) ∷ []
 
 unfoldable pub imageRefusal : Image → Call → Option ℕ
 imageRefusal m call = firstFault (faults (not (wholeImage m)) m call)

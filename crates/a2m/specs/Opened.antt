@@ -12,6 +12,7 @@ use Rattle.refusal.specs.declared.Worked.the-variants as worked
 use Rattle.layout.specs.Image.{Entry, Slot, entryOf, slotAt}
 use Rattle.layout.specs.Layout.{logsOf, slotsOf, freeOf, readTable, putNext, putFree}
 use Rattle.table.specs.Free.{freeChain, joint}
+use Rattle.table.specs.Reserve.{lackBut}
 use Rattle.table.specs.Whole.{whole}
 use Rattle.a2m.specs.declared.View.{View}
 use Rattle.a2m.specs.declared.Opening.{Opening}
@@ -44,6 +45,7 @@ viewOf b g = record {
   free = freeOf b;
   count = length (freeChain (readTable b));
   last = joint (readTable b);
+  others = lackBut (readTable b) g;
 }
 
 -- 1 "torn", then 2 "no log"

@@ -17,8 +17,8 @@ pub enum Finding {
     Refused { why: Refusal, blocks: u64 },
 }
 
-// A whole table at one of its logs: its counts, the log's row, the first free slot, the number of free slots, and the last
-// (0 if none is free).
+// A whole table at one of its logs: its counts, the log's row, the first free slot, the number of free slots, the last
+// (0 if none is free), and what the other logs lack of their reserves.
 pub struct View {
     pub logs: usize,
     pub slots: usize,
@@ -27,6 +27,7 @@ pub struct View {
     pub free: usize,
     pub count: usize,
     pub last: usize,
+    pub others: usize,
 }
 
 // A table that is opened at a log, or why not: it is torn, or has no such log.

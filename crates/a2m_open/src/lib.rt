@@ -15,7 +15,12 @@ ghost use Rattle.a2m.specs.Opened.{openingOf};
 pub fn open(table: &[u8], log: u64) -> Opening
     ensures { λ r. ⌜ r ≡ openingOf (now (table .entry)) log ⌝ }
 {
-    let Check::Whole { free: count, last } = check(table) else {
+    let Check::Whole {
+        free: count,
+        last,
+        others,
+    } = check(table, log)
+    else {
         return Opening::Refused(Refusal::Torn);
     };
     let logs = logs_of(table);
@@ -34,5 +39,6 @@ pub fn open(table: &[u8], log: u64) -> Opening
         free,
         count,
         last,
+        others,
     })
 }

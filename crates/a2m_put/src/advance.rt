@@ -12,7 +12,7 @@ ghost use Rattle.a2m.specs.Call.{advance as advances};
 ghost use Rattle.a2m.specs.TableCalls.{tableStep};
 ghost use Rattle.a2m.specs.Opened.{Opened, changeReply, changeBlocks};
 
-// Refusals 3 and 5, and the entry at the given position; the given digest stands for the previous one.
+// Refusals 3, 5 and 16, as append's, and the entry at the given position; the given digest stands for the previous one.
 fn advance_open(table: &mut [u8], view: View, position: u64, digest: &[u8], value: &[u8]) -> Change
     requires { ⌜ Opened (now table) view ⌝ }
     requires { ⌜ (length (now digest) ≡ 32) × (length (now value) ≡ 32) ⌝ }
@@ -30,6 +30,12 @@ fn advance_open(table: &mut [u8], view: View, position: u64, digest: &[u8], valu
     if view.free == 0 {
         return Change::Refused {
             why: Refusal::Full,
+            blocks: 0,
+        };
+    }
+    if view.count <= view.others {
+        return Change::Refused {
+            why: Refusal::Promised,
             blocks: 0,
         };
     }

@@ -12,7 +12,8 @@ ghost use Rattle.a2m.specs.Call.{append as appends};
 ghost use Rattle.a2m.specs.TableCalls.{tableStep};
 ghost use Rattle.a2m.specs.Opened.{Opened, changeReply, changeBlocks};
 
-// Refusals 4 and 5, and the entry at the next position.
+// Refusals 4, 5 and 16, and the entry at the next position. A log below its reserve finds more free slots than the other
+// logs lack, so one comparison decides on 16.
 fn append_open(table: &mut [u8], view: View, value: &[u8]) -> Change
     requires { ⌜ Opened (now table) view ⌝ }
     requires { ⌜ length (now value) ≡ 32 ⌝ }
@@ -30,6 +31,12 @@ fn append_open(table: &mut [u8], view: View, value: &[u8]) -> Change
     if view.free == 0 {
         return Change::Refused {
             why: Refusal::Full,
+            blocks: 0,
+        };
+    }
+    if view.count <= view.others {
+        return Change::Refused {
+            why: Refusal::Promised,
             blocks: 0,
         };
     }

@@ -17,12 +17,13 @@ pub extern "C" fn keeper_format(
     slots: u64,
     keeper: u64,
     key: &[u8],
+    reserves: &[u64],
 ) -> KeeperResult
-    ensures answer { λ r. ⌜ r .number ≡ answerOf (formatRefusal (length (now (table .entry))) logs slots (length (now (key .entry)))) ⌝ }
+    ensures answer { λ r. ⌜ r .number ≡ answerOf (formatRefusal (length (now (table .entry))) logs slots (length (now (key .entry))) (now (reserves .entry))) ⌝ }
     ensures blocks { λ r. ⌜ r .blocks ≡ 0 ⌝ }
-    ensures bytes { λ _. ⌜ now (table .exit) ≡ formatBytes (now (table .entry)) logs slots keeper (now (key .entry)) ⌝ }
+    ensures bytes { λ _. ⌜ now (table .exit) ≡ formatBytes (now (table .entry)) logs slots keeper (now (key .entry)) (now (reserves .entry)) ⌝ }
 {
-    let answer = table_format::format(table, logs, slots, keeper, key);
+    let answer = table_format::format(table, logs, slots, keeper, key, reserves);
     worked(answer)
 }
 

@@ -10,8 +10,8 @@
 // set AT BYTES                             bytes of the table
 // check SIZE                               what the check says of the table's first bytes
 // spoil AT BYTE SIZE                       the same with one byte changed, which is put back
-// formatted LOGS SLOTS KEEPER KEY          format, with nothing printed
-// format LOGS SLOTS KEEPER KEY
+// formatted LOGS SLOTS KEEPER KEY RESERVES format, with nothing printed; a reserve has 8 bytes
+// format LOGS SLOTS KEEPER KEY RESERVES
 // append LOG VALUE
 // advance LOG POSITION DIGEST VALUE
 // truncate LOG POSITION
@@ -97,8 +97,8 @@ table n
 set n x
 check n
 spoil n n n
-formatted n n n x
-format n n n x
+formatted n n n x x
+format n n n x x
 append n x
 advance n n x x
 truncate n n
@@ -125,7 +125,9 @@ compare x n x x n x n n
         3 => keep(table, 0, v.a, slot(store, 2, v.b)),
         4 => checked(slot(table, 0, v.a)),
         5 => spoiled(table, v.a, v.b, v.c),
-        6 => fresh(v, store, table),
+        6 => {
+            let _done = fresh(v, store, table);
+        }
         7 => formats(v, store, table),
         8 => appends(v, store, table),
         9 => advances(v, store, table),

@@ -24,12 +24,13 @@ use table_check::check;
 use table_format::format;
 use table_screen::free_slots;
 
+// The lack is that of all logs: there is no log 16.
 pub fn checked(table: &[u8]) {
-    match check(table) {
+    match check(table, 16) {
         Check::Torn => text(b"torn\n"),
-        Check::Whole { free, last } => show(
-            b"whole, free %d, the last of them %d\n",
-            &[free as u64, last as u64],
+        Check::Whole { free, last, others } => show(
+            b"whole, free %d, the last of them %d, lack %d\n",
+            &[free as u64, last as u64, others as u64],
         ),
     }
 }
@@ -131,13 +132,30 @@ pub fn ends(v: Values, store: &[u8], table: &[u8], pile: &mut [u8]) {
     table_after(table);
 }
 
-// Formats the table, and prints nothing.
-pub fn fresh(v: Values, store: &[u8], table: &mut [u8]) {
-    let _done = format(table, v.a, v.b, v.c, slot(store, 4, v.d));
+// The first n of some numbers, or none where there are not so many.
+fn first(numbers: &[u64], n: u64) -> &[u64] {
+    if n <= numbers.len() as u64 {
+        return &numbers[0..n as usize];
+    }
+    &numbers[0..0]
+}
+
+// Formats the table, and prints nothing. A reserve has 8 bytes of its field, which has at most 160.
+pub fn fresh(v: Values, store: &[u8], table: &mut [u8]) -> Worked {
+    let mut reserves = [0u64; 20];
+    words(slot(store, 5, v.e), 0, &mut reserves);
+    format(
+        table,
+        v.a,
+        v.b,
+        v.c,
+        slot(store, 4, v.d),
+        first(&reserves, v.e / 8),
+    )
 }
 
 pub fn formats(v: Values, store: &[u8], table: &mut [u8]) {
-    let answer = format(table, v.a, v.b, v.c, slot(store, 4, v.d));
+    let answer = fresh(v, store, table);
     show(
         b"format %1, %d blocks",
         &[wide(answer.number()), answer.blocks()],

@@ -4,7 +4,7 @@ use libc::STDOUT_FILENO;
 fn usage() {
     io::write_all(
         STDOUT_FILENO,
-        b"usage: keeper <script >answers\n\nReads a script from standard input, a call to a line:\n  format,LOGS,SLOTS,KEEPER\n  append,LOG,VALUE\n  advance,LOG,POSITION,DIGEST,VALUE\n  truncate,LOG,POSITION\n  lookup,LOG,POSITION\n  end,LOG\nWrites a heading and a line for each call to standard output, after each read:\n  line,answer,kind,position,reference,value,low,high\nAnswer 0 is done, others are refusals, 15 for a line that is no call.\n",
+        b"usage: keeper <script >answers\n\nReads a script from standard input, a call to a line:\n  format,LOGS,SLOTS,KEEPER,RESERVE,..    a reserve for each log\n  append,LOG,VALUE\n  advance,LOG,POSITION,DIGEST,VALUE\n  truncate,LOG,POSITION\n  lookup,LOG,POSITION\n  end,LOG\nWrites a heading and a line for each call to standard output, after each read:\n  line,answer,kind,position,reference,value,low,high\nAnswer 0 is done, others are refusals, 15 for a line that is no call.\n",
     );
 }
 

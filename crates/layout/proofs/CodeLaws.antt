@@ -70,21 +70,26 @@ pub mark-four : be 4 markNumber ≡ mark
 unfolding be
 mark-four = refl
 
-pub row-fields : (o : List ℕ) {o₁ o₂ o₃ o₄ : List ℕ} (r : Row) → length o ≡ rowSize → o₁ ≡ splice o 0 (be 8 (r .low)) → o₂ ≡ splice o₁ 8 (be 8 (r .high)) → o₃ ≡ splice o₂ 16 (be 2 (r .first)) → o₄ ≡ splice o₃ 18 (be 2 (r .last)) → o₄ ≡ rowBytes r
+pub row-fields : (o : List ℕ) {o₁ o₂ o₃ o₄ o₅ : List ℕ} (r : Row) → length o ≡ rowSize
+    → o₁ ≡ splice o 0 (be 8 (r .low)) → o₂ ≡ splice o₁ 8 (be 8 (r .high)) → o₃ ≡ splice o₂ 16 (be 2 (r .first)) → o₄ ≡ splice o₃ 18 (be 2 (r .last)) → o₅ ≡ splice o₄ 20 (be 2 (r .reserve))
+    → o₅ ≡ rowBytes r
 unfolding rowBytes
-row-fields o {o₁} {o₂} {o₃} {o₄} r h e₁ e₂ e₃ e₄ =
+row-fields o {o₁} {o₂} {o₃} {o₄} {o₅} r h e₁ e₂ e₃ e₄ e₅ =
     let x₁ : List ℕ = be 8 (r .low) in
     let x₂ : List ℕ = be 8 (r .high) in
     let x₃ : List ℕ = be 2 (r .first) in
     let x₄ : List ℕ = be 2 (r .last) in
+    let x₅ : List ℕ = be 2 (r .reserve) in
     let l₁ = length-be 8 (r .low) in
     let l₂ = length-be 8 (r .high) in
     let l₃ = length-be 2 (r .first) in
     let l₄ = length-be 2 (r .last) in
+    let l₅ = length-be 2 (r .reserve) in
     let w₂ : o₂ ≡ splice o 0 (x₁ ++ x₂) = splice-then o x₁ x₂ 8 e₁ l₁ (omega arith) e₂ in
     let w₃ : o₃ ≡ splice o 0 ((x₁ ++ x₂) ++ x₃) = splice-then o (x₁ ++ x₂) x₃ 16 w₂ (simp (length-append, length-be)) (omega arith) e₃ in
     let w₄ : o₄ ≡ splice o 0 (((x₁ ++ x₂) ++ x₃) ++ x₄) = splice-then o ((x₁ ++ x₂) ++ x₃) x₄ 18 w₃ (simp (length-append, length-be)) (omega arith) e₄ in
-    w₄ ∙ splice-whole o (((x₁ ++ x₂) ++ x₃) ++ x₄) (simp (length-append, length-be) (omega arith)) ∙ simp append-assoc
+    let w₅ : o₅ ≡ splice o 0 ((((x₁ ++ x₂) ++ x₃) ++ x₄) ++ x₅) = splice-then o (((x₁ ++ x₂) ++ x₃) ++ x₄) x₅ 20 w₄ (simp (length-append, length-be)) (omega arith) e₅ in
+    w₅ ∙ splice-whole o ((((x₁ ++ x₂) ++ x₃) ++ x₄) ++ x₅) (simp (length-append, length-be) (omega arith)) ∙ simp append-assoc
 
 pub slot-fields : (o : List ℕ) {o₁ o₂ o₃ o₄ o₅ o₆ : List ℕ} (w n p : ℕ) (v d : List ℕ) → SlotFits (slotOf w n p v d) → length o ≡ slotSize
     → o₁ ≡ splice o 0 (be 1 w) → o₂ ≡ splice o₁ 1 (be 1 0) → o₃ ≡ splice o₂ 2 (be 2 n) → o₄ ≡ splice o₃ 4 (be 8 p) → o₅ ≡ splice o₄ 12 v → o₆ ≡ splice o₅ 44 d

@@ -52,18 +52,22 @@ read-row r h =
     let m : List ℕ = be 8 (r .high) in
     let f : List ℕ = be 2 (r .first) in
     let e : List ℕ = be 2 (r .last) in
+    let v : List ℕ = be 2 (r .reserve) in
+    let past : (a n : ℕ) → part (l ++ (m ++ (f ++ (e ++ v)))) (8 + (8 + a)) n ≡ part (f ++ (e ++ v)) a n =
+    λ a n. skip l (m ++ (f ++ (e ++ v))) 8 (8 + a) n (length-be 8 (r .low)) ∙ skip m (f ++ (e ++ v)) 8 a n (length-be 8 (r .high)) in
     λ i. record {
-      low = (ap unbe (here l (m ++ (f ++ e)) 8 (length-be 8 (r .low))) ∙ unbe-be 8 (r .low) (h .low)) i;
-      high = (ap unbe (skip l (m ++ (f ++ e)) 8 0 8 (length-be 8 (r .low)) ∙ here m (f ++ e) 8 (length-be 8 (r .high))) ∙ unbe-be 8 (r .high) (h .high)) i;
-      first = (ap unbe (skip l (m ++ (f ++ e)) 8 8 2 (length-be 8 (r .low)) ∙ skip m (f ++ e) 8 0 2 (length-be 8 (r .high)) ∙ here f e 2 (length-be 2 (r .first))) ∙ unbe-be 2 (r .first) (h .first)) i;
-      last = (ap unbe (skip l (m ++ (f ++ e)) 8 10 2 (length-be 8 (r .low)) ∙ skip m (f ++ e) 8 2 2 (length-be 8 (r .high)) ∙ skip f e 2 0 2 (length-be 2 (r .first)) ∙ only e 2 (length-be 2 (r .last))) ∙ unbe-be 2 (r .last) (h .last)) i;
+      low = (ap unbe (here l (m ++ (f ++ (e ++ v))) 8 (length-be 8 (r .low))) ∙ unbe-be 8 (r .low) (h .low)) i;
+      high = (ap unbe (skip l (m ++ (f ++ (e ++ v))) 8 0 8 (length-be 8 (r .low)) ∙ here m (f ++ (e ++ v)) 8 (length-be 8 (r .high))) ∙ unbe-be 8 (r .high) (h .high)) i;
+      first = (ap unbe (past 0 2 ∙ here f (e ++ v) 2 (length-be 2 (r .first))) ∙ unbe-be 2 (r .first) (h .first)) i;
+      last = (ap unbe (past 2 2 ∙ skip f (e ++ v) 2 0 2 (length-be 2 (r .first)) ∙ here e v 2 (length-be 2 (r .last))) ∙ unbe-be 2 (r .last) (h .last)) i;
+      reserve = (ap unbe (past 4 2 ∙ skip f (e ++ v) 2 2 2 (length-be 2 (r .first)) ∙ skip e v 2 0 2 (length-be 2 (r .last)) ∙ only v 2 (length-be 2 (r .reserve))) ∙ unbe-be 2 (r .reserve) (h .reserve)) i;
     }
 
 pub write-row : (b : List ℕ) → Bytes b → length b ≡ rowSize → rowBytes (readRow b) ≡ b
 unfolding readRow rowBytes
 write-row b h l =
-    ap₂ _++_ (be-unbe-part b 0 8 h (omega arith)) (ap₂ _++_ (be-unbe-part b 8 8 h (omega arith)) (ap₂ _++_ (be-unbe-part b 16 2 h (omega arith)) (be-unbe-part b 18 2 h (omega arith))))
-    ∙ sym (part-add b 0 8 12 ∙ ap (λ (q : List ℕ). part b 0 8 ++ q) (part-add b 8 8 4 ∙ ap (λ (q : List ℕ). part b 8 8 ++ q) (part-add b 16 2 2)))
+    ap₂ _++_ (be-unbe-part b 0 8 h (omega arith)) (ap₂ _++_ (be-unbe-part b 8 8 h (omega arith)) (ap₂ _++_ (be-unbe-part b 16 2 h (omega arith)) (ap₂ _++_ (be-unbe-part b 18 2 h (omega arith)) (be-unbe-part b 20 2 h (omega arith)))))
+    ∙ sym (part-add b 0 8 14 ∙ ap (λ (q : List ℕ). part b 0 8 ++ q) (part-add b 8 8 6 ∙ ap (λ (q : List ℕ). part b 8 8 ++ q) (part-add b 16 2 4 ∙ ap (λ (q : List ℕ). part b 16 2 ++ q) (part-add b 18 2 2))))
     ∙ only b rowSize l
 
 -- the parts of a slot's bytes: the first of one byte, the zero, and what follows

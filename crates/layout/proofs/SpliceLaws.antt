@@ -29,7 +29,7 @@ module _ (m : Image) (h : Fits m) where
         keeper = h .keeper;
         free = h .free;
         key = h .key;
-        rows = every-set RowFits (m .rows) g r freshRow (h .rows) k;
+        rows = every-set RowFits (m .rows) g r (freshRow 0) (h .rows) k;
         slots = h .slots;
       }
 
@@ -74,7 +74,7 @@ module _ (stock : Stock) (m : Image) (h : Fits m) where
       over header (R ++ S) headerSize (rowSize * g) x (length-header stock m h)
       ∙ ap (λ (q : List ℕ). header ++ q) (splice-left R S (rowSize * g) x (omega (arith, length-rows-written stock m h, length-rowBytes r))
       ∙ ap (λ (q : List ℕ). q ++ S) (ap (λ (a : ℕ). splice R a x) e
-      ∙ splice-flat rowBytes rowSize freshRow (m .rows) g 0 x r (λ i. length-rowBytes (getD (m .rows) i freshRow)) k (omega (arith, length-rowBytes r)) (sym (splice-whole (rowBytes (rowAt (m .rows) g)) x (length-rowBytes r ∙ sym (length-rowBytes (rowAt (m .rows) g)))))))
+      ∙ splice-flat rowBytes rowSize (freshRow 0) (m .rows) g 0 x r (λ i. length-rowBytes (getD (m .rows) i (freshRow 0))) k (omega (arith, length-rowBytes r)) (sym (splice-whole (rowBytes (rowAt (m .rows) g)) x (length-rowBytes r ∙ sym (length-rowBytes (rowAt (m .rows) g)))))))
       ∙ ap (λ (n : ℕ). headerBytes n (length (m .slots)) (m .keeper) (m .free) stock (m .key) ++ (flat rowBytes (set (m .rows) g r) ++ S)) (sym (length-set (m .rows) g r))
 
   -- a splice inside slot i + 1 makes it y

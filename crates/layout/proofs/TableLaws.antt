@@ -29,7 +29,7 @@ length-slots b = length-tabulate (slotsOf b) (λ i. readSlot (part b (cellOffset
 
 pub row-read : (b : List ℕ) (g : ℕ) → g < logsOf b → rowAt (readTable b .rows) g ≡ readRow (part b (rowOffset g) rowSize)
 unfolding readTable rowsOf
-row-read b g h = getD-tabulate (logsOf b) (λ j. readRow (part b (rowOffset j) rowSize)) g freshRow h
+row-read b g h = getD-tabulate (logsOf b) (λ j. readRow (part b (rowOffset j) rowSize)) g (freshRow 0) h
 
 pub slot-read : (b : List ℕ) (s : ℕ) → 1 ≤ s → s ≤ slotsOf b → slotAt (readTable b .slots) s ≡ readSlot (part b (slotOffset (logsOf b) s) slotSize)
 unfolding readTable cellsOf slotAt
@@ -49,12 +49,12 @@ module _ (stock : Stock) (m : Image) (h : Fits m) where
   slot-lengths i = length-slotBytes (getD (m .slots) i (freeSlot 0)) (h .slots i)
 
   pub length-rows-written : length (flat rowBytes (m .rows)) ≡ rowSize * length (m .rows)
-  length-rows-written = length-flat rowBytes rowSize freshRow (m .rows) (λ i. length-rowBytes (getD (m .rows) i freshRow))
+  length-rows-written = length-flat rowBytes rowSize (freshRow 0) (m .rows) (λ i. length-rowBytes (getD (m .rows) i (freshRow 0)))
 
   pub length-slots-written : length (flat slotBytes (m .slots)) ≡ slotSize * length (m .slots)
   length-slots-written = length-flat slotBytes slotSize (freeSlot 0) (m .slots) slot-lengths
 
-  -- "The length is 52 + 20G + 76S exactly"
+  -- "The length is 52 + 20G + 76S exactly", with the present header and rows
   pub length-write : length (writeWith stock m) ≡ tableSize (length (m .rows)) (length (m .slots))
   unfolding writeWith
   length-write = simp (length-append, length-header, length-rows-written, length-slots-written) (omega arith)
@@ -70,7 +70,7 @@ module _ (stock : Stock) (m : Image) (h : Fits m) where
   row-written g k =
       skip (headerBytes (length (m .rows)) (length (m .slots)) (m .keeper) (m .free) stock (m .key)) (flat rowBytes (m .rows) ++ flat slotBytes (m .slots)) headerSize (rowSize * g) rowSize length-header
       ∙ part-append-left (flat rowBytes (m .rows)) (flat slotBytes (m .slots)) (rowSize * g) rowSize (omega (arith, length-rows-written))
-      ∙ part-flat rowBytes rowSize freshRow (m .rows) g (λ i. length-rowBytes (getD (m .rows) i freshRow)) k
+      ∙ part-flat rowBytes rowSize (freshRow 0) (m .rows) g (λ i. length-rowBytes (getD (m .rows) i (freshRow 0))) k
 
   slot-written : (i : ℕ) → i < length (m .slots) → part (writeWith stock m) (cellOffset (length (m .rows)) i) slotSize ≡ slotBytes (getD (m .slots) i (freeSlot 0))
   unfolding writeWith
@@ -95,7 +95,7 @@ module _ (stock : Stock) (m : Image) (h : Fits m) where
   rows-written =
       ap (λ (k : ℕ). tabulate k (λ g. readRow (part (writeWith stock m) (rowOffset g) rowSize))) logs-written
       ∙ tabulate-ext (length (m .rows)) (λ g. readRow (part (writeWith stock m) (rowOffset g) rowSize)) (λ g. rowAt (m .rows) g) (λ g k. ap readRow (row-written g k) ∙ read-row (rowAt (m .rows) g) (h .rows g))
-      ∙ tabulate-getD (m .rows) freshRow
+      ∙ tabulate-getD (m .rows) (freshRow 0)
 
   cells-written : cellsOf (writeWith stock m) ≡ m .slots
   unfolding cellsOf
@@ -144,15 +144,21 @@ module _ (stock : Stock) (m : Image) (h : Fits m) where
 
 -- what is read
 
-pub fresh-fits : RowFits freshRow
-fresh-fits = record { low = omega arith; high = omega arith; first = omega arith; last = omega arith }
+pub fresh-fits : (r : ℕ) → r < 256 ^ 2 → RowFits (freshRow r)
+fresh-fits r h = record { low = omega arith; high = omega arith; first = omega arith; last = omega arith; reserve = h }
 
 pub free-fits : (n : ℕ) → n < 256 ^ 2 → SlotFits (freeSlot n)
 free-fits n h = record { owner = omega arith; next = h; position = omega arith; value = length-zeros 32; digest = length-zeros 32 }
 
 row-fits : (b : List ℕ) → Bytes b → RowFits (readRow b)
 unfolding readRow
-row-fits b h = record { low = unbe-part-lt b 0 8 h; high = unbe-part-lt b 8 8 h; first = unbe-part-lt b 16 2 h; last = unbe-part-lt b 18 2 h }
+row-fits b h = record { low = unbe-part-lt b 0 8 h; high = unbe-part-lt b 8 8 h; first = unbe-part-lt b 16 2 h; last = unbe-part-lt b 18 2 h; reserve = unbe-part-lt b 20 2 h }
+
+-- a row that any bytes say fits
+pub rows-fit : (b : List ℕ) → Bytes b → (g : ℕ) → RowFits (rowAt (readTable b .rows) g)
+unfolding readTable rowsOf
+rows-fit b h =
+    every-tabulate RowFits (logsOf b) (λ g. readRow (part b (rowOffset g) rowSize)) (freshRow 0) (fresh-fits 0 (omega arith)) (λ g k. row-fits (part b (rowOffset g) rowSize) (bytes-part b (rowOffset g) rowSize h))
 
 slot-fits : (b : List ℕ) → Bytes b → length b ≡ slotSize → SlotFits (readSlot b)
 unfolding readSlot
@@ -175,7 +181,7 @@ module _ (b : List ℕ) (bytes : Bytes b) (h : Formed b) where
   rows-read : flat rowBytes (rowsOf b) ≡ part b headerSize (rowSize * logsOf b)
   unfolding rowsOf
   rows-read =
-      flat-tabulate rowBytes rowSize freshRow b (logsOf b) headerSize (λ g. readRow (part b (rowOffset g) rowSize))
+      flat-tabulate rowBytes rowSize (freshRow 0) b (logsOf b) headerSize (λ g. readRow (part b (rowOffset g) rowSize))
       (λ g k. write-row (part b (rowOffset g) rowSize) (bytes-part b (rowOffset g) rowSize bytes) (row-size g k))
 
   cells-read : flat slotBytes (cellsOf b) ≡ part b (rowOffset (logsOf b)) (slotSize * slotsOf b)
@@ -207,7 +213,7 @@ module _ (b : List ℕ) (bytes : Bytes b) (h : Formed b) where
         keeper = unbe-part-lt b 8 8 bytes;
         free = unbe-part-lt b freeOffset 2 bytes;
         key = length-part b 20 32 (omega (arith, h .sized));
-        rows = every-tabulate RowFits (logsOf b) (λ g. readRow (part b (rowOffset g) rowSize)) freshRow fresh-fits (λ g k. row-fits (part b (rowOffset g) rowSize) (bytes-part b (rowOffset g) rowSize bytes));
+        rows = rows-fit b bytes;
         slots = every-tabulate SlotFits (slotsOf b) (λ i. readSlot (part b (cellOffset (logsOf b) i) slotSize)) (freeSlot 0) (free-fits 0 (omega arith)) (λ i k. slot-fits (part b (cellOffset (logsOf b) i) slotSize) (bytes-part b (cellOffset (logsOf b) i) slotSize bytes) (cell-size i k));
       }
 

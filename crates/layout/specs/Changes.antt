@@ -34,7 +34,7 @@ linkOf s = record { owner = s .owner; next = s .next; position = s .position }
 
 -- document 01: "hands back the row as it is after". Advance: the entry at n is the last, and the first where the chain was empty
 unfoldable pub advancedRow : Row → ℕ → ℕ → Row
-advancedRow r n slot = record { low = r .low; high = n; first = cond (eqb (r .last) 0) slot (r .first); last = slot }
+advancedRow r n slot = record { low = r .low; high = n; first = cond (eqb (r .last) 0) slot (r .first); last = slot; reserve = r .reserve }
 
 -- "Append puts value x at H + 1."
 unfoldable pub appendedRow : Row → ℕ → Row
@@ -42,4 +42,4 @@ appendedRow r slot = advancedRow r (r .high + 1) slot
 
 -- "Entries below n leave, .. L becomes n."; first is the lowest entry's slot that stays
 unfoldable pub truncatedRow : Row → ℕ → ℕ → Row
-truncatedRow r n first = record { low = n; high = r .high; first = first; last = r .last }
+truncatedRow r n first = record { low = n; high = r .high; first = first; last = r .last; reserve = r .reserve }

@@ -14,6 +14,7 @@ pub record RowFits (r : Row) : Type 0 where
   pub high : r .high < 256 ^ 8
   pub first : r .first < 256 ^ 2
   pub last : r .last < 256 ^ 2
+  pub reserve : r .reserve < 256 ^ 2
 
 -- the slot's numbers and lists fit their fields
 pub record SlotFits (s : Slot) : Type 0 where

@@ -37,9 +37,9 @@ blankEntry = record { position = 0; value = zeros 32; digest = zeros 32 }
 abbrev pub freeSlot : ℕ → Slot
 freeSlot n = record { owner = 0; next = n; position = 0; value = zeros 32; digest = zeros 32 }
 
--- document 01: "A fresh log has L = 1 and H = 0", and no slots
-abbrev pub freshRow : Row
-freshRow = record { low = 1; high = 0; first = 0; last = 0 }
+-- document 01: "A fresh log has L = 1 and H = 0", and no slots; with a reserve
+abbrev pub freshRow : ℕ → Row
+freshRow reserve = record { low = 1; high = 0; first = 0; last = 0; reserve = reserve }
 
 -- slots count from 1; there is no slot 0
 unfoldable pub slotAt : List Slot → ℕ → Slot
@@ -51,4 +51,4 @@ setSlot slots zero x = slots
 setSlot slots (suc i) x = set slots i x
 
 abbrev pub rowAt : List Row → ℕ → Row
-rowAt rows g = getD rows g freshRow
+rowAt rows g = getD rows g (freshRow 0)

@@ -18,9 +18,9 @@ pub record Plan : Type 0 where
 abbrev pub plan01 : Plan
 plan01 = record { mark = 65 ∷ 50 ∷ 77 ∷ 84 ∷ []; header = 52; row = 20 }
 
--- the present one; request [1]: "Such tables begin A2MU instead of A2MT"; request [4]: "The header grows to 54 bytes"
+-- the present one; request [1]: "Such tables begin A2MU instead of A2MT"; request [4]: "The header grows to 54 bytes"; request [5]: a reserve, "kept as 2 more bytes at its row's end"
 abbrev pub plan : Plan
-plan = record { mark = 65 ∷ 50 ∷ 77 ∷ 85 ∷ []; header = 54; row = 20 }
+plan = record { mark = 65 ∷ 50 ∷ 77 ∷ 85 ∷ []; header = 54; row = 22 }
 
 abbrev pub headerSize : ℕ
 headerSize = plan .header
@@ -98,11 +98,11 @@ cellOffset logs i = cellOffsetIn plan logs i
 abbrev pub slotOffset : ℕ → ℕ → ℕ
 slotOffset logs s = cellOffset logs (s - 1)
 
--- "The length is 52 + 20G + 76S exactly", with the present header
+-- "The length is 52 + 20G + 76S exactly", with the present header and rows
 abbrev pub tableSize : ℕ → ℕ → ℕ
 tableSize logs slots = cellOffset logs slots
 
--- the table of most logs and slots: document 01's "at most 61,172", and 2 bytes more
+-- the table of most logs and slots: document 01's "at most 61,172", 2 bytes more and 2 for each row
 abbrev pub largest : ℕ
 largest = tableSize 16 800
 
@@ -110,13 +110,13 @@ largest = tableSize 16 800
 abbrev pub zeroOffset : ℕ
 zeroOffset = 5
 
--- "L (8), H (8), first slot (2), last slot (2)", read off a row's 20 bytes
+-- "L (8), H (8), first slot (2), last slot (2)" and the reserve (2), read off a row's 22 bytes
 unfoldable pub readRow : List ℕ → Row
-readRow b = record { low = unbe (part b 0 8); high = unbe (part b 8 8); first = unbe (part b 16 2); last = unbe (part b 18 2) }
+readRow b = record { low = unbe (part b 0 8); high = unbe (part b 8 8); first = unbe (part b 16 2); last = unbe (part b 18 2); reserve = unbe (part b 20 2) }
 
 -- the same, written
 unfoldable pub rowBytes : Row → List ℕ
-rowBytes r = be 8 (r .low) ++ (be 8 (r .high) ++ (be 2 (r .first) ++ be 2 (r .last)))
+rowBytes r = be 8 (r .low) ++ (be 8 (r .high) ++ (be 2 (r .first) ++ (be 2 (r .last) ++ be 2 (r .reserve))))
 
 -- "0 owner (0 free, log number + 1 held); 1 zero; 2–3 next slot, 0 at the chain's end; 4–11 position; 12–43 value; 44–75 digest", read off a slot's 76 bytes
 unfoldable pub readSlot : List ℕ → Slot

@@ -15,6 +15,7 @@ impl Row {
                 high: n,
                 first: slot,
                 last: slot,
+                reserve: self.reserve,
             };
         }
         Row {
@@ -22,6 +23,7 @@ impl Row {
             high: n,
             first: self.first,
             last: slot,
+            reserve: self.reserve,
         }
     }
 
@@ -43,6 +45,7 @@ impl Row {
             high: self.high,
             first,
             last: self.last,
+            reserve: self.reserve,
         }
     }
 }

@@ -2,12 +2,13 @@
 mod changes;
 pub mod places;
 
-// A log's row: low and high position, first and last slot of its chain.
+// A log's row: low and high position, first and last slot of its chain, and the slots promised to it.
 pub struct Row {
     pub low: u64,
     pub high: u64,
     pub first: usize,
     pub last: usize,
+    pub reserve: usize,
 }
 
 // A slot without its value and digest.

@@ -11,7 +11,7 @@ pub const MARK: u32 = 0x4132_4D55;
 
 pub const HEADER: usize = 54;
 
-pub const ROW: usize = 20;
+pub const ROW: usize = 22;
 
 pub const SLOT: usize = 76;
 

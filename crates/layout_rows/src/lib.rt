@@ -22,11 +22,13 @@ fn read_row(part: &[u8]) -> Row
     let high = get_u64(part, 8);
     let first = pair_at(part, 16);
     let last = pair_at(part, 18);
+    let reserve = pair_at(part, 20);
     Row {
         low,
         high,
         first,
         last,
+        reserve,
     }
 }
 
@@ -50,6 +52,7 @@ pub fn write_row(part: &mut [u8], row: Row)
     put_u64(part, 8, row.high);
     put_pair(part, 16, row.first);
     put_pair(part, 18, row.last);
+    put_pair(part, 20, row.reserve);
 }
 
 // Another row of log g.

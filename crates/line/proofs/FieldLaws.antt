@@ -1,22 +1,24 @@
 -- Laws of fields and numbers.
 use Prim.Native.Nat.{ℕ, suc, _+_, _-_, _≤_, _<_}
 use mathlib.Core.Path.{_≡_, refl, sym, ap, ap₂, _∙_}
+use mathlib.Core.Logic.{_⊎_, inl, inr}
 use mathlib.Core.Bool.{Bool, true, false, cond}
 use mathlib.Core.List.{List, [], _∷_, _++_, append-assoc, append-nil}
 use mathlib.Core.Option.{Option, some, none}
 use native.Mathlib.Omega.{arith}
 use native.Mathlib.Numerals.{add-one}
-use lib.ListN.{length, take, drop, getD, set, length-append, length-drop, length-take, take-append-drop, drop-of-length-le}
+use lib.ListN.{length, take, drop, getD, set, length-append, length-drop, length-take, drop-of-length-le}
 use native.Mathlib.Decide.{decLe}
-use lib.Seq.{drop-cons, drop-drop, take-suc-set, drop-set-lt}
+use lib.Seq.{drop-cons, drop-drop}
 use lib.Dec.{eqb}
-use borrow.Author.Tests.{eq-eqb, ne-eqb, le-leb, lt-leb, eqb-true}
+use borrow.Author.Tests.{eq-eqb, ne-eqb, eqb-true}
 use Rattle.decimal.specs.Decimal.{numberOf}
 use Rattle.decimal.specs.declared.Number.{Number}
 use Rattle.decimal.specs.declared.Number.the-variants.{Value, Malformed}
-use Rattle.line.specs.declared.Count.the-variants.{Of, TooMany}
 use Rattle.line.specs.Fields.{onFirst, fieldsOf, before, numbersOf, partsOf, upTo}
-use Rattle.line.specs.Command.{countOf}
+use Rattle.line.specs.Command.{padded}
+use Rattle.octets.specs.Octets.{zeros}
+use Rattle.line.proofs.PaddedLaws.{padded-set, padded-full}
 
 -- ---- the part before the first mark
 
@@ -112,16 +114,6 @@ pub numbers-end : (xs : List ℕ) → prepend xs (numbersOf []) ≡ some xs
 unfolding numbersOf
 numbers-end xs = ap {B = Option (List ℕ)} some (append-nil xs)
 
--- four are read, and a field follows
-pub count-over : (xs : List ℕ) (f : List ℕ) (fs : List (List ℕ)) → length xs ≡ 4 → countOf (prepend xs (numbersOf (f ∷ fs))) ≡ TooMany
-unfolding numbersOf
-count-over xs f fs h = go (numberOf f) (numbersOf fs)
-  where
-    go : (n : Number) (o : Option (List ℕ)) → countOf (prepend xs (before n o)) ≡ TooMany
-    go (Value v) none = refl
-    go (Value v) (some ys) = rw (lt-leb (length (xs ++ v ∷ ys)) 4 (omega (arith, length-append xs (v ∷ ys))))
-    go Malformed o = refl
-
 -- ---- the loop that reads the numbers: n of them stand in values, the fields from at are to come
 
 -- there is a first part
@@ -132,42 +124,63 @@ parts-cons mark l = go (decLe (length l) (length (upTo mark l)))
     go (yes q) = ([], fields-last mark l (omega (arith, length-upTo mark l)))
     go (no q) = (partsOf mark (drop (suc (length (upTo mark l))) l), fields-more mark l (omega arith))
 
-pub never-counted : (o : Option (List ℕ)) (ns : List ℕ) → countOf o ≡ TooMany → o ≡ some ns → length ns ≤ 4 → ⊥
-never-counted o ns h e l =
-    let q : countOf (some ns) ≡ Of (length ns) = rw (le-leb (length ns) 4 l) in
-    let z : _≡_ {A = ℕ} 0 1 = cc (ap countOf e) in
-    omega arith
+pub some-inj : (xs ys : List ℕ) → some xs ≡ some ys → xs ≡ ys
+some-inj xs ys h = cc
 
-pub count-some : (xs : List ℕ) → length xs ≤ 4 → countOf (some xs) ≡ Of (length xs)
-count-some xs h = rw (le-leb (length xs) 4 h)
+pub none-some : (xs : List ℕ) → none ≡ some xs → ⊥
+none-some xs h = let z : _≡_ {A = ℕ} 0 1 = cc in omega arith
 
-module _ (o : Option (List ℕ)) (xs l : List ℕ) (read : o ≡ prepend xs (numbersOf (fieldsOf l))) where
-  pub stop-bad : numberOf (upTo 44 l) ≡ Malformed → countOf o ≡ TooMany
-  stop-bad h =
+-- the numbers from a place on, those before another place read, n of them, and the first 19 kept
+pub record Reading (s : List ℕ) (from at n : ℕ) (values : List ℕ) : Type 0 where
+  pub ns : List ℕ
+  pub read : numbersOf (fieldsOf (drop from s)) ≡ prepend ns (numbersOf (fieldsOf (drop at s)))
+  pub size : length ns ≡ n
+  pub kept : values ≡ padded 19 ns
+
+pub reading-none : (s : List ℕ) (from : ℕ) (values : List ℕ) → values ≡ zeros 19 → Reading s from from 0 values
+unfolding padded zeros
+reading-none s from values h = record { ns = []; read = prepend-nil (numbersOf (fieldsOf (drop from s))); size = refl; kept = h }
+
+-- the field from at ends at e
+module _ (s : List ℕ) (from at n : ℕ) (values : List ℕ) (r : Reading s from at n values) (e : ℕ) (ends : e ≡ at + length (upTo 44 (drop at s))) where
+  -- it is no number
+  pub reading-bad : numberOf (take (e - at) (drop at s)) ≡ Malformed → numbersOf (fieldsOf (drop from s)) ≡ none
+  reading-bad h =
+      let l : List ℕ = drop at s in
       let f = parts-cons 44 l in
-      ap countOf (read ∙ ap (λ (fs : List (List ℕ)). prepend xs (numbersOf fs)) (f .1) ∙ numbers-bad xs (upTo 44 l) (f .0) h)
+      r .read ∙ ap (λ (fs : List (List ℕ)). prepend (r .ns) (numbersOf fs)) (f .1) ∙ numbers-bad (r .ns) (upTo 44 l) (f .0) (ap numberOf (sym (field-part 44 s at e ends)) ∙ h)
 
-  pub stop-over : length xs ≡ 4 → countOf o ≡ TooMany
-  stop-over h =
-      let f = parts-cons 44 l in
-      ap countOf (read ∙ ap (λ (fs : List (List ℕ)). prepend xs (numbersOf fs)) (f .1)) ∙ count-over xs (upTo 44 l) (f .0) h
+  -- it is one, v
+  module _ (v : ℕ) (is : numberOf (take (e - at) (drop at s)) ≡ Value v) where
+    says : numberOf (upTo 44 (drop at s)) ≡ Value v
+    says = ap numberOf (sym (field-part 44 s at e ends)) ∙ is
 
-  pub stop-last : (v : ℕ) → numberOf (upTo 44 l) ≡ Value v → fieldsOf l ≡ upTo 44 l ∷ [] → o ≡ some (xs ++ (v ∷ []))
-  stop-last v h e = read ∙ ap (λ (fs : List (List ℕ)). prepend xs (numbersOf fs)) e ∙ numbers-more xs (upTo 44 l) [] v h ∙ numbers-end (xs ++ (v ∷ []))
+    -- the last
+    pub reading-last : e ≡ length s → numbersOf (fieldsOf (drop from s)) ≡ some (r .ns ++ (v ∷ []))
+    reading-last h =
+        r .read
+        ∙ ap (λ (fs : List (List ℕ)). prepend (r .ns) (numbersOf fs)) (last-field 44 s at e ends h)
+        ∙ numbers-more (r .ns) (upTo 44 (drop at s)) [] v says
+        ∙ numbers-end (r .ns ++ (v ∷ []))
 
-  pub go-on : (v : ℕ) (m : List ℕ) → numberOf (upTo 44 l) ≡ Value v → fieldsOf l ≡ upTo 44 l ∷ fieldsOf m → o ≡ prepend (xs ++ (v ∷ [])) (numbersOf (fieldsOf m))
-  go-on v m h e = read ∙ ap (λ (fs : List (List ℕ)). prepend xs (numbersOf fs)) e ∙ numbers-more xs (upTo 44 l) (fieldsOf m) v h
+    -- others follow
+    pub reading-more : (values′ : List ℕ) → values′ ≡ padded 19 (r .ns ++ (v ∷ [])) → e < length s → Reading s from (e + 1) (n + 1) values′
+    reading-more values′ k h =
+        record {
+          ns = r .ns ++ (v ∷ []);
+          read =
+              r .read
+              ∙ ap (λ (fs : List (List ℕ)). prepend (r .ns) (numbersOf fs)) (more-fields 44 s at e ends h)
+              ∙ numbers-more (r .ns) (upTo 44 (drop at s)) (fieldsOf (drop (e + 1) s)) v says;
+          size = omega (arith, length-append (r .ns) (v ∷ []), r .size);
+          kept = k;
+        }
 
--- a number stored
-pub stored : (values : List ℕ) (n v : ℕ) → n < length values → take (n + 1) (set values n v) ≡ take n values ++ (v ∷ [])
-stored values n v h = ap (λ (k : ℕ). take k (set values n v)) (add-one n) ∙ take-suc-set values n v h
-
-pub untouched : (values old : List ℕ) (n v : ℕ) → drop n values ≡ drop n old → drop (n + 1) (set values n v) ≡ drop (n + 1) old
-untouched values old n v e =
-    drop-set-lt (n + 1) values n v (omega arith) ∙ sym (drop-drop 1 n values) ∙ ap (drop 1) e ∙ drop-drop 1 n old
-
-pub whole : (values old ns : List ℕ) (n : ℕ) → take n values ≡ ns → length ns ≡ n → drop n values ≡ drop n old → values ≡ ns ++ drop (length ns) old
-whole values old ns n t h d = sym (take-append-drop n values) ∙ ap₂ (λ (x y : List ℕ). x ++ y) t d ∙ ap (λ (k : ℕ). ns ++ drop k old) (sym h)
+    -- it is stored if it is among the first 19
+    pub reading-kept : (values′ : List ℕ) → ((n < 19) × (values′ ≡ set values n v)) ⊎ ((19 ≤ n) × (values′ ≡ values)) → values′ ≡ padded 19 (r .ns ++ (v ∷ []))
+    reading-kept values′ (inl w) =
+        w .1 ∙ ap₂ (λ (l : List ℕ) (i : ℕ). set l i v) (r .kept) (sym (r .size)) ∙ padded-set 19 (r .ns) v (omega (arith, r .size, w .0))
+    reading-kept values′ (inr w) = w .1 ∙ r .kept ∙ padded-full 19 (r .ns) v (omega (arith, r .size, w .0))
 
 -- the part before the first mark, and the mark
 pub take-marked : (mark : ℕ) (l : List ℕ) → length (upTo mark l) < length l → take (length (upTo mark l) + 1) l ≡ upTo mark l ++ (mark ∷ [])

@@ -1,3 +1,4 @@
+pub mod PaddedLaws
 pub mod FieldLaws
 pub mod AnswerLaws
 pub mod CommandLaws

@@ -4,13 +4,31 @@ use mathlib.Core.List.{[], _∷_}
 use Rattle.decimal.specs.Decimal.{allDigits, valueAfter, numberOf}
 use Rattle.octets.specs.Octets.{same}
 use Rattle.line.specs.Fields.{partsOf, numbersOf}
-use Rattle.line.specs.Command.{commandOf}
+use Rattle.line.specs.Command.{commandOf, reservesOf}
 use Rattle.line.specs.declared.Command.the-variants.{Format, Append, Advance, End, Malformed}
 
--- format,2,3,7
-sample-format : commandOf (102 ∷ 111 ∷ 114 ∷ 109 ∷ 97 ∷ 116 ∷ 44 ∷ 50 ∷ 44 ∷ 51 ∷ 44 ∷ 55 ∷ []) ≡ Format 2 3 7
+-- format,2,3,7,1,0
+sample-format : commandOf (102 ∷ 111 ∷ 114 ∷ 109 ∷ 97 ∷ 116 ∷ 44 ∷ 50 ∷ 44 ∷ 51 ∷ 44 ∷ 55 ∷ 44 ∷ 49 ∷ 44 ∷ 48 ∷ []) ≡ Format 2 3 7
 unfolding commandOf partsOf numbersOf numberOf allDigits valueAfter same
 sample-format = refl
+
+sample-reserves : reservesOf (102 ∷ 111 ∷ 114 ∷ 109 ∷ 97 ∷ 116 ∷ 44 ∷ 50 ∷ 44 ∷ 51 ∷ 44 ∷ 55 ∷ 44 ∷ 49 ∷ 44 ∷ 48 ∷ []) ≡ 1 ∷ 0 ∷ []
+unfolding reservesOf commandOf partsOf numbersOf numberOf allDigits valueAfter same
+sample-reserves = refl
+
+-- format,2,3,7 and format,2,3,7,1: "G reserves follow the keeper number, otherwise 15"
+no-reserves : commandOf (102 ∷ 111 ∷ 114 ∷ 109 ∷ 97 ∷ 116 ∷ 44 ∷ 50 ∷ 44 ∷ 51 ∷ 44 ∷ 55 ∷ []) ≡ Malformed
+unfolding commandOf partsOf numbersOf numberOf allDigits valueAfter same
+no-reserves = refl
+
+one-reserve : commandOf (102 ∷ 111 ∷ 114 ∷ 109 ∷ 97 ∷ 116 ∷ 44 ∷ 50 ∷ 44 ∷ 51 ∷ 44 ∷ 55 ∷ 44 ∷ 49 ∷ []) ≡ Malformed
+unfolding commandOf partsOf numbersOf numberOf allDigits valueAfter same
+one-reserve = refl
+
+-- format,0,3,7: no log, no reserve
+no-log : commandOf (102 ∷ 111 ∷ 114 ∷ 109 ∷ 97 ∷ 116 ∷ 44 ∷ 48 ∷ 44 ∷ 51 ∷ 44 ∷ 55 ∷ []) ≡ Format 0 3 7
+unfolding commandOf partsOf numbersOf numberOf allDigits valueAfter same
+no-log = refl
 
 -- advance,0,5,0,43
 sample-advance : commandOf (97 ∷ 100 ∷ 118 ∷ 97 ∷ 110 ∷ 99 ∷ 101 ∷ 44 ∷ 48 ∷ 44 ∷ 53 ∷ 44 ∷ 48 ∷ 44 ∷ 52 ∷ 51 ∷ []) ≡ Advance 0 5 0 43

@@ -1,11 +1,12 @@
 // Fields parted by commas.
 ghost use mathlib.Core.Path.{_≡_};
-ghost use mathlib.Core.List.{List, _++_};
+ghost use mathlib.Core.List.{List};
 ghost use mathlib.Core.Option.{some};
 ghost use Prim.Native.Nat.{ℕ, _+_, _≤_, max};
 ghost use lib.ListN.{length, drop};
+ghost use Rattle.octets.specs.Octets.{zeros};
 ghost use Rattle.line.specs.Fields.{fieldsOf, numbersOf, upTo};
-ghost use Rattle.line.specs.Command.{countOf};
+ghost use Rattle.line.specs.Command.{countOf, padded};
 use crate::Count;
 use decimal::Number;
 
@@ -23,25 +24,26 @@ pub fn find(s: &[u8], from: usize, mark: u8) -> usize
     i
 }
 
-// The numbers of the fields from a place on.
+// The numbers of the fields from a place on: how many, and the first 19 of them, a format's own three and 16 reserves.
 pub fn numbers(s: &[u8], from: usize, values: &mut [u64]) -> Count
-    requires { ⌜ (from ≤ length (now s)) × (length (now values) ≡ 4) ⌝ }
+    requires { ⌜ (from ≤ length (now s)) × (now values ≡ zeros 19) ⌝ }
     ensures { λ r. ⌜ r ≡ countOf (numbersOf (fieldsOf (drop from (now (s .entry))))) ⌝ }
-    ensures { λ _. ⌜ ((ns : List ℕ) → numbersOf (fieldsOf (drop from (now (s .entry)))) ≡ some ns → length ns ≤ 4 → now (values .exit) ≡ ns ++ drop (length ns) (now (values .entry))) ⌝ }
+    ensures { λ _. ⌜ ((ns : List ℕ) → numbersOf (fieldsOf (drop from (now (s .entry)))) ≡ some ns → now (values .exit) ≡ padded 19 ns) ⌝ }
 {
     let mut at = from;
     let mut n: usize = 0;
-    while n < 4 {
+    loop {
         let e = find(s, at, 44);
         let Number::Value(v) = decimal::parse(&s[at..e]) else {
-            return Count::TooMany;
+            return Count::NotNumbers;
         };
-        values[n] = v;
+        if n < 19 {
+            values[n] = v;
+        }
         n += 1;
         if e == s.len() {
             return Count::Of(n);
         }
         at = e + 1;
     }
-    Count::TooMany
 }

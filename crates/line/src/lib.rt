@@ -7,7 +7,7 @@ pub use answer::render;
 pub use commands::parse;
 pub use fields::find;
 
-// What a script line says.
+// What a script line says. A format's reserves stand beside it, in `Line`: an enum that holds an array is not covered.
 pub enum Command {
     Format {
         logs: u64,
@@ -38,6 +38,12 @@ pub enum Command {
     Malformed,
 }
 
+// A script line read: its command, and the reserves of a format's first 16 logs, zeros after them. More logs are refused anyway.
+pub struct Line {
+    pub command: Command,
+    pub reserves: [u64; 16],
+}
+
 // The first field of a script line.
 pub enum Word {
     Format,
@@ -49,10 +55,10 @@ pub enum Word {
     Unknown,
 }
 
-// How many numbers a line has, where each is one and they are few.
+// How many numbers a line has; or that a field of it is none.
 pub enum Count {
     Of(usize),
-    TooMany,
+    NotNumbers,
 }
 
 // A column of an answer line.

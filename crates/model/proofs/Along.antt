@@ -109,7 +109,7 @@ module _ (ru : Rules) where
     where
       go : Stepped ru b (advance g n d x) → logAt (modelStep ru b (advance g n d x) .state .logs) g ≡ entered (logAt (b .logs) g) (newEntry n x d)
       go (turned k e) = absurd (let q : refused k ≡ done lo hi = rw e at h in let z : _≡_ {A = ℕ} 0 1 = cc in omega arith)
-      go (taken a e) = ap (λ (o : Effect Model). logAt (o .state .logs) g) e ∙ getD-set-same (b .logs) g _ freshLog (a .log)
+      go (taken a e) = ap (λ (o : Effect Model). logAt (o .state .logs) g) e ∙ getD-set-same (b .logs) g _ (freshLog 0) (a .log)
 
   pub truncated : (b : Model) (g n : ℕ) (lo hi : ℕ) → modelStep ru b (truncate g n) .reply ≡ done lo hi → logAt (modelStep ru b (truncate g n) .state .logs) g ≡ cutAt n (logAt (b .logs) g)
   unfolding modelAccept modelDone
@@ -117,7 +117,7 @@ module _ (ru : Rules) where
     where
       go : Stepped ru b (truncate g n) → logAt (modelStep ru b (truncate g n) .state .logs) g ≡ cutAt n (logAt (b .logs) g)
       go (turned k e) = absurd (let q : refused k ≡ done lo hi = rw e at h in let z : _≡_ {A = ℕ} 0 1 = cc in omega arith)
-      go (taken a e) = rw e (getD-set-same (b .logs) g (cutAt n (logAt (b .logs) g)) freshLog (a .log))
+      go (taken a e) = rw e (getD-set-same (b .logs) g (cutAt n (logAt (b .logs) g)) (freshLog 0) (a .log))
 
 -- the log after an advance of the list that skips p
 pub skipping : (b : Model) (ts : List Turn) (j g p : ℕ) (k : SkipsAt b ts (replies modelTurn b ts) j g p)

@@ -25,8 +25,8 @@ module _ (ru : Rules) (b : Model) where
   change-at Ok w g l gG c k = go (ℕ-discrete k g)
     where
       go : Dec (k ≡ g) → Change Ok (logAt (b .logs) k) (logAt (set (b .logs) g l) k)
-      go (yes e) = rw (e, getD-set-same (b .logs) g l freshLog gG) c
-      go (no n) = same (getD-set-other (b .logs) g k l freshLog n)
+      go (yes e) = rw (e, getD-set-same (b .logs) g l (freshLog 0) gG) c
+      go (no n) = same (getD-set-other (b .logs) g k l (freshLog 0) n)
 
   accept-change : (call : Call) → Passed ru b call → (k : ℕ) → Change (Wide call) (logAt (b .logs) k) (logAt (modelAccept ru b call .state .logs) k)
   unfolding modelAccept

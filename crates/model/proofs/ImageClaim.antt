@@ -2,7 +2,7 @@
 use Prim.Native.Nat.{ℕ, _^_, _≤_, _<_}
 use mathlib.Core.Path.{_≡_, refl, sym, ap, ap₂, subst, _∙_}
 use mathlib.Core.List.{List, [], _∷_, _++_}
-use lib.ListN.{length}
+use lib.ListN.{length, List·getD-map}
 use lib.Dec.{lit<}
 use Rattle.layout.specs.Image.{Entry, Image}
 use Rattle.a2m.specs.Call.{Call, Reply, replies, works, after, Wide, AllWide}
@@ -12,6 +12,7 @@ use Rattle.model.specs.Model.{Rules, rules01, rules, Model, newModel, lo
 use Rattle.model.specs.Claim.{Turn, by, modelTurn, RowSays, ListClaim}
 use Rattle.model.proofs.Represents.{Rep, Sound}
 use Rattle.model.proofs.Reading.{entries-are}
+use Rattle.model.proofs.Backed.{Backed, step-backed}
 use Rattle.model.proofs.Step.{step-agrees}
 use Rattle.model.proofs.Sound.{step-sound}
 use Rattle.model.proofs.Turns.{WideTurn, Each, each-on, each-so, replies-by, works-by, after-by, replies-on, works-on, after-on}
@@ -21,7 +22,7 @@ use Rattle.model.proofs.Remembers.{model-remembers}
 use Rattle.model.proofs.Accepted.{Attests, attests01, attests, AttestsTurn, model-verified}
 use Rattle.model.proofs.Once.{meets-once}
 use Rattle.model.proofs.Untorn.{Calm, calm01, calm, CalmTurn, model-untorn}
-use Rattle.model.proofs.Fresh.{getD-same, fresh-sound}
+use Rattle.model.proofs.Fresh.{fresh-sound}
 
 -- the answers to a list, and the states after it
 pub record AgreeAll (m : Image) (b : Model) (cs : List Call) : Type 0 where
@@ -30,12 +31,12 @@ pub record AgreeAll (m : Image) (b : Model) (cs : List Call) : Type 0 where
   pub state : Rep (after imageStep m cs) (after (modelStep rules) b cs)
   pub sound : Sound (after (modelStep rules) b cs)
 
-pub list-agrees : (m : Image) (b : Model) → Rep m b → Sound b → (cs : List Call) → AgreeAll m b cs
+pub list-agrees : (m : Image) (b : Model) → Rep m b → Sound b → Backed b → (cs : List Call) → AgreeAll m b cs
 unfolding replies works after
-list-agrees m b R ok [] = record { answers = refl; blocks = refl; state = R; sound = ok }
-list-agrees m b R ok (c ∷ cs) =
-    let s = step-agrees m b R ok c in
-    let ih = list-agrees (imageStep m c .state) (modelStep rules b c .state) (s .state) (step-sound rules b ok c) cs in
+list-agrees m b R ok k [] = record { answers = refl; blocks = refl; state = R; sound = ok }
+list-agrees m b R ok k (c ∷ cs) =
+    let s = step-agrees m b R ok k c in
+    let ih = list-agrees (imageStep m c .state) (modelStep rules b c .state) (s .state) (step-sound rules b ok c) (step-backed b k c) cs in
     record {
       answers = ap₂ {C = List Reply} (λ (x : Reply) (l : List Reply). x ∷ l) (s .reply) (ih .answers);
       blocks = ap₂ {C = List ℕ} (λ (k : ℕ) (l : List ℕ). k ∷ l) (s .blocks) (ih .blocks);
@@ -44,13 +45,13 @@ list-agrees m b R ok (c ∷ cs) =
     }
 
 pub row-says : (m : Image) (b : Model) → Rep m b → (g : ℕ) → RowSays m g (logAt (b .logs) g)
-row-says m b R g = record { low = R .rows g .low; high = R .rows g .high; entries = entries-are m b R g }
+row-says m b R g = record { low = R .rows g .low; high = R .rows g .high; entries = entries-are m b R g; reserve = R .rows g .reserve }
 
-pub new-keeps : (G S keeper : ℕ) (key : List ℕ) → keeper < 2 ^ 64 → Keeps (newModel G S keeper key)
-new-keeps G S keeper key h = record {
-  sound = fresh-sound G S keeper key;
+pub new-keeps : (S keeper : ℕ) (key reserves : List ℕ) → keeper < 2 ^ 64 → Keeps (newModel S keeper key reserves)
+new-keeps S keeper key reserves h = record {
+  sound = fresh-sound S keeper key reserves;
   keeper = h;
-  fits = λ (g : ℕ). rw (getD-same G g freshLog) (record { high = lit< tt; sized = λ (e : Entry) (m : ⊥). absurd m });
+  fits = λ (g : ℕ). rw (List·getD-map freshLog reserves g 0) (record { high = lit< tt; sized = λ (e : Entry) (m : ⊥). absurd m });
 }
 
 -- ---- what a list's calls and their rules must be
@@ -71,9 +72,9 @@ pub proper : (cs : List Call) → AllWide cs → Each Proper (by rules cs)
 proper cs w = proper-by rules calm attests cs w
 
 -- calls ts by whatever rules, of the model alone; then calls cs on an image that says the model after them
-pub image-claim : (b : Model) → Keeps b → length (b .key) ≡ 32 → length (b .logs) ≤ 16 → (ts : List Turn) → Each Proper ts → (m : Image) → Rep m (after modelTurn b ts) → (cs : List Call) → AllWide cs
+pub image-claim : (b : Model) → Keeps b → length (b .key) ≡ 32 → length (b .logs) ≤ 16 → (ts : List Turn) → Each Proper ts → (m : Image) → Rep m (after modelTurn b ts) → Backed (after modelTurn b ts) → (cs : List Call) → AllWide cs
     → ListClaim b (ts ++ by rules cs) (replies modelTurn b ts ++ replies imageStep m cs) (works modelTurn b ts ++ works imageStep m cs) (after imageStep m cs)
-image-claim b keeps key few ts pt m R cs w =
+image-claim b keeps key few ts pt m R k cs w =
     let c = after modelTurn b ts in
     let us = by rules cs in
     let P : Each Proper (ts ++ us) = each-on Proper ts us pt (proper cs w) in
@@ -81,7 +82,7 @@ image-claim b keeps key few ts pt m R cs w =
     let K : Each CalmTurn (ts ++ us) = each-so Proper CalmTurn (λ (t : Turn) (p : Proper t). p .calm) (ts ++ us) P in
     let A2 : Each AttestsTurn (ts ++ us) = each-so Proper AttestsTurn (λ (t : Turn) (p : Proper t). p .attests) (ts ++ us) P in
     let kc : Keeps c = keeps-after b keeps ts (each-so Proper WideTurn (λ (t : Turn) (p : Proper t). p .wide) ts pt) in
-    let A = list-agrees m c R (kc .sound) cs in
+    let A = list-agrees m c R (kc .sound) k cs in
     let e : replies modelTurn b ts ++ replies imageStep m cs ≡ replies modelTurn b (ts ++ us) = ap (λ (l : List Reply). replies modelTurn b ts ++ l) (A .answers ∙ sym (replies-by rules c cs)) ∙ sym (replies-on b ts us) in
     let s : after (modelStep rules) c cs ≡ after modelTurn b (ts ++ us) = sym (after-on b ts us ∙ after-by rules c cs) in
     let R1 : Rep (after imageStep m cs) (after modelTurn b (ts ++ us)) = subst (λ (x : Model). Rep (after imageStep m cs) x) s (A .state) in

@@ -94,14 +94,14 @@ call-by [] i c h = absurd (Option·none-ne-some c h)
 call-by (x ∷ cs) zero c h = ap (λ (y : Call). some (under rules y)) (Option·some-injective x c h)
 call-by (x ∷ cs) (suc i) c h = call-by cs i c h
 
-module _ (lent : List ℕ) (G S keeper : ℕ) (key : List ℕ) (k64 : keeper < 2 ^ 64) (accepted : formatRefusal (length lent) G S (length key) ≡ none) (cs : List Call) (w : AllWide cs) where
+module _ (lent : List ℕ) (G S keeper : ℕ) (key reserves : List ℕ) (k64 : keeper < 2 ^ 64) (accepted : formatRefusal (length lent) G S (length key) reserves ≡ none) (cs : List Call) (w : AllWide cs) where
   abbrev answered : List Reply
-  answered = replies programStep (formatBytes lent G S keeper key) cs
+  answered = replies programStep (formatBytes lent G S keeper key reserves) cs
 
-  pub jumped-shown : (i j g p : ℕ) (k : SkipsAt (newModel G S keeper key) (by rules cs) answered j g p) (c : List ℕ) (size : ℕ) (r : List ℕ) → callAt (by rules cs) i ≡ some (lookup g p c size)
+  pub jumped-shown : (i j g p : ℕ) (k : SkipsAt (newModel S keeper key reserves) (by rules cs) answered j g p) (c : List ℕ) (size : ℕ) (r : List ℕ) → callAt (by rules cs) i ≡ some (lookup g p c size)
       → receiptIn (replyAt answered i) ≡ some r → readAttestation r .kind ≡ 2 → ShowsPut (k .n) (k .given) (k .value) (readAttestation r)
   jumped-shown =
       let wide : Each WideTurn (by rules cs) = each-so Proper WideTurn (λ (t : Turn) (p : Proper t). p .wide) (by rules cs) (proper cs w) in
-      rw (programClaim lent G S keeper key k64 accepted cs w .answers)
-      (λ (i j g p : ℕ) (k : SkipsAt (newModel G S keeper key) (by rules cs) (replies modelTurn (newModel G S keeper key) (by rules cs)) j g p) (c : List ℕ) (size : ℕ) (r : List ℕ) (h : callAt (by rules cs) i ≡ some (lookup g p c size)).
-      model-jumped (newModel G S keeper key) (new-keeps G S keeper key k64) (by rules cs) wide i j g p k c size r (call-by cs i (lookup g p c size) h))
+      rw (programClaim lent G S keeper key reserves k64 accepted cs w .answers)
+      (λ (i j g p : ℕ) (k : SkipsAt (newModel S keeper key reserves) (by rules cs) (replies modelTurn (newModel S keeper key reserves) (by rules cs)) j g p) (c : List ℕ) (size : ℕ) (r : List ℕ) (h : callAt (by rules cs) i ≡ some (lookup g p c size)).
+      model-jumped (newModel S keeper key reserves) (new-keeps S keeper key reserves k64) (by rules cs) wide i j g p k c size r (call-by cs i (lookup g p c size) h))

@@ -1,6 +1,8 @@
 pub mod Accepted
 pub mod Along
+pub mod Backed
 pub mod Changes
+pub mod Crowded
 pub mod Demand3
 pub mod Entries
 pub mod FreeHolds
@@ -8,6 +10,7 @@ pub mod Fresh
 pub mod History
 pub mod ImageClaim
 pub mod Jumped
+pub mod Lacking
 pub mod Later
 pub mod Lookups
 pub mod MarkedSet
@@ -23,9 +26,12 @@ pub mod Reading
 pub mod Refusals
 pub mod Remembers
 pub mod Represents
+pub mod SameLog
 pub mod Shown
 pub mod Skipped
 pub mod Sound
+pub mod Stage
+pub mod StageLog
 pub mod Standings
 pub mod Step
 pub mod TableClaim

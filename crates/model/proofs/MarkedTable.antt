@@ -48,8 +48,8 @@ wide : AllWide (callsOf marked)
 unfolding callsOf marked
 wide = (tt, (tt, (lit< tt, (tt, (lit< tt, (lit< tt, (tt, (lit< tt, (lit< tt, (tt, (tt, tt)))))))))))
 
--- after `format,2,3,7` with a zero key, in any buffer of that size
-pub marked-table : (lent : List ℕ) → formatRefusal (length lent) 2 3 (length (zeros 32)) ≡ none → answered tableStep lowIn highIn (formatBytes lent 2 3 7 (zeros 32)) marked ≡ marked
+-- after `format,2,3,7,0,0` with a zero key, in any buffer of that size
+pub marked-table : (lent : List ℕ) → formatRefusal (length lent) 2 3 (length (zeros 32)) (0 ∷ 0 ∷ []) ≡ none → answered tableStep lowIn highIn (formatBytes lent 2 3 7 (zeros 32) (0 ∷ 0 ∷ [])) marked ≡ marked
 marked-table lent h =
-    rw (bytes-are lent 2 3 7 (zeros 32) (lit< tt) h)
-    (lines-written (formatted 2 3 7 (zeros 32)) (newModel 2 3 7 (zeros 32)) (stands lent 2 3 7 (zeros 32) (lit< tt) h) marked wide ∙ marked-image)
+    rw (bytes-are lent 2 3 7 (zeros 32) (0 ∷ 0 ∷ []) (lit< tt) h)
+    (lines-written (formatted 3 7 (zeros 32) (0 ∷ 0 ∷ [])) (newModel 3 7 (zeros 32) (0 ∷ 0 ∷ [])) (stands lent 2 3 7 (zeros 32) (0 ∷ 0 ∷ []) (lit< tt) h) marked wide ∙ marked-image)

@@ -3,14 +3,12 @@ use Prim.Native.Nat.{ℕ}
 use mathlib.Core.Path.{_≡_, sym, ap, _∙_}
 use mathlib.Core.List.{List, [], _∷_}
 use mathlib.Core.Bool.{true}
-use lib.ListN.{length}
 use Rattle.octets.specs.Octets.{Bytes}
-use Rattle.layout.specs.Image.{Image}
 use Rattle.layout.specs.Layout.{readTable}
-use Rattle.layout.specs.Fits.{Range}
 use Rattle.layout.proofs.TableLaws.{length-rows, length-slots, fits-read}
 use Rattle.table.specs.Whole.{whole}
 use Rattle.table.proofs.WholeLaws.{whole-formed, whole-range, whole-image, read-write, write-read}
+use Rattle.table.proofs.ReserveLaws.{whole-linked}
 use Rattle.a2m.specs.Call.{Call, Wide, AllWide, Effect, after}
 use Rattle.a2m.specs.ImageCalls.{imageStep}
 use Rattle.a2m.specs.TableCalls.{written, tableStep}
@@ -18,16 +16,18 @@ use Rattle.a2m.proofs.FitsAfter.{step-fits}
 use Rattle.a2m.proofs.Written.{step-written}
 use Rattle.model.specs.Model.{rules, modelStep}
 use Rattle.model.specs.ModelOf.{modelOf}
-use Rattle.model.proofs.OfWhole.{model-says, model-sound, whole-step}
+use Rattle.model.proofs.OfWhole.{model-says, model-sound, model-backed, whole-step}
 use Rattle.model.proofs.TableClaim.{Stands, in-range, table-whole}
 
 module _ (b : List ℕ) (h : Bytes b) (w : whole b ≡ true) where
   stands : Stands (readTable b) (modelOf (readTable b))
   stands =
-      let says = model-says (readTable b) (whole-image b w) in
+      let l = whole-linked (readTable b) (whole-image b w) in
+      let says = model-says (readTable b) l in
       record {
         says = says;
-        sound = model-sound (readTable b) (whole-image b w);
+        sound = model-sound (readTable b) l;
+        backed = model-backed (readTable b) (whole-image b w);
         fits = fits-read b h (whole-formed b w);
         counts = rw (sym (says .count) ∙ length-rows b, sym (says .size) ∙ length-slots b) (whole-range b w);
       }

@@ -78,18 +78,18 @@ same-list m b s (c ∷ cs) w =
       bytes = bs;
     }
 
-module _ (lent : List ℕ) (G S keeper : ℕ) (key : List ℕ) (k64 : keeper < 2 ^ 64) (accepted : formatRefusal (length lent) G S (length key) ≡ none) where
-  same : (cs : List Call) → AllWide cs → SameList (formatted G S keeper key) cs
-  same cs w = same-list (formatted G S keeper key) (newModel G S keeper key) (stands lent G S keeper key k64 accepted) cs w
+module _ (lent : List ℕ) (G S keeper : ℕ) (key reserves : List ℕ) (k64 : keeper < 2 ^ 64) (accepted : formatRefusal (length lent) G S (length key) reserves ≡ none) where
+  same : (cs : List Call) → AllWide cs → SameList (formatted S keeper key reserves) cs
+  same cs w = same-list (formatted S keeper key reserves) (newModel S keeper key reserves) (stands lent G S keeper key reserves k64 accepted) cs w
 
-  pub programClaim : (cs : List Call) → AllWide cs → ListClaim (newModel G S keeper key) (by rules cs) (replies programStep (formatBytes lent G S keeper key) cs) (works programStep (formatBytes lent G S keeper key) cs) (readTable (after programStep (formatBytes lent G S keeper key) cs))
+  pub programClaim : (cs : List Call) → AllWide cs → ListClaim (newModel S keeper key reserves) (by rules cs) (replies programStep (formatBytes lent G S keeper key reserves) cs) (works programStep (formatBytes lent G S keeper key reserves) cs) (readTable (after programStep (formatBytes lent G S keeper key reserves) cs))
   programClaim cs w =
-      let h = bytes-are lent G S keeper key k64 accepted in
-      let c : ListClaim (newModel G S keeper key) (by rules cs) (replies tableStep (writeTable (formatted G S keeper key)) cs) (works tableStep (writeTable (formatted G S keeper key)) cs) (readTable (after tableStep (writeTable (formatted G S keeper key)) cs)) = rw h at (listClaim lent G S keeper key k64 accepted cs w) in
+      let h = bytes-are lent G S keeper key reserves k64 accepted in
+      let c : ListClaim (newModel S keeper key reserves) (by rules cs) (replies tableStep (writeTable (formatted S keeper key reserves)) cs) (works tableStep (writeTable (formatted S keeper key reserves)) cs) (readTable (after tableStep (writeTable (formatted S keeper key reserves)) cs)) = rw h at (listClaim lent G S keeper key reserves k64 accepted cs w) in
       rw (h, same cs w .answers, same cs w .blocks, same cs w .bytes) c
 
   -- the table is whole before and after each call
-  pub programWhole : (cs : List Call) → AllWide cs → whole (after programStep (formatBytes lent G S keeper key) cs) ≡ true
+  pub programWhole : (cs : List Call) → AllWide cs → whole (after programStep (formatBytes lent G S keeper key reserves) cs) ≡ true
   programWhole cs w =
-      let h = bytes-are lent G S keeper key k64 accepted in
-      ap (λ (x : List ℕ). whole (after programStep x cs)) h ∙ ap whole (same cs w .bytes) ∙ ap (λ (x : List ℕ). whole (after tableStep x cs)) (sym h) ∙ staysWhole lent G S keeper key k64 accepted cs w
+      let h = bytes-are lent G S keeper key reserves k64 accepted in
+      ap (λ (x : List ℕ). whole (after programStep x cs)) h ∙ ap whole (same cs w .bytes) ∙ ap (λ (x : List ℕ). whole (after tableStep x cs)) (sym h) ∙ staysWhole lent G S keeper key reserves k64 accepted cs w

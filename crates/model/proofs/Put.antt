@@ -52,12 +52,12 @@ module _ (m : Image) (b : Model) (R : Rep m b) (g : ℕ) (gG : g < length (b .lo
       others : (k : ℕ) → k ≢ g → RowRep slots k (rowAt (m .rows) k) (logAt (b .logs) k)
       others k n =
           let v = R .rows k in
-          record { chain = v .chain; holds = move-other _ _ _ _ _ _ _ _ _ M _ _ _ _ (λ (z : suc k ≡ 0). omega arith) (λ (z : suc k ≡ suc g). n (omega arith)) (v .holds); last = v .last; low = v .low; high = v .high }
+          record { chain = v .chain; holds = move-other _ _ _ _ _ _ _ _ _ M _ _ _ _ (λ (z : suc k ≡ 0). omega arith) (λ (z : suc k ≡ suc g). n (omega arith)) (v .holds); last = v .last; low = v .low; high = v .high; reserve = v .reserve }
 
       this : RowRep slots g (advancedRow (rowIn m g) (e .position) (m .free)) (entered (logAt (b .logs) g) e)
       this =
           let w = R .rows g in
-          record { chain = w .chain ++ (m .free ∷ []); holds = move-to _ _ _ _ _ _ _ _ _ M _ (w .holds .held); last = sym (lastOf-snoc (w .chain) (m .free)); low = w .low; high = refl }
+          record { chain = w .chain ++ (m .free ∷ []); holds = move-to _ _ _ _ _ _ _ _ _ M _ (w .holds .held); last = sym (lastOf-snoc (w .chain) (m .free)); low = w .low; high = refl; reserve = w .reserve }
 
   -- a table that is not full
   pub put-keeps : eqb (m .free) 0 ≡ false → Rep (put m g e) (withLog b g (entered (logAt (b .logs) g) e))

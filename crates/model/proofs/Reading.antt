@@ -116,5 +116,5 @@ pub rows-set : (slots : List Slot) (rows : List Row) (logs : List Log) (g : ℕ)
 rows-set slots rows logs g r l gr gl others this k = go (ℕ-discrete k g)
   where
     go : Dec (k ≡ g) → RowRep slots k (rowAt (set rows g r) k) (logAt (set logs g l) k)
-    go (yes e) = rw (e, getD-set-same rows g r freshRow gr, getD-set-same logs g l freshLog gl) this
-    go (no n) = rw (getD-set-other rows g k r freshRow n, getD-set-other logs g k l freshLog n) (others k n)
+    go (yes e) = rw (e, getD-set-same rows g r (freshRow 0) gr, getD-set-same logs g l (freshLog 0) gl) this
+    go (no n) = rw (getD-set-other rows g k r (freshRow 0) n, getD-set-other logs g k l (freshLog 0) n) (others k n)

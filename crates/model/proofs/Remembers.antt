@@ -50,8 +50,8 @@ module _ (ru : Rules) (b : Model) (g n : ℕ) (v d : List ℕ) (h : EntryAt (log
   set-at k l kG f = go (ℕ-discrete k g)
     where
       go : Dec (k ≡ g) → EntryAt (logAt (set (b .logs) k l) g) n v d
-      go (yes e) = subst (λ (j : ℕ). EntryAt (logAt (set (b .logs) k l) j) n v d) e (rw (getD-set-same (b .logs) k l freshLog kG) (f e))
-      go (no z) = rw (getD-set-other (b .logs) k g l freshLog (λ (e : g ≡ k). z (sym e))) h
+      go (yes e) = subst (λ (j : ℕ). EntryAt (logAt (set (b .logs) k l) j) n v d) e (rw (getD-set-same (b .logs) k l (freshLog 0) kG) (f e))
+      go (no z) = rw (getD-set-other (b .logs) k g l (freshLog 0) (λ (e : g ≡ k). z (sym e))) h
 
   accept-next : (c : Call) → Passed ru b c → modelStep ru b c ≡ modelAccept ru b c → Next ru b g n v d c
   unfolding modelAccept modelDone
@@ -88,7 +88,7 @@ put-stored ru b g n low x c w k e kG q v s r =
     record {
       log = rw (sym q) kG;
       digest = e .digest;
-      entry = rw (s, sym q, getD-set-same (b .logs) k (entered l e) freshLog kG) (record { entry = e; there = in-right e (l .entries) (e ∷ []) (inl refl); position = p; value = v; digest = refl });
+      entry = rw (s, sym q, getD-set-same (b .logs) k (entered l e) (freshLog 0) kG) (record { entry = e; there = in-right e (l .entries) (e ∷ []) (inl refl); position = p; value = v; digest = refl });
     }
 
 stored : (ru : Rules) (b : Model) (g n low : ℕ) (x : List ℕ) (c : Call) → Stores g x c → modelStep ru b c .reply ≡ done low n → Stored b (modelStep ru b c .state) g n x

@@ -17,6 +17,7 @@ pub record RowRep (slots : List Slot) (g : ℕ) (r : Row) (l : Log) : Type 0 whe
   pub last : r .last ≡ lastOf chain
   pub low : r .low ≡ l .low
   pub high : r .high ≡ l .high
+  pub reserve : r .reserve ≡ l .reserve
 
 -- the image says the model; its free chain is the queue, of blank slots
 pub record Rep (m : Image) (b : Model) : Type 0 where

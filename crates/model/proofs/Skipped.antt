@@ -16,6 +16,7 @@ use Rattle.layout.specs.Layout.{readTable}
 use Rattle.layout.proofs.TableLaws.{fits-read}
 use Rattle.table.specs.Whole.{whole}
 use Rattle.table.specs.WholeImage.{wholeImage}
+use Rattle.table.proofs.ReserveLaws.{whole-linked}
 use Rattle.table.proofs.WholeLaws.{whole-formed, whole-image}
 use Rattle.a2m.specs.Call.{lookup, receiptIn}
 use Rattle.a2m.specs.Search.{Found, lookedUp}
@@ -68,7 +69,7 @@ module _ (m : Image) (w : wholeImage m ≡ true) (g n : ℕ) (c : List ℕ) (n1 
   unfolding logIn lookupAttested foundAs referenceOf shownFor rules rules01
   skipped-shows two =
       let l = logIn m g in
-      let ok : LogOk l = subst LogOk (log-in m g) (model-sound m w g) in
+      let ok : LogOk l = subst LogOk (log-in m g) (model-sound m (whole-linked m w) g) in
       let f = found-in m g n ok n1 in
       let s = skipped-only (standing l n) (ap (λ (x : Found). x .kind) (sym f) ∙ two) in
       let e = s .0 in

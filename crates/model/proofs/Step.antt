@@ -17,9 +17,10 @@ use Rattle.a2m.specs.NewEntry.{newEntry}
 use Rattle.a2m.specs.Search.{lookedUp}
 use Rattle.a2m.specs.ImageCalls.{rowIn, entriesIn, put, previousIn, lookupAttested, endAttested, imageDone, imageAccept, imageStep}
 use Rattle.model.specs.Log.{Log, freshLog, lastEntry, entered, standing, examinedFor}
-use Rattle.model.specs.Model.{rules01, rules, Model, logAt, total, withLog, isNil, modelRefusal, modelReceipt, modelLookup, modelEnd, modelDone, modelAccept, modelStep}
+use Rattle.model.specs.Model.{rules01, slotRule, rules, Model, logAt, total, withLog, isNil, modelRefusal, modelReceipt, modelLookup, modelEnd, modelDone, modelAccept, modelStep}
 use Rattle.model.proofs.Represents.{Rep, Sound}
 use Rattle.model.proofs.Reading.{entries-are, full-is, last-is}
+use Rattle.model.proofs.Backed.{Backed}
 use Rattle.model.proofs.Put.{put-keeps}
 use Rattle.model.proofs.Truncate.{truncate-keeps}
 use Rattle.model.proofs.Refusals.{refusal-is}
@@ -35,14 +36,14 @@ pub record Agree (x : Effect Image) (y : Effect Model) : Type 0 where
 done-agree : (k : ℕ) (m : Image) (b : Model) (g : ℕ) (l : Log) → g < length (b .logs) → Rep m (withLog b g l) → Agree (imageDone k m g) (modelDone k b g l)
 unfolding imageDone modelDone
 done-agree k m b g l gG R =
-    let at : logAt (set (b .logs) g l) g ≡ l = getD-set-same (b .logs) g l freshLog gG in
+    let at : logAt (set (b .logs) g l) g ≡ l = getD-set-same (b .logs) g l (freshLog 0) gG in
     let w = R .rows g in
     record { reply = ap₂ (λ (x y : ℕ). done x y) (w .low ∙ ap (λ (k : Log). k .low) at) (w .high ∙ ap (λ (k : Log). k .high) at); blocks = refl; state = R }
 
-module _ (m : Image) (b : Model) (R : Rep m b) (ok : Sound b) where
+module _ (m : Image) (b : Model) (R : Rep m b) (ok : Sound b) (k : Backed b) where
   free-slot : (g : ℕ) → rules .noSlot b g ≡ none → eqb (m .free) 0 ≡ false
-  unfolding rules rules01
-  free-slot g h = full-is m b R ∙ peel (eqb (total (b .logs)) (b .size)) 5 none h .0
+  unfolding rules slotRule
+  free-slot g h = full-is m b R ∙ peel (eqb (total (b .logs)) (b .size)) 5 _ h .0
 
   some-held : (g : ℕ) → cond (isNil (logAt (b .logs) g .entries)) (rules .emptyEnd) none ≡ none → isNil (logAt (b .logs) g .entries) ≡ false
   unfolding rules rules01
@@ -75,13 +76,13 @@ module _ (m : Image) (b : Model) (R : Rep m b) (ok : Sound b) where
       (done-agree 2 _ b g _ (a .log) (put-keeps m b R g (a .log) _ (free-slot g (a .slot))))
   accept-agrees (advance g n d x) a = done-agree 2 _ b g _ (a .log) (put-keeps m b R g (a .log) _ (free-slot g (a .slot)))
   accept-agrees (truncate g n) a = let lo = a .low in done-agree 0 _ b g _ (a .log) (truncate-keeps m b R g n (a .log) (ok g) (omega arith) (a .high))
-  accept-agrees (lookup g n c k) a = record { reply = lookup-agrees g n c (a .position); blocks = refl; state = R }
-  accept-agrees (end g c k) a = record { reply = end-agrees g c (some-held g (a .held)); blocks = refl; state = R }
+  accept-agrees (lookup g n c r) a = record { reply = lookup-agrees g n c (a .position); blocks = refl; state = R }
+  accept-agrees (end g c r) a = record { reply = end-agrees g c (some-held g (a .held)); blocks = refl; state = R }
 
   pub step-agrees : (call : Call) → Agree (imageStep m call) (modelStep rules b call)
   unfolding imageStep modelStep
   step-agrees call = go (modelRefusal rules b call) refl
     where
       go : (r : Option ℕ) → modelRefusal rules b call ≡ r → Agree (imageStep m call) (modelStep rules b call)
-      go none e = rw (imageStep, modelStep, refusal-is m b R ok call, e) (accept-agrees call (passed rules b call e))
-      go (some k) e = rw (imageStep, modelStep, refusal-is m b R ok call, e) (record { reply = refl; blocks = refl; state = R })
+      go none e = rw (imageStep, modelStep, refusal-is m b R ok k call, e) (accept-agrees call (passed rules b call e))
+      go (some n) e = rw (imageStep, modelStep, refusal-is m b R ok k call, e) (record { reply = refl; blocks = refl; state = R })

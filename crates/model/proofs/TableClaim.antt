@@ -21,6 +21,7 @@ use Rattle.a2m.proofs.Written.{step-written}
 use Rattle.model.specs.Model.{rules, Model, total, modelStep}
 use Rattle.model.specs.Claim.{Turn, by, modelTurn, ListClaim}
 use Rattle.model.proofs.Represents.{Rep, Sound}
+use Rattle.model.proofs.Backed.{Backed, step-backed}
 use Rattle.model.proofs.WholeOf.{whole-of}
 use Rattle.model.proofs.Step.{step-agrees}
 use Rattle.model.proofs.Sound.{step-sound}
@@ -28,10 +29,11 @@ use Rattle.model.proofs.Along.{Keeps, step-fixed, after-fixed}
 use Rattle.model.proofs.Turns.{Each, after-by}
 use Rattle.model.proofs.ImageClaim.{Proper, image-claim}
 
--- bytes of an image that says a sound model, all within their fields
+-- bytes of an image that says a sound model, all within their fields, with the slots promised there
 pub record Stands (m : Image) (b : Model) : Type 0 where
   pub says : Rep m b
   pub sound : Sound b
+  pub backed : Backed b
   pub fits : Fits m
   pub counts : Range (length (b .logs)) (b .size)
 
@@ -40,8 +42,9 @@ in-range m b s = rw (s .says .count, s .says .size) (s .counts)
 
 pub step-stands : (m : Image) (b : Model) → Stands m b → (c : Call) (w : AllWide (c ∷ [])) → Stands (imageStep m c .state) (modelStep rules b c .state)
 step-stands m b s c w = record {
-  says = step-agrees m b (s .says) (s .sound) c .state;
+  says = step-agrees m b (s .says) (s .sound) (s .backed) c .state;
   sound = step-sound rules b (s .sound) c;
+  backed = step-backed b (s .backed) c;
   fits = step-fits m (s .fits) c (w .0);
   counts = rw (step-fixed rules b c .count, step-fixed rules b c .size) (s .counts);
 }
@@ -74,14 +77,14 @@ table-claim b keeps ts p m s cs w =
     let f = after-fixed b ts in
     let key : length (b .key) ≡ 32 = ap length (sym (s .says .key ∙ f .key)) ∙ s .fits .key in
     let few : length (b .logs) ≤ 16 = subst (λ (n : ℕ). n ≤ 16) (f .count) (s .counts .logs-most) in
-    rw (W .answers, W .blocks, W .bytes, read-write (after imageStep m cs) (W .stands .fits)) (image-claim b keeps key few ts p m (s .says) cs w)
+    rw (W .answers, W .blocks, W .bytes, read-write (after imageStep m cs) (W .stands .fits)) (image-claim b keeps key few ts p m (s .says) (s .backed) cs w)
 
 -- and the table is whole all along
 pub table-whole : (m : Image) (b : Model) → Stands m b → (cs : List Call) → AllWide cs → whole (after tableStep (writeTable m) cs) ≡ true
 table-whole m b s cs w =
     let W = list-written m b s cs w in
     let t = W .stands in
-    ap whole (W .bytes) ∙ written-whole (after imageStep m cs) (t .fits) (in-range _ _ t) ∙ whole-of (after imageStep m cs) (after (modelStep rules) b cs) (t .says) (t .sound)
+    ap whole (W .bytes) ∙ written-whole (after imageStep m cs) (t .fits) (in-range _ _ t) ∙ whole-of (after imageStep m cs) (after (modelStep rules) b cs) (t .says) (t .sound) (t .backed)
 
 -- request [1], "each call keeps it true": the number that the bytes hold, and the entries of all logs, make the slots
 pub table-count : (m : Image) (b : Model) → Stands m b → (cs : List Call) → AllWide cs → stockOf (after tableStep (writeTable m) cs) .count + total (after (modelStep rules) b cs .logs) ≡ b .size

@@ -27,7 +27,7 @@ use Rattle.model.proofs.Reading.{total-set, total-at, rows-set}
 -- ---- release: the log's first slot goes to the end of the free chain
 
 abbrev pub withEntries : Log → List Entry → Log
-withEntries l es = record { low = l .low; high = l .high; entries = es }
+withEntries l es = record { low = l .low; high = l .high; entries = es; reserve = l .reserve }
 
 module _ (m : Image) (b : Model) (R : Rep m b) (g : ℕ) (gG : g < length (b .logs)) where
   -- x is the entry that leaves; one at least is left
@@ -62,10 +62,10 @@ module _ (m : Image) (b : Model) (R : Rep m b) (g : ℕ) (gG : g < length (b .lo
       others : (k : ℕ) → k ≢ g → RowRep slots k (rowAt (m .rows) k) (logAt (b .logs) k)
       others k n =
           let v = R .rows k in
-          record { chain = v .chain; holds = move-other _ _ _ _ _ _ _ _ _ M _ _ _ _ (λ (q : suc k ≡ suc g). n (omega arith)) (λ (q : suc k ≡ 0). omega arith) (v .holds); last = v .last; low = v .low; high = v .high }
+          record { chain = v .chain; holds = move-other _ _ _ _ _ _ _ _ _ M _ _ _ _ (λ (q : suc k ≡ suc g). n (omega arith)) (λ (q : suc k ≡ 0). omega arith) (v .holds); last = v .last; low = v .low; high = v .high; reserve = v .reserve }
 
       this : RowRep slots g (truncatedRow (rowIn m g) (rowIn m g .low) (slotAt (m .slots) (rowIn m g .first) .next)) (withEntries (logAt (b .logs) g) (y ∷ es))
-      this = record { chain = t ∷ A; holds = move-from _ _ _ _ _ _ _ _ _ M (y ∷ es) (tail-eq-of-cons-eq (chained .log .held)); last = chained .last; low = R .rows g .low; high = R .rows g .high }
+      this = record { chain = t ∷ A; holds = move-from _ _ _ _ _ _ _ _ _ M (y ∷ es) (tail-eq-of-cons-eq (chained .log .held)); last = chained .last; low = R .rows g .low; high = R .rows g .high; reserve = R .rows g .reserve }
 
       first : ℕ
       first = firstOf (joint m) (m .free) (rowIn m g .first)
@@ -106,7 +106,7 @@ first-position m b R g x es was = go (R .rows g .chain) (R .rows g .holds .links
 
 pub withLog-same : (b : Model) (g : ℕ) (es : List Entry) → logAt (b .logs) g .entries ≡ es → withLog b g (withEntries (logAt (b .logs) g) es) ≡ b
 withLog-same b g es was =
-    let q : set (b .logs) g (withEntries (logAt (b .logs) g) es) ≡ b .logs = ap (λ (x : List Entry). set (b .logs) g (withEntries (logAt (b .logs) g) x)) (sym was) ∙ set-getD (b .logs) g freshLog in
+    let q : set (b .logs) g (withEntries (logAt (b .logs) g) es) ≡ b .logs = ap (λ (x : List Entry). set (b .logs) g (withEntries (logAt (b .logs) g) x)) (sym was) ∙ set-getD (b .logs) g (freshLog 0) in
     λ i. record { size = b .size; keeper = b .keeper; key = b .key; logs = q i }
 
 -- two changes of one log, the second given from the log as it was
@@ -139,23 +139,23 @@ releases-keeps (suc k) n m b R g gG (x ∷ es) was w r top n1 fuel =
     go false e (y ∷ fs) was′ r′ top′ fuel′ below =
         let lt : x .position < n = leb-false n (x .position) e in
         let R1 : Rep (release m g) (withLog b g (withEntries (logAt (b .logs) g) (y ∷ fs))) = release-keeps m b R g gG x y fs was′ in
-        let at : logAt (set (b .logs) g (withEntries (logAt (b .logs) g) (y ∷ fs))) g ≡ withEntries (logAt (b .logs) g) (y ∷ fs) = getD-set-same (b .logs) g (withEntries (logAt (b .logs) g) (y ∷ fs)) freshLog gG in
+        let at : logAt (set (b .logs) g (withEntries (logAt (b .logs) g) (y ∷ fs))) g ≡ withEntries (logAt (b .logs) g) (y ∷ fs) = getD-set-same (b .logs) g (withEntries (logAt (b .logs) g) (y ∷ fs)) (freshLog 0) gG in
         let R2 = below (release m g) (withLog b g (withEntries (logAt (b .logs) g) (y ∷ fs))) R1 (rw (length-set (b .logs) g (withEntries (logAt (b .logs) g) (y ∷ fs))) gG) (y ∷ fs) (ap (λ (l : Log). l .entries) at) (suc (x .position)) r′ top′ fuel′ in
         rw (releases-go k n m g (rw (at-first (y ∷ fs) was′) lt), keepFrom-drop n x (y ∷ fs) lt) (rw (at, withLog-twice b g) at R2)
 
 -- ---- truncate
 
-lowered-keeps : (m : Image) (b : Model) (R : Rep m b) (g n : ℕ) → g < length (b .logs) → Rep (lowered m g n) (withLog b g (record { low = n; high = logAt (b .logs) g .high; entries = logAt (b .logs) g .entries }))
+lowered-keeps : (m : Image) (b : Model) (R : Rep m b) (g n : ℕ) → g < length (b .logs) → Rep (lowered m g n) (withLog b g (record { low = n; high = logAt (b .logs) g .high; entries = logAt (b .logs) g .entries; reserve = logAt (b .logs) g .reserve }))
 unfolding lowered truncatedRow
 lowered-keeps m b R g n gG = record {
   keeper = R .keeper;
   key = R .key;
   count = length-set (m .rows) g _ ∙ R .count ∙ sym (length-set (b .logs) g _);
   size = R .size;
-  rows = rows-set (m .slots) (m .rows) (b .logs) g _ _ (rw (R .count) gG) gG (λ (k : ℕ) (q : k ≢ g). R .rows k) (let w = R .rows g in record { chain = w .chain; holds = w .holds; last = w .last; low = refl; high = w .high });
+  rows = rows-set (m .slots) (m .rows) (b .logs) g _ _ (rw (R .count) gG) gG (λ (k : ℕ) (q : k ≢ g). R .rows k) (let w = R .rows g in record { chain = w .chain; holds = w .holds; last = w .last; low = refl; high = w .high; reserve = w .reserve });
   queue = R .queue;
   free = R .free;
-  sum = let t = total-set (b .logs) g (record { low = n; high = logAt (b .logs) g .high; entries = logAt (b .logs) g .entries }) gG in let s = R .sum in omega arith;
+  sum = let t = total-set (b .logs) g (record { low = n; high = logAt (b .logs) g .high; entries = logAt (b .logs) g .entries; reserve = logAt (b .logs) g .reserve }) gG in let s = R .sum in omega arith;
 }
 
 pub truncate-keeps : (m : Image) (b : Model) (R : Rep m b) (g n : ℕ) → g < length (b .logs) → LogOk (logAt (b .logs) g) → 1 ≤ n → n ≤ logAt (b .logs) g .high → Rep (lowered (releases (length (m .slots)) n m g) g n) (withLog b g (cutAt n (logAt (b .logs) g)))
@@ -165,6 +165,6 @@ truncate-keeps m b R g n gG ok n1 nH =
     let fuel : length (l .entries) ≤ length (m .slots) = let t = total-at (b .logs) g in let s = R .sum in omega arith in
     let top : n ≤ lastEntry (l .entries) .position = let t = ok .top in omega arith in
     let R1 = releases-keeps (length (m .slots)) n m b R g gG (l .entries) refl (l .low) (ok .rising) top n1 fuel in
-    let at : logAt (set (b .logs) g (withEntries l (keepFrom n (l .entries)))) g ≡ withEntries l (keepFrom n (l .entries)) = getD-set-same (b .logs) g (withEntries l (keepFrom n (l .entries))) freshLog gG in
+    let at : logAt (set (b .logs) g (withEntries l (keepFrom n (l .entries)))) g ≡ withEntries l (keepFrom n (l .entries)) = getD-set-same (b .logs) g (withEntries l (keepFrom n (l .entries))) (freshLog 0) gG in
     let R2 = lowered-keeps (releases (length (m .slots)) n m g) (withLog b g (withEntries l (keepFrom n (l .entries)))) R1 g n (rw (length-set (b .logs) g (withEntries l (keepFrom n (l .entries)))) gG) in
     rw (at, withLog-twice b g) at R2

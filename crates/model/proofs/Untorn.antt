@@ -9,7 +9,7 @@ use native.Mathlib.Omega.{arith}
 use lib.ListN.{length}
 use lib.Dec.{eqb, leb, ltb}
 use Rattle.a2m.specs.Call.{Call, append, advance, truncate, lookup, end, refused, replies}
-use Rattle.model.specs.Model.{Rules, rules01, rules, Model, logAt, total, isNil, not32, modelRefusal, modelLookup, modelEnd, modelDone, modelAccept, modelStep}
+use Rattle.model.specs.Model.{Rules, rules01, slotRule, rules, Model, logAt, total, lacksBut, isNil, not32, modelRefusal, modelLookup, modelEnd, modelDone, modelAccept, modelStep}
 use Rattle.model.specs.Claim.{Turn, modelTurn, replyAt}
 use Rattle.model.proofs.Turns.{Each}
 
@@ -29,13 +29,21 @@ pub calm01 : Calm rules01
 unfolding rules01
 calm01 = record { slot = λ (b : Model) (g : ℕ). unless (eqb (total (b .logs)) (b .size)) 5 none (λ z. omega arith) none-not; end = λ h. let z : _≡_ {A = ℕ} 6 1 = cc in omega arith }
 
-pub calm : Calm rules
-unfolding rules
-calm = record { slot = calm01 .slot; end = calm01 .end }
-
 if-so : (t : Bool) (x rest : Option ℕ) → x ≢ some 1 → rest ≢ some 1 → cond t x rest ≢ some 1
 if-so true x rest h r e = h e
 if-so false x rest h r e = r e
+
+slot-not : (b : Model) (g : ℕ) → slotRule b g ≢ some 1
+unfolding slotRule
+slot-not b g =
+    let l = logAt (b .logs) g in
+    unless (eqb (total (b .logs)) (b .size)) 5 _ (λ z. omega arith)
+    (if-so (ltb (length (l .entries)) (l .reserve)) none _ none-not
+    (unless (leb (b .size - total (b .logs)) (lacksBut g (b .logs))) 16 none (λ z. omega arith) none-not))
+
+pub calm : Calm rules
+unfolding rules
+calm = record { slot = slot-not; end = calm01 .end }
 
 refusal-not : (ru : Rules) → Calm ru → (b : Model) (call : Call) → modelRefusal ru b call ≢ some 1
 unfolding modelRefusal

@@ -20,6 +20,7 @@ use Rattle.layout.proofs.TableLaws.{length-rows, fits-read}
 use Rattle.table.specs.Chains.{chain}
 use Rattle.table.specs.Whole.{whole}
 use Rattle.table.specs.WholeImage.{wholeImage}
+use Rattle.table.proofs.ReserveLaws.{whole-linked}
 use Rattle.table.proofs.WholeLaws.{whole-formed, whole-range, whole-image}
 use Rattle.a2m.specs.Call.{Call, append, advance, truncate, lookup, end, logOf, Wide, receiptIn}
 use Rattle.a2m.specs.Search.{Found, lookedUp}
@@ -56,7 +57,7 @@ slot-sizes m f (suc i) = (f .slots i .value, f .slots i .digest)
 pub whole-keeps : (m : Image) → wholeImage m ≡ true → Fits m → Keeps (modelOf m)
 unfolding modelOf logIn entriesIn
 whole-keeps m w f = record {
-  sound = model-sound m w;
+  sound = model-sound m (whole-linked m w);
   keeper = f .keeper;
   fits = λ (g : ℕ). rw (log-in m g) (record {
     high = f .rows g .high;
@@ -75,7 +76,7 @@ module _ (m : Image) (w : wholeImage m ≡ true) where
   unfolding valuesOf valuesIn carried lookupAttested modelOf foundAs
   lookup-values g n c k n1 =
       ap (λ (l : Log). m .keeper ∷ g ∷ n ∷ kindOf (standing l n) ∷ referenceOf l (standing l n) ∷ []) (log-in m g)
-      ∙ ap (λ (f : Found). m .keeper ∷ g ∷ n ∷ f .kind ∷ f .reference ∷ []) (sym (found-in m g n (subst LogOk (log-in m g) (model-sound m w g)) n1))
+      ∙ ap (λ (f : Found). m .keeper ∷ g ∷ n ∷ f .kind ∷ f .reference ∷ []) (sym (found-in m g n (subst LogOk (log-in m g) (model-sound m (whole-linked m w) g)) n1))
 
   end-values : (g : ℕ) (c : List ℕ) (k : ℕ) → valuesOf (modelOf m) (end g c k) ≡ valuesIn m (end g c k)
   unfolding valuesOf valuesIn carried endAttested modelOf logIn

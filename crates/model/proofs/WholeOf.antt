@@ -1,4 +1,4 @@
--- An image that says a sound model is whole.
+-- An image that says a sound model has its chains in order; where the slots promised are there, it is whole.
 use Prim.Native.Nat.{ℕ, suc, _+_}
 use mathlib.Core.Path.{_≡_, refl, sym, ap, ap₂, _∙_}
 use mathlib.Core.List.{List, [], _∷_, cons≢nil, tail-eq-of-cons-eq, head-eq-of-cons-eq}
@@ -15,7 +15,7 @@ use Rattle.octets.proofs.Same.{same-eq, same-refl}
 use Rattle.layout.specs.declared.Row.{Row}
 use Rattle.layout.specs.Image.{Entry, Slot, Image, entryOf, blankEntry, slotAt, rowAt}
 use Rattle.table.specs.Chains.{chain, lastOf, entriesOf}
-use Rattle.table.specs.WholeImage.{all, freeOk, fresh, started, rowOk, rowsOk, heldBy, meets, wholeImage}
+use Rattle.table.specs.WholeImage.{all, freeOk, fresh, started, rowOk, rowsOk, heldBy, meets, linked, wholeImage}
 use Rattle.layout.specs.Tests.{blank}
 use Rattle.a2m.proofs.Lists.{lastOf-nil}
 use Rattle.table.specs.Conditions.{Links}
@@ -24,6 +24,8 @@ use Rattle.model.specs.Log.{Log}
 use Rattle.model.specs.Model.{Model, logAt, total}
 use Rattle.model.proofs.Represents.{Rep, RowRep, LogOk, Sound}
 use Rattle.model.proofs.Reading.{row-length, row-chain, free-chain}
+use Rattle.model.proofs.Backed.{Backed}
+use Rattle.model.proofs.Lacking.{enough-of}
 use Rattle.model.proofs.Positions.{positions, positions-of, rising-of, last-position, ok-empty, ok-low}
 
 -- ---- blank slots
@@ -104,11 +106,15 @@ meets-length m b R =
     (held-length (m .slots) 0 (m .rows) (b .logs) (R .count) (λ (i : ℕ). rw zero-add (ap length (row-chain m b R i) ∙ row-length m b R i)))
     ∙ R .sum
 
-pub whole-of : (m : Image) (b : Model) → Rep m b → Sound b → wholeImage m ≡ true
-unfolding wholeImage freeOk
-whole-of m b R ok =
+linked-of : (m : Image) (b : Model) → Rep m b → Sound b → linked m ≡ true
+unfolding freeOk
+linked-of m b R ok =
     and-both _ _
     (and-both _ _
     (and-both _ _ (reaches-links (m .slots) 0 (m .free) (R .queue) (R .free .links)) (rw (free-chain m b R) (blanks-of (m .slots) (R .queue) (R .free .held))))
     (rows-ok (m .slots) 0 (m .rows) (λ (i : ℕ). rw zero-add (row-ok (m .slots) i (rowAt (m .rows) i) (logAt (b .logs) i) (R .rows i) (ok i)))))
     (eq-eqb (length (meets m)) (length (m .slots)) (meets-length m b R))
+
+pub whole-of : (m : Image) (b : Model) → Rep m b → Sound b → Backed b → wholeImage m ≡ true
+unfolding wholeImage
+whole-of m b R ok k = and-both (linked m) _ (linked-of m b R ok) (enough-of m b R k)

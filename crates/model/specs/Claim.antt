@@ -105,11 +105,12 @@ unfoldable pub times : ℕ → List ℕ → ℕ
 times s [] = 0
 times s (x ∷ xs) = cond (eqb s x) (suc (times s xs)) (times s xs)
 
--- row g's L and H and the entries along its chain are the log's
+-- row g's L, H and reserve and the entries along its chain are the log's
 pub record RowSays (m : Image) (g : ℕ) (l : Log) : Type 0 where
   pub low : rowIn m g .low ≡ l .low
   pub high : rowIn m g .high ≡ l .high
   pub entries : entriesIn m g ≡ l .entries
+  pub reserve : rowIn m g .reserve ≡ l .reserve
 
 -- ---- the claim
 

@@ -5,3 +5,4 @@ pub mod Model
 pub mod ModelOf
 pub mod Program
 pub mod Question
+pub mod Stage

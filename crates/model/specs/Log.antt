@@ -1,5 +1,5 @@
--- A log of the reference model: low, high and a list of entries (document 01, "The plain book"), and what "The log's rules" say of a position.
-use Prim.Native.Nat.{ℕ, suc}
+-- A log of the reference model: low, high, a list of entries (document 01, "The plain book") and a reserve (request [5]), and what "The log's rules" say of a position.
+use Prim.Native.Nat.{ℕ, suc, _-_}
 use mathlib.Core.List.{List, [], _∷_, _++_}
 use mathlib.Core.Bool.{cond}
 use lib.ListN.{length}
@@ -11,10 +11,15 @@ pub record Log : Type 0 where
   pub low : ℕ
   pub high : ℕ
   pub entries : List Entry
+  pub reserve : ℕ
 
--- "at first 1, 0 and no entry"
-abbrev pub freshLog : Log
-freshLog = record { low = 1; high = 0; entries = [] }
+-- "at first 1, 0 and no entry"; the reserve is formatting's
+abbrev pub freshLog : ℕ → Log
+freshLog reserve = record { low = 1; high = 0; entries = []; reserve = reserve }
+
+-- what a log lacks of its reserve; one with more entries lacks nothing
+abbrev pub lack : Log → ℕ
+lack l = l .reserve - length (l .entries)
 
 -- the last entry, or a blank one: "the previous digest is the last entry's, or zero bytes on an empty list"
 unfoldable pub lastEntry : List Entry → Entry
@@ -33,11 +38,11 @@ keepBelow n (e ∷ es) = cond (ltb (e .position) n) (e ∷ keepBelow n es) (keep
 
 -- "Append and advance put an entry at the list's end .. Its position .. is the new H."
 unfoldable pub entered : Log → Entry → Log
-entered l e = record { low = l .low; high = e .position; entries = l .entries ++ (e ∷ []) }
+entered l e = record { low = l .low; high = e .position; entries = l .entries ++ (e ∷ []); reserve = l .reserve }
 
 -- "Truncate strikes the entries below n; L becomes n."
 unfoldable pub cutAt : ℕ → Log → Log
-cutAt n l = record { low = n; high = l .high; entries = keepFrom n (l .entries) }
+cutAt n l = record { low = n; high = l .high; entries = keepFrom n (l .entries); reserve = l .reserve }
 
 -- what a lookup finds at a position: an assigned one has an entry, a skipped one "the next entry above n, which is the advance that skipped it"
 pub data Standing : Type 0 where

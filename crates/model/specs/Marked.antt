@@ -43,7 +43,7 @@ F = 3
 unfoldable pub zero32 : List ℕ
 zero32 = zeros 32
 
--- the script's lines 2 to 12; line 1 is `format,2,3,7`
+-- the script's lines 2 to 12; line 1 is `format,2,3,7,0,0`
 unfoldable pub marked : List Line
 marked =
     line 2 (append 0 (placed 41)) 0 dashes 1 1 ∷

@@ -1,17 +1,17 @@
 -- The reference model of the table calls: document 01's plain book, "fed the arguments of an accepted format (G, S, keeper number, key), then each
--- call's arguments .., never a table or an answer". With the calls on images it shares the types of calls, answers and entries, the digest rule and
+-- call's arguments .., never a table or an answer"; of request [5] it has the reserves, a log for each, and a count of its own of what logs lack. With the calls on images it shares the types of calls, answers and entries, the digest rule and
 -- the receipt bytes; its refusals, lookups and truncation are its own.
-use Prim.Native.Nat.{ℕ, suc, _+_, _-_, _^_}
-use mathlib.Core.List.{List, [], _∷_}
+use Prim.Native.Nat.{ℕ, zero, suc, _+_, _-_, _^_}
+use mathlib.Core.List.{List, [], _∷_, map}
 use mathlib.Core.Bool.{Bool, true, false, cond, not, _||_}
 use mathlib.Core.Option.{Option, none, some}
-use lib.ListN.{length, getD, set, replicate}
+use lib.ListN.{length, getD, set}
 use lib.Dec.{eqb, leb, ltb}
 use Rattle.layout.specs.Image.{Entry, blankEntry}
 use Rattle.receipt.specs.Attestation.{LOOKUP, END, receiptBytes}
 use Rattle.a2m.specs.Call.{Call, append, advance, truncate, lookup, end, Reply, refused, done, found, ended, Effect, effect}
 use Rattle.a2m.specs.NewEntry.{newEntry}
-use Rattle.model.specs.Log.{Log, freshLog, lastEntry, entered, cutAt, Standing, unassigned, forgotten, assigned, skipped, standing, kindOf, referenceOf, examinedFor}
+use Rattle.model.specs.Log.{Log, freshLog, lack, lastEntry, entered, cutAt, Standing, unassigned, forgotten, assigned, skipped, standing, kindOf, referenceOf, examinedFor}
 
 -- slots S, keeper number, key; the logs
 pub record Model : Type 0 where
@@ -20,12 +20,12 @@ pub record Model : Type 0 where
   pub key : List ℕ
   pub logs : List Log
 
--- the model of an accepted format: G fresh logs over S slots
-abbrev pub newModel : ℕ → ℕ → ℕ → List ℕ → Model
-newModel G S keeper key = record { size = S; keeper = keeper; key = key; logs = replicate G freshLog }
+-- the model of an accepted format: a fresh log for each reserve, over S slots
+abbrev pub newModel : ℕ → ℕ → List ℕ → List ℕ → Model
+newModel S keeper key reserves = record { size = S; keeper = keeper; key = key; logs = map freshLog reserves }
 
 abbrev pub logAt : List Log → ℕ → Log
-logAt logs g = getD logs g freshLog
+logAt logs g = getD logs g (freshLog 0)
 
 abbrev pub withLog : Model → ℕ → Log → Model
 withLog b g l = record { size = b .size; keeper = b .keeper; key = b .key; logs = set (b .logs) g l }
@@ -34,6 +34,16 @@ withLog b g l = record { size = b .size; keeper = b .keeper; key = b .key; logs 
 unfoldable pub total : List Log → ℕ
 total [] = 0
 total (l ∷ ls) = length (l .entries) + total ls
+
+-- what all logs lack of their reserves, and what all but log g lack
+unfoldable pub lacks : List Log → ℕ
+lacks [] = 0
+lacks (l ∷ ls) = lack l + lacks ls
+
+unfoldable pub lacksBut : ℕ → List Log → ℕ
+lacksBut g [] = 0
+lacksBut zero (l ∷ ls) = lacks ls
+lacksBut (suc g) (l ∷ ls) = lack l + lacksBut g ls
 
 unfoldable pub isNil {ℓ} : {A : Type ℓ} → List A → Bool
 isNil [] = true
@@ -54,10 +64,19 @@ pub record Rules : Type 0 where
 unfoldable pub rules01 : Rules
 rules01 = record { gap = λ e. blankEntry; noSlot = λ b g. cond (eqb (total (b .logs)) (b .size)) (some 5) none; emptyEnd = some 6 }
 
+-- request [5]: 5 as before; "always gets a slot while its log holds fewer entries than its reserve. Beyond that it gets one exactly if the free slots
+-- outnumber what the other logs still lack of their reserves", otherwise 16
+unfoldable pub slotRule : Model → ℕ → Option ℕ
+slotRule b g =
+    let l = logAt (b .logs) g in
+    cond (eqb (total (b .logs)) (b .size)) (some 5)
+    (cond (ltb (length (l .entries)) (l .reserve)) none
+    (cond (leb (b .size - total (b .logs)) (lacksBut g (b .logs))) (some 16) none))
+
 -- the present ones, which the calls on images and tables go by. Document 02, [3]: "A skipped receipt now carries the value and digest of the entry at its
 -- reference"
 unfoldable pub rules : Rules
-rules = record { gap = λ e. e; noSlot = rules01 .noSlot; emptyEnd = rules01 .emptyEnd }
+rules = record { gap = λ e. e; noSlot = slotRule; emptyEnd = rules01 .emptyEnd }
 
 -- ---- refusals
 

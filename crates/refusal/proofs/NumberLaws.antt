@@ -6,7 +6,7 @@ use mathlib.Core.List.{List, [], _∷_}
 use lib.ListN.{getD}
 use Rattle.refusal.specs.Number.{numberOf, outcomeNumber}
 use Rattle.refusal.specs.declared.Refusal.{Refusal}
-use Rattle.refusal.specs.declared.Refusal.the-variants.{Torn, NoLog, Position, Spent, Full, NothingHeld, Length, Counts, NoReceipt, Tag, OtherQuestion, Roster, TooFew, NoRun, Line}
+use Rattle.refusal.specs.declared.Refusal.the-variants.{Torn, NoLog, Position, Spent, Full, NothingHeld, Length, Counts, NoReceipt, Tag, OtherQuestion, Roster, TooFew, NoRun, Line, Promised}
 use Rattle.refusal.specs.declared.Outcome.{Outcome}
 use Rattle.refusal.specs.declared.Outcome.the-variants.{Done, Refused}
 
@@ -14,7 +14,7 @@ use Rattle.refusal.specs.declared.Outcome.the-variants.{Done, Refused}
 abbrev words : List Refusal
 words =
     Torn ∷ NoLog ∷ Position ∷ Spent ∷ Full ∷ NothingHeld ∷ Length ∷ Counts ∷ NoReceipt ∷ Tag ∷
-    OtherQuestion ∷ Roster ∷ TooFew ∷ NoRun ∷ Line ∷ []
+    OtherQuestion ∷ Roster ∷ TooFew ∷ NoRun ∷ Line ∷ Promised ∷ []
 
 -- the outcome of a number
 abbrev outcomeOf : ℕ → Outcome
@@ -37,6 +37,7 @@ refused-back Roster = refl
 refused-back TooFew = refl
 refused-back NoRun = refl
 refused-back Line = refl
+refused-back Promised = refl
 
 outcome-back : (o : Outcome) → outcomeOf (outcomeNumber o) ≡ o
 outcome-back Done = refl

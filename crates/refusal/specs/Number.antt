@@ -1,7 +1,7 @@
 -- Document 01, "Numbers returned": the number of each word. Every contract that speaks of a refusal cites `numberOf`.
 use Prim.Native.Nat.{ℕ}
 use Rattle.refusal.specs.declared.Refusal.{Refusal}
-use Rattle.refusal.specs.declared.Refusal.the-variants.{Torn, NoLog, Position, Spent, Full, NothingHeld, Length, Counts, NoReceipt, Tag, OtherQuestion, Roster, TooFew, NoRun, Line}
+use Rattle.refusal.specs.declared.Refusal.the-variants.{Torn, NoLog, Position, Spent, Full, NothingHeld, Length, Counts, NoReceipt, Tag, OtherQuestion, Roster, TooFew, NoRun, Line, Promised}
 use Rattle.refusal.specs.declared.Outcome.{Outcome}
 use Rattle.refusal.specs.declared.Outcome.the-variants.{Done, Refused}
 
@@ -21,6 +21,8 @@ numberOf Roster = 12
 numberOf TooFew = 13
 numberOf NoRun = 14
 numberOf Line = 15
+-- request [5]: "Turned away: 16 "promised""
+numberOf Promised = 16
 
 -- 0 "done", or the refusal's number
 abbrev pub outcomeNumber : Outcome → ℕ

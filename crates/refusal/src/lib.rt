@@ -1,4 +1,4 @@
-// Why a call is refused: document 01's "Numbers returned", a variant for each of its words.
+// Why a call is refused: document 01's "Numbers returned" and those of document 02, a variant for each of their words.
 ghost use mathlib.Core.Path.{_≡_};
 ghost use Rattle.refusal.specs.Number.{numberOf, outcomeNumber};
 ghost use Rattle.refusal.specs.Work.{workedNumber, workedBlocks};
@@ -19,6 +19,7 @@ pub enum Refusal {
     TooFew,
     NoRun,
     Line,
+    Promised,
 }
 
 // The answer of a call that returns nothing but its number.
@@ -55,6 +56,7 @@ impl Refusal {
             Refusal::TooFew => 13,
             Refusal::NoRun => 14,
             Refusal::Line => 15,
+            Refusal::Promised => 16,
         }
     }
 }

@@ -4,6 +4,7 @@ pub mod CallLaws
 pub mod CellLaws
 pub mod NewlineLaws
 pub mod Reading
+pub mod ReserveLaws
 pub mod StreamLaws
 pub mod TurnLaws
 pub mod WholeScript

@@ -17,7 +17,7 @@ use Rattle.line.specs.declared.Cell.{Cell}
 use Rattle.line.specs.declared.Cell.the-variants.{Dash, Number, Letter}
 use Rattle.line.specs.declared.Command.{Command}
 use Rattle.line.specs.declared.Command.the-variants.{Format, Append, Advance, Truncate, Lookup, End, Malformed}
-use Rattle.line.specs.Command.{commandOf}
+use Rattle.line.specs.Command.{commandOf, reservesOf}
 use Rattle.line.specs.Answer.{cellText, lineText}
 use Rattle.script.specs.declared.Answer.{Answer}
 use Rattle.script.specs.declared.Answer.the-variants.{Plain, Bounded, Attested}
@@ -109,15 +109,15 @@ call : (b : List ℕ) (c : Call) → Lettered (callAnswer b c)
 unfolding callAnswer
 call b c = reply (tableStep b c .reply) (rowIn (readTable (tableStep b c .state)) (logOf c))
 
-command : (b : List ℕ) (c : Command) → Lettered (commandAnswer b c)
+command : (b : List ℕ) (c : Command) (rs : List ℕ) → Lettered (commandAnswer b c rs)
 unfolding commandAnswer
-command b (Format logs slots keeper) = tt
-command b (Append log value) = call b _
-command b (Advance log position digest value) = call b _
-command b (Truncate log position) = call b _
-command b (Lookup log position) = call b _
-command b (End log) = call b _
-command b Malformed = tt
+command b (Format logs slots keeper) rs = tt
+command b (Append log value) rs = call b _
+command b (Advance log position digest value) rs = call b _
+command b (Truncate log position) rs = call b _
+command b (Lookup log position) rs = call b _
+command b (End log) rs = call b _
+command b Malformed rs = tt
 
 cells : (n : ℕ) (a : Answer) → Lettered a → newlines (lineText (cellsOf n a)) ≡ 1
 cells n (Plain k) p = line _ _ (tt, (tt, (tt, (tt, (tt, (tt, (tt, (tt, tt))))))))
@@ -126,7 +126,7 @@ cells n (Attested kind position reference value low high) p = line _ _ (tt, (tt,
 
 pub one-line : (T : List ℕ) (n : ℕ) (l : List ℕ) → newlines (answerText T n l) ≡ 1
 unfolding answerText
-one-line T n l = cells n (commandAnswer T (commandOf l)) (command T (commandOf l))
+one-line T n l = cells n (commandAnswer T (commandOf l) (reservesOf l)) (command T (commandOf l) (reservesOf l))
 
 -- as many answers as lines that end
 pub answered-lines : (T h : List ℕ) (n : ℕ) (x : List ℕ) → newlines (answered T h n x) ≡ newlines x

@@ -15,12 +15,12 @@ use native.Mathlib.Numerals.{add-one}
 use Rattle.octets.specs.Octets.{splice}
 use Rattle.octets.proofs.Parts.{part-splice-same}
 use Rattle.line.specs.Fields.{upTo}
-use Rattle.line.specs.Command.{commandOf}
+use Rattle.line.specs.Command.{commandOf, reservesOf}
 use Rattle.line.specs.Answer.{lineText}
 use Rattle.line.proofs.AnswerLaws.{line-length}
 use Rattle.line.specs.declared.Command.{Command}
 use Rattle.line.proofs.FieldLaws.{take-first, take-marked}
-use Rattle.line.proofs.CommandLaws.{command-long}
+use Rattle.line.proofs.CommandLaws.{command-long, malformed-reserves}
 use Rattle.script.specs.declared.Answer.{Answer}
 use Rattle.script.specs.declared.Answer.the-variants.{Plain, Bounded, Attested}
 use Rattle.script.specs.Script.{commandAnswer, commandTable, cellsOf, answerText, tableAfter}
@@ -45,13 +45,22 @@ command-cut l = go (decLe (length l) 201)
     go (yes q) = ap commandOf (take-all 201 l q)
     go (no q) = command-long (cut l) (omega (arith, length-take-le 201 l (omega arith))) ∙ sym (command-long l (omega arith))
 
+reserves-cut : (l : List ℕ) → reservesOf (cut l) ≡ reservesOf l
+reserves-cut l = go (decLe (length l) 201)
+  where
+    go : Dec (length l ≤ 201) → reservesOf (cut l) ≡ reservesOf l
+    go (yes q) = ap reservesOf (take-all 201 l q)
+    go (no q) =
+        malformed-reserves (cut l) (command-long (cut l) (omega (arith, length-take-le 201 l (omega arith))))
+        ∙ sym (malformed-reserves l (command-long l (omega arith)))
+
 pub answer-cut : (T : List ℕ) (n : ℕ) (l : List ℕ) → answerText T n (cut l) ≡ answerText T n l
 unfolding answerText
-answer-cut T n l = ap (λ (c : Command). lineText (cellsOf n (commandAnswer T c))) (command-cut l)
+answer-cut T n l = ap₂ (λ (c : Command) (rs : List ℕ). lineText (cellsOf n (commandAnswer T c rs))) (command-cut l) (reserves-cut l)
 
 pub table-cut : (T l : List ℕ) → tableAfter T (cut l) ≡ tableAfter T l
 unfolding tableAfter
-table-cut T l = ap (commandTable T) (command-cut l)
+table-cut T l = ap₂ (commandTable T) (command-cut l) (reserves-cut l)
 
 -- ---- one piece after another
 
@@ -225,7 +234,7 @@ cells-eight n (Attested kind position reference value low high) = refl
 
 pub answer-length : (T : List ℕ) (n : ℕ) (l : List ℕ) → length (answerText T n l) ≤ 168
 unfolding answerText
-answer-length T n l = line-length (cellsOf n (commandAnswer T (commandOf l))) (cells-eight n (commandAnswer T (commandOf l)))
+answer-length T n l = line-length (cellsOf n (commandAnswer T (commandOf l) (reservesOf l))) (cells-eight n (commandAnswer T (commandOf l) (reservesOf l)))
 
 -- ---- a line more is read
 

@@ -1,4 +1,5 @@
-// Document 01's other cases, each refusal that a script can meet, and each kind of line that is none: scripts and their answers.
+// Document 01's other cases, request [5]'s, each refusal that a script can meet, and each kind of line that is none: scripts and
+// their answers.
 ghost use mathlib.Core.Path.{_≡_};
 ghost use Prim.Native.Nat.{_≤_};
 ghost use lib.ListN.{length};
@@ -45,10 +46,10 @@ fn show(text: &[u8])
 fn truncates() {
     io::write_all(STDOUT_FILENO, b"-- truncate\n");
     show(
-        b"format,1,5,1\ntruncate,0,1\nappend,0,1\nappend,0,2\ntruncate,0,1\ntruncate,0,3\ntruncate,0,0\ntruncate,0,2\ntruncate,0,2\nlookup,0,2\nlookup,0,1\n",
+        b"format,1,5,1,0\ntruncate,0,1\nappend,0,1\nappend,0,2\ntruncate,0,1\ntruncate,0,3\ntruncate,0,0\ntruncate,0,2\ntruncate,0,2\nlookup,0,2\nlookup,0,1\n",
     );
     show(
-        b"format,1,3,1\nadvance,0,3,0,10\nadvance,0,9,0,20\ntruncate,0,5\nlookup,0,4\nlookup,0,5\nlookup,0,8\nlookup,0,9\nlookup,0,10\nend,0\n",
+        b"format,1,3,1,0\nadvance,0,3,0,10\nadvance,0,9,0,20\ntruncate,0,5\nlookup,0,4\nlookup,0,5\nlookup,0,8\nlookup,0,9\nlookup,0,10\nend,0\n",
     );
 }
 
@@ -56,30 +57,73 @@ fn truncates() {
 fn last_position() {
     io::write_all(STDOUT_FILENO, b"-- the last position\n");
     show(
-        b"format,1,2,1\nadvance,0,18446744073709551615,7,8\nappend,0,9\nadvance,0,18446744073709551615,0,1\nlookup,0,18446744073709551614\nlookup,0,18446744073709551615\nend,0\ntruncate,0,18446744073709551615\nappend,0,9\n",
+        b"format,1,2,1,0\nadvance,0,18446744073709551615,7,8\nappend,0,9\nadvance,0,18446744073709551615,0,1\nlookup,0,18446744073709551614\nlookup,0,18446744073709551615\nend,0\ntruncate,0,18446744073709551615\nappend,0,9\n",
     );
-    show(b"format,1,1,1\nadvance,0,18446744073709551615,7,8\nappend,0,9\nadvance,0,5,0,1\n");
+    show(b"format,1,1,1,0\nadvance,0,18446744073709551615,7,8\nappend,0,9\nadvance,0,5,0,1\n");
 }
 
 // Each number that a call of a script can be refused with, 1 before 2 and 3, and 3 before 5.
 fn refusals() {
     io::write_all(STDOUT_FILENO, b"-- refusals\n");
     show(
-        b"append,0,1\nadvance,99,0,0,1\ntruncate,0,0\nlookup,0,0\nend,0\nformat,2,2,7\nappend,2,1\nadvance,2,0,0,1\ntruncate,256,0\nlookup,18446744073709551615,0\nend,2\n",
+        b"append,0,1\nadvance,99,0,0,1\ntruncate,0,0\nlookup,0,0\nend,0\nformat,2,2,7,0,0\nappend,2,1\nadvance,2,0,0,1\ntruncate,256,0\nlookup,18446744073709551615,0\nend,2\n",
     );
     show(
-        b"format,2,2,7\nlookup,0,0\nlookup,0,1\nadvance,0,0,0,1\nend,0\nappend,0,1\nappend,1,1\nadvance,0,1,0,1\nadvance,0,2,0,1\nappend,0,1\nappend,1,1\nend,0\nend,1\n",
+        b"format,2,2,7,0,0\nlookup,0,0\nlookup,0,1\nadvance,0,0,0,1\nend,0\nappend,0,1\nappend,1,1\nadvance,0,1,0,1\nadvance,0,2,0,1\nappend,0,1\nappend,1,1\nend,0\nend,1\n",
     );
 }
 
-// Counts out of range give 8, wide ones too; a refused format leaves the old table, an accepted one writes a new one.
+// Counts out of range give 8, wide ones too, where the reserves are as many as the logs; a refused format leaves the old table, an
+// accepted one writes a new one.
 fn formats() {
     io::write_all(STDOUT_FILENO, b"-- format\n");
     show(
-        b"format,0,3,7\nformat,17,3,7\nformat,2,0,7\nformat,2,801,7\nformat,258,3,7\nformat,2,65539,7\nformat,18446744073709551615,18446744073709551615,18446744073709551615\nend,0\n",
+        b"format,0,3,7\nformat,2,0,7,0,0\nformat,2,801,7,0,0\nformat,2,65539,7,0,0\nformat,2,18446744073709551615,7,0,0\nend,0\n",
     );
     show(
-        b"format,1,1,0\nappend,0,5\nformat,0,3,7\nend,0\nformat,16,800,18446744073709551615\nend,15\nend,16\nformat,1,1,7\nend,15\n",
+        b"format,17,3,7,0,0,0,0,0,0,0,0,0,0,0,0,0,0,0,0,0\nformat,93,3,7,0,0,0,0,0,0,0,0,0,0,0,0,0,0,0,0,0,0,0,0,0,0,0,0,0,0,0,0,0,0,0,0,0,0,0,0,0,0,0,0,0,0,0,0,0,0,0,0,0,0,0,0,0,0,0,0,0,0,0,0,0,0,0,0,0,0,0,0,0,0,0,0,0,0,0,0,0,0,0,0,0,0,0,0,0,0,0,0,0,0,0,0,0\nend,0\n",
+    );
+    show(
+        b"format,1,1,0,0\nappend,0,5\nformat,0,3,7\nend,0\nformat,16,800,18446744073709551615,0,0,0,0,0,0,0,0,0,0,0,0,0,0,0,0\nend,15\nend,16\nformat,1,1,7,0\nend,15\n",
+    );
+}
+
+// Another number of reserves than of logs is no line, 15 before 8; reserves that together pass the slots give 8, and nothing wraps.
+fn reserves() {
+    io::write_all(STDOUT_FILENO, b"-- format: reserves\n");
+    show(
+        b"format,17,3,7\nformat,258,3,7\nformat,18446744073709551615,18446744073709551615,18446744073709551615\nformat,2,3,7\nformat,2,3,7,1\nformat,2,3,7,0,0,0\nformat,0,3,7,0\nformat,18446744073709551615,3\nformat,16,800,7,0,0,0,0,0,0,0,0,0,0,0,0,0,0,0\nformat,16,800,7,0,0,0,0,0,0,0,0,0,0,0,0,0,0,0,0,0\nformat,17,3,7,0,0,0,0,0,0,0,0,0,0,0,0,0,0,0,0,x\nend,0\n",
+    );
+    show(
+        b"format,2,3,7,2,2\nformat,1,3,7,65536\nformat,1,3,7,65539\nformat,1,3,7,18446744073709551615\nformat,1,3,7,18446744073709551616\nformat,2,3,7,1,18446744073709551615\nend,0\nformat,2,3,7,3,0\nappend,1,5\n",
+    );
+    show(
+        b"format,9,3,7,18446744073709551615,18446744073709551615,18446744073709551615,18446744073709551615,18446744073709551615,18446744073709551615,18446744073709551615,18446744073709551615,1844674407370955161\nformat,9,3,7,18446744073709551615,18446744073709551615,18446744073709551615,18446744073709551615,18446744073709551615,18446744073709551615,18446744073709551615,18446744073709551615,18446744073709551615\n",
+    );
+}
+
+// 16 while the free slots do not outnumber what the other logs lack; 5 where none is free, 3 and 4 before both.
+fn promised() {
+    io::write_all(STDOUT_FILENO, b"-- promised\n");
+    show(
+        b"format,2,3,7,1,0\nappend,1,10\nappend,1,11\nappend,1,12\nappend,0,41\nappend,0,42\nappend,1,13\ntruncate,1,2\nappend,0,42\nappend,1,13\n",
+    );
+    show(
+        b"format,2,2,7,1,0\nadvance,1,18446744073709551615,0,1\nappend,1,2\nadvance,1,5,0,2\nappend,0,3\nappend,0,4\n",
+    );
+    show(
+        b"format,2,2,7,2,0\nadvance,1,0,0,1\nadvance,1,9,0,1\nlookup,1,9\nappend,0,1\nadvance,0,7,0,2\ntruncate,0,2\nappend,1,1\nappend,0,3\nappend,0,4\n",
+    );
+}
+
+// A log that holds more than its reserve makes up for no other; the sixteenth log's reserve counts as the others'.
+fn others() {
+    io::write_all(STDOUT_FILENO, b"-- what the others lack\n");
+    show(
+        b"format,3,4,7,1,1,0\nappend,0,1\nappend,0,2\nappend,0,3\nappend,2,4\nappend,0,4\nappend,1,4\nappend,2,5\n",
+    );
+    show(
+        b"format,16,2,7,0,0,0,0,0,0,0,0,0,0,0,0,0,0,0,1\nappend,0,1\nappend,0,2\nappend,14,2\nappend,15,3\nend,15\n",
     );
 }
 
@@ -87,7 +131,7 @@ fn formats() {
 fn slots() {
     io::write_all(STDOUT_FILENO, b"-- slots\n");
     show(
-        b"format,2,3,7\nappend,0,1\nappend,0,2\nappend,0,3\nappend,1,9\ntruncate,0,3\nappend,1,9\nappend,1,8\nappend,1,7\nlookup,0,3\nlookup,1,1\nlookup,1,2\n",
+        b"format,2,3,7,0,0\nappend,0,1\nappend,0,2\nappend,0,3\nappend,1,9\ntruncate,0,3\nappend,1,9\nappend,1,8\nappend,1,7\nlookup,0,3\nlookup,1,1\nlookup,1,2\n",
     );
 }
 
@@ -95,21 +139,21 @@ fn slots() {
 fn malformed_fields() {
     io::write_all(STDOUT_FILENO, b"-- malformed: fields\n");
     show(
-        b"format,1,9,7\nappend,0,1\n\nappend\nappend,\nappend,0\nappend,0,\nappend,,1\nappend,0,1,\nappend,0,1,2\n,append,0,1\nadvance,0,2,3\nadvance,0,2,3,4,5\nlookup,0\nend\nend,0,1\ntruncate,0\nformat,1,1\nformat,1,1,1,1\nend,0\n",
+        b"format,1,9,7,0\nappend,0,1\n\nappend\nappend,\nappend,0\nappend,0,\nappend,,1\nappend,0,1,\nappend,0,1,2\n,append,0,1\nadvance,0,2,3\nadvance,0,2,3,4,5\nlookup,0\nend\nend,0,1\ntruncate,0\nformat,1,1\nformat,1,1,1\nformat,1,1,1,0,0\nend,0\n",
     );
 }
 
 fn malformed_words() {
     io::write_all(STDOUT_FILENO, b"-- malformed: words\n");
     show(
-        b"format,1,9,7\nAppend,0,1\nAPPEND,0,1\nappend ,0,1\n append,0,1\nappends,0,1\nappen,0,1\n\"append\",0,1\nhash,0,1\n0,append,1\nend,0\n",
+        b"format,1,9,7,0\nAppend,0,1\nAPPEND,0,1\nappend ,0,1\n append,0,1\nappends,0,1\nappen,0,1\n\"append\",0,1\nhash,0,1\n0,append,1\nend,0\n",
     );
 }
 
 fn malformed_numbers() {
     io::write_all(STDOUT_FILENO, b"-- malformed: numbers\n");
     show(
-        b"format,1,9,7\nappend,0,00\nappend,0,01\nappend,00,1\nappend,0,+1\nappend,0,-1\nappend,0, 1\nappend,0,1 \nappend,0,1.0\nappend,0,0x1\nappend,0,1e1\nappend,0,one\nappend,0,\"1\"\nappend,0,18446744073709551616\nappend,0,99999999999999999999\nappend,0,100000000000000000000\nappend,0,340282366920938463463374607431768211457\nend,0\nappend,0,18446744073709551615\nend,0\n",
+        b"format,1,9,7,0\nappend,0,00\nappend,0,01\nappend,00,1\nappend,0,+1\nappend,0,-1\nappend,0, 1\nappend,0,1 \nappend,0,1.0\nappend,0,0x1\nappend,0,1e1\nappend,0,one\nappend,0,\"1\"\nappend,0,18446744073709551616\nappend,0,99999999999999999999\nappend,0,100000000000000000000\nappend,0,340282366920938463463374607431768211457\nend,0\nappend,0,18446744073709551615\nend,0\n",
     );
 }
 
@@ -117,7 +161,7 @@ fn malformed_numbers() {
 fn malformed_bytes() {
     io::write_all(STDOUT_FILENO, b"-- malformed: bytes\n");
     answers(
-        b"format,1,9,7\nappend,0,1\r\nappend,0,\t1\nappend,0,1\0\nappend,0,\xb1\n\xef\xbb\xbfappend,0,1\nend,0\n",
+        b"format,1,9,7,0\nappend,0,1\r\nappend,0,\t1\nappend,0,1\0\nappend,0,\xb1\n\xef\xbb\xbfappend,0,1\nend,0\n",
     );
 }
 
@@ -125,7 +169,7 @@ fn malformed_bytes() {
 fn long_lines() {
     io::write_all(STDOUT_FILENO, b"-- long lines\n");
     answers(
-        b"format,1,9,7\nappend,0,00000000000000000000000000000000000000000000000000000000000000000000000000000000000000000000000000000000000000000000000000000000000000000000000000000000000000000000000000000000000000000000000\nappend,0,000000000000000000000000000000000000000000000000000000000000000000000000000000000000000000000000000000000000000000000000000000000000000000000000000000000000000000000000000000000000000000000000\nend,0\n",
+        b"format,1,9,7,0\nappend,0,00000000000000000000000000000000000000000000000000000000000000000000000000000000000000000000000000000000000000000000000000000000000000000000000000000000000000000000000000000000000000000000000\nappend,0,000000000000000000000000000000000000000000000000000000000000000000000000000000000000000000000000000000000000000000000000000000000000000000000000000000000000000000000000000000000000000000000000\nend,0\n",
     );
 }
 
@@ -134,6 +178,9 @@ fn main() {
     last_position();
     refusals();
     formats();
+    reserves();
+    promised();
+    others();
     slots();
     malformed_fields();
     malformed_words();

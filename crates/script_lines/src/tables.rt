@@ -15,12 +15,19 @@ ghost use Prim.Native.Nat.{_≤_};
 ghost use lib.ListN.{length, take};
 ghost use Rattle.layout.specs.Layout.{largest};
 ghost use Rattle.line.specs.declared.Command.the-variants.{Format};
-ghost use Rattle.script.specs.Script.{Turns};
+ghost use Rattle.script.specs.Script.{lent, Turns};
 
-// A new table, of its own size, where the buffer can hold it.
-fn format(buffer: &mut [u8], size: usize, logs: u64, slots: u64, keeper: u64) -> Turn
-    requires { ⌜ (length (now buffer) ≡ largest) × (size ≤ largest) ⌝ }
-    ensures { λ r. ⌜ Turns (now (buffer .entry)) size (Format logs slots keeper) (now (buffer .exit)) r ⌝ }
+// A new table, of its own size, where the buffer can hold it. Its reserves are the first.
+fn format(
+    buffer: &mut [u8],
+    size: usize,
+    logs: u64,
+    slots: u64,
+    keeper: u64,
+    reserves: &[u64],
+) -> Turn
+    requires { ⌜ (length (now buffer) ≡ largest) × (size ≤ largest) × (length (now reserves) ≡ 16) ⌝ }
+    ensures { λ r. ⌜ Turns (now (buffer .entry)) size (Format logs slots keeper) (take logs (now (reserves .entry))) (now (buffer .exit)) r ⌝ }
 {
     let counts = Turn {
         answer: Answer::Plain(8),
@@ -32,9 +39,17 @@ fn format(buffer: &mut [u8], size: usize, logs: u64, slots: u64, keeper: u64) ->
     if 800 < slots {
         return counts;
     }
-    let n = table_size(logs as usize, slots as usize);
+    let g = logs as usize;
+    let n = table_size(g, slots as usize);
     let key = [0u8; 32];
-    let worked = table_format::format(&mut buffer[0..n], logs, slots, keeper, &key);
+    let worked = table_format::format(
+        &mut buffer[0..n],
+        logs,
+        slots,
+        keeper,
+        &key,
+        &reserves[0..g],
+    );
     match worked {
         Worked::Done { blocks: _ } => Turn {
             answer: Answer::Plain(0),
@@ -48,16 +63,16 @@ fn format(buffer: &mut [u8], size: usize, logs: u64, slots: u64, keeper: u64) ->
 }
 
 // Carries a command out.
-pub fn carry_out(buffer: &mut [u8], size: usize, command: Command) -> Turn
-    requires { ⌜ (length (now buffer) ≡ largest) × (size ≤ largest) ⌝ }
-    ensures { λ r. ⌜ Turns (now (buffer .entry)) size command (now (buffer .exit)) r ⌝ }
+pub fn carry_out(buffer: &mut [u8], size: usize, command: Command, reserves: &[u64]) -> Turn
+    requires { ⌜ (length (now buffer) ≡ largest) × (size ≤ largest) × (length (now reserves) ≡ 16) ⌝ }
+    ensures { λ r. ⌜ Turns (now (buffer .entry)) size command (lent command (now (reserves .entry))) (now (buffer .exit)) r ⌝ }
 {
     let answer = match command {
         Command::Format {
             logs,
             slots,
             keeper,
-        } => return format(buffer, size, logs, slots, keeper),
+        } => return format(buffer, size, logs, slots, keeper, reserves),
         Command::Append { log, value } => append(&mut buffer[0..size], log, value),
         Command::Advance {
             log,

@@ -5,7 +5,7 @@ use mathlib.Core.Bool.{Bool, true, false, not, _&&_}
 use mathlib.Core.List.{List, [], _∷_}
 use mathlib.Core.Logic.{_≢_}
 use native.Mathlib.Omega.{arith}
-use borrow.Author.Tests.{eq-eqb, ne-eqb, not-true, not-false}
+use borrow.Author.Tests.{eq-eqb, ne-eqb, le-leb, lt-leb, not-true, not-false}
 use lib.Dec.{eqb}
 use lib.ListN.{length, length-append}
 use Rattle.refusal.specs.Order.{fault, firstFault, answerOf}
@@ -18,8 +18,9 @@ use Rattle.table.specs.declared.Check.{Check}
 use Rattle.table.specs.declared.Check.the-variants as check
 use Rattle.table.specs.Chains.{lastOf}
 use Rattle.table.specs.Free.{freeChain, joint}
-use Rattle.table.specs.Walks.{walkOf, heldOf}
-use Rattle.table.specs.WholeImage.{freeOk, rowsOk, heldBy, meets, wholeImage}
+use Rattle.table.specs.Reserve.{lackBut, lackAll}
+use Rattle.table.specs.Walks.{walkOf, heldWalk}
+use Rattle.table.specs.WholeImage.{freeOk, rowsOk, heldBy, meets, linked, wholeImage}
 use Rattle.table.specs.Whole.{whole, stockFits, wholeRefusal, checked, checkOf}
 use Rattle.layout.specs.Tests.{headerFits, padsFit}
 use Rattle.layout.proofs.TestLaws.{and-yes, and-no, and-not}
@@ -31,15 +32,15 @@ pub length-meets : (m : Image) → length (meets m) ≡ length (freeChain m) + l
 unfolding meets
 length-meets m = length-append (freeChain m) (heldBy (m .slots) 0 (m .rows))
 
-torn : (b : List ℕ) → whole b ≡ false → check.Torn ≡ checkOf b
+torn : (b : List ℕ) → whole b ≡ false → (g : ℕ) → check.Torn ≡ checkOf b g
 unfolding checkOf checked
-torn b e = sym (ap (λ (t : Bool). checked t (freeChain (readTable b))) e)
+torn b e g = sym (ap (λ (t : Bool). checked t (freeChain (readTable b)) (lackBut (readTable b) g)) e)
 
-torn-image : (b : List ℕ) → wholeImage (readTable b) ≡ false → check.Torn ≡ checkOf b
+torn-image : (b : List ℕ) → wholeImage (readTable b) ≡ false → (g : ℕ) → check.Torn ≡ checkOf b g
 unfolding whole
 torn-image b e = torn b (and-no _ (and-not (headerFits b && padsFit b (logsOf b) (slotsOf b)) e))
 
-pub torn-header : (b : List ℕ) (t : Bool) → t ≡ headerFits b → not t ≡ true → check.Torn ≡ checkOf b
+pub torn-header : (b : List ℕ) (t : Bool) → t ≡ headerFits b → not t ≡ true → (g : ℕ) → check.Torn ≡ checkOf b g
 unfolding whole
 torn-header b t e h = torn b (and-no _ (and-no _ (and-no _ (sym e ∙ not-true t h))))
 
@@ -47,71 +48,79 @@ module _ (b : List ℕ) (logs slots : ℕ) (c : Counted b logs slots) where
   pads-as : padsFit b logs slots ≡ padsFit b (logsOf b) (slotsOf b)
   pads-as = ap₂ (padsFit b) (c .logs-are) (c .slots-are)
 
-  pub torn-pads : (t : Bool) → t ≡ padsFit b logs slots → not t ≡ true → check.Torn ≡ checkOf b
+  pub torn-pads : (t : Bool) → t ≡ padsFit b logs slots → not t ≡ true → (g : ℕ) → check.Torn ≡ checkOf b g
   unfolding whole
   torn-pads t e h = torn b (and-no _ (and-no _ (and-not (headerFits b) (sym (e ∙ pads-as) ∙ not-true t h))))
 
-  pub torn-free : walked.Broken ≡ walkOf (freeOk (readTable b)) (freeChain (readTable b)) → check.Torn ≡ checkOf b
+  pub torn-free : walked.Broken ≡ walkOf (freeOk (readTable b)) (freeChain (readTable b)) → (g : ℕ) → check.Torn ≡ checkOf b g
   unfolding wholeImage
-  torn-free e = torn-image b (and-no _ (and-no _ (walk-broken (freeOk (readTable b)) (freeChain (readTable b)) e)))
+  torn-free e = torn-image b (and-no _ (and-no _ (and-no _ (walk-broken (freeOk (readTable b)) (freeChain (readTable b)) e))))
 
-  pub torn-held : held.Broken ≡ heldOf (rowsOk (readTable b .slots) 0 (readTable b .rows)) (heldBy (readTable b .slots) 0 (readTable b .rows)) → check.Torn ≡ checkOf b
-  unfolding wholeImage
-  torn-held e =
-      torn-image b (and-no _ (and-not (freeOk (readTable b)) (held-broken (rowsOk (readTable b .slots) 0 (readTable b .rows)) (heldBy (readTable b .slots) 0 (readTable b .rows)) e)))
+  pub torn-held : (g : ℕ) → held.Broken ≡ heldWalk (readTable b) g → check.Torn ≡ checkOf b g
+  unfolding wholeImage heldWalk
+  torn-held g e = torn-image b (and-no _ (and-no _ (and-not (freeOk (readTable b)) (held-broken (rowsOk (readTable b .slots) 0 (readTable b .rows)) (heldBy (readTable b .slots) 0 (readTable b .rows)) _ _ e)))) g
 
-  module _ (count last n : ℕ) (free : walked.Met count last ≡ walkOf (freeOk (readTable b)) (freeChain (readTable b)))
-      (held : held.Slots n ≡ heldOf (rowsOk (readTable b .slots) 0 (readTable b .rows)) (heldBy (readTable b .slots) 0 (readTable b .rows))) where
+  module _ (count last n lack others g : ℕ) (free : walked.Met count last ≡ walkOf (freeOk (readTable b)) (freeChain (readTable b))) (held : held.Slots n lack others ≡ heldWalk (readTable b) g) where
     f : (freeOk (readTable b) ≡ true) × (length (freeChain (readTable b)) ≡ count) × (lastOf (freeChain (readTable b)) ≡ last)
     f = walk-met (freeOk (readTable b)) (freeChain (readTable b)) count last free
 
-    h : (rowsOk (readTable b .slots) 0 (readTable b .rows) ≡ true) × (length (heldBy (readTable b .slots) 0 (readTable b .rows)) ≡ n)
-    h = held-slots (rowsOk (readTable b .slots) 0 (readTable b .rows)) (heldBy (readTable b .slots) 0 (readTable b .rows)) n held
+    h : (rowsOk (readTable b .slots) 0 (readTable b .rows) ≡ true) × (length (heldBy (readTable b .slots) 0 (readTable b .rows)) ≡ n) × (lackAll (readTable b) ≡ lack) × (lackBut (readTable b) g ≡ others)
+    unfolding heldWalk
+    h = held-slots (rowsOk (readTable b .slots) 0 (readTable b .rows)) (heldBy (readTable b .slots) 0 (readTable b .rows)) _ _ n lack others held
 
     total : length (meets (readTable b)) ≡ count + n
     total = length-meets (readTable b) ∙ ap₂ _+_ (f .1) (h .1)
 
-    missed : count + n ≢ slots → check.Torn ≡ checkOf b
+    missed : count + n ≢ slots → check.Torn ≡ checkOf b g
     unfolding wholeImage
     missed e =
-        torn-image b (and-not (freeOk (readTable b) && rowsOk (readTable b .slots) 0 (readTable b .rows))
-        (ne-eqb (length (meets (readTable b))) (length (readTable b .slots)) (λ q. e (sym total ∙ q ∙ len b logs slots c))))
+        torn-image b (and-no _ (and-not (freeOk (readTable b) && rowsOk (readTable b .slots) 0 (readTable b .rows))
+        (ne-eqb (length (meets (readTable b))) (length (readTable b .slots)) (λ q. e (sym total ∙ q ∙ len b logs slots c))))) g
 
-    pub torn-over : slots < n → check.Torn ≡ checkOf b
+    pub torn-over : slots < n → check.Torn ≡ checkOf b g
     torn-over k = missed (λ q. omega arith)
 
-    pub torn-total : n ≤ slots → count ≢ slots - n → check.Torn ≡ checkOf b
+    pub torn-total : n ≤ slots → count ≢ slots - n → check.Torn ≡ checkOf b g
     torn-total k e = missed (λ q. e (omega arith))
 
-    pub torn-number : (x : ℕ) → x ≡ stockOf b .count → x ≢ count → check.Torn ≡ checkOf b
-    unfolding whole stockFits
-    torn-number x e k = torn b (and-not (headerFits b && padsFit b (logsOf b) (slotsOf b) && wholeImage (readTable b)) (and-no _ (ne-eqb (stockOf b .count) (length (freeChain (readTable b))) (λ q. k (e ∙ q ∙ f .1)))))
+    pub torn-lack : count < lack → check.Torn ≡ checkOf b g
+    unfolding wholeImage
+    torn-lack k = torn-image b (and-not (linked (readTable b)) (lt-leb (lackAll (readTable b)) (length (freeChain (readTable b))) (omega (arith, f .1, h .2)))) g
 
-    pub torn-last : (y : ℕ) → y ≡ stockOf b .last → y ≢ last → check.Torn ≡ checkOf b
+    pub torn-number : (x : ℕ) → x ≡ stockOf b .count → x ≢ count → check.Torn ≡ checkOf b g
+    unfolding whole stockFits
+    torn-number x e k = torn b (and-not (headerFits b && padsFit b (logsOf b) (slotsOf b) && wholeImage (readTable b)) (and-no _ (ne-eqb (stockOf b .count) (length (freeChain (readTable b))) (λ q. k (e ∙ q ∙ f .1))))) g
+
+    pub torn-last : (y : ℕ) → y ≡ stockOf b .last → y ≢ last → check.Torn ≡ checkOf b g
     unfolding whole stockFits
     torn-last y e k =
-        torn b (and-not (headerFits b && padsFit b (logsOf b) (slotsOf b) && wholeImage (readTable b)) (and-not (eqb (stockOf b .count) (length (freeChain (readTable b)))) (ne-eqb (stockOf b .last) (joint (readTable b)) (λ q. k (e ∙ q ∙ f .2)))))
+        torn b (and-not (headerFits b && padsFit b (logsOf b) (slotsOf b) && wholeImage (readTable b)) (and-not (eqb (stockOf b .count) (length (freeChain (readTable b)))) (ne-eqb (stockOf b .last) (joint (readTable b)) (λ q. k (e ∙ q ∙ f .2))))) g
 
-    pub is-whole : (t u : Bool) (x y : ℕ) → t ≡ headerFits b → not t ≡ false → u ≡ padsFit b logs slots → not u ≡ false → n ≤ slots → count ≡ slots - n → x ≡ stockOf b .count → x ≡ count → y ≡ stockOf b .last → y ≡ last → check.Whole count last ≡ checkOf b
+    pub is-whole : (t u : Bool) (x y : ℕ) → t ≡ headerFits b → not t ≡ false → u ≡ padsFit b logs slots → not u ≡ false → n ≤ slots → count ≡ slots - n → lack ≤ count → x ≡ stockOf b .count → x ≡ count → y ≡ stockOf b .last → y ≡ last
+        → check.Whole count last others ≡ checkOf b g
     unfolding checkOf checked whole wholeImage stockFits
-    is-whole t u x y e p q r k z i j i′ j′ =
+    is-whole t u x y e p q r k z d i j i′ j′ =
         let w : whole b ≡ true =
         and-yes _ (and-yes _ (and-yes _ (sym e ∙ not-false t p) ∙ (sym (q ∙ pads-as) ∙ not-false u r))
-        ∙ (and-yes _ (and-yes _ (f .0) ∙ h .0)
-        ∙ eq-eqb (length (meets (readTable b))) (length (readTable b .slots)) (total ∙ omega (arith, len b logs slots c))))
+        ∙ (and-yes _ (and-yes _ (and-yes _ (f .0) ∙ h .0)
+        ∙ eq-eqb (length (meets (readTable b))) (length (readTable b .slots)) (total ∙ omega (arith, len b logs slots c)))
+        ∙ le-leb (lackAll (readTable b)) (length (freeChain (readTable b))) (omega (arith, f .1, h .2))))
         ∙ (and-yes _ (eq-eqb (stockOf b .count) (length (freeChain (readTable b))) (sym i ∙ j ∙ sym (f .1))) ∙ eq-eqb (stockOf b .last) (joint (readTable b)) (sym i′ ∙ j′ ∙ sym (f .2))) in
-        sym (ap (λ (x : Bool). checked x (freeChain (readTable b))) w ∙ ap₂ check.Whole (f .1) (f .2))
+        sym (ap (λ (x : Bool). checked x (freeChain (readTable b)) (lackBut (readTable b) g)) w ∙ found (f .1) (f .2) (h .3))
+      where
+        found : {n n′ l l′ o o′ : ℕ} → n ≡ n′ → l ≡ l′ → o ≡ o′ → check.Whole n l o ≡ check.Whole n′ l′ o′
+        found e d k = cc
 
 -- the number of what the check finds
 abbrev pub checkNumber : Check → ℕ
 checkNumber check.Torn = 1
-checkNumber (check.Whole free last) = 0
+checkNumber (check.Whole free last others) = 0
 
-of-test : (t : Bool) (c : List ℕ) → checkNumber (checked t c) ≡ answerOf (firstFault (fault 1 (not t) ∷ []))
+of-test : (t : Bool) (c : List ℕ) (o : ℕ) → checkNumber (checked t c o) ≡ answerOf (firstFault (fault 1 (not t) ∷ []))
 unfolding checked answerOf firstFault
-of-test true c = refl
-of-test false c = refl
+of-test true c o = refl
+of-test false c o = refl
 
-pub check-number : (b : List ℕ) → checkNumber (checkOf b) ≡ answerOf (wholeRefusal b)
+pub check-number : (b : List ℕ) (g : ℕ) → checkNumber (checkOf b g) ≡ answerOf (wholeRefusal b)
 unfolding checkOf wholeRefusal
-check-number b = of-test (whole b) (freeChain (readTable b))
+check-number b g = of-test (whole b) (freeChain (readTable b)) (lackBut (readTable b) g)

@@ -1,5 +1,5 @@
 -- The test `whole` and the conditions `Whole` agree, both ways.
-use Prim.Native.Nat.{ℕ, zero, suc, _+_, _≤_, _<_}
+use Prim.Native.Nat.{ℕ, zero, suc, _+_, _-_, _≤_, _<_}
 use mathlib.Core.Path.{_≡_, refl, sym, ap, ap₂, _∙_}
 use mathlib.Core.Logic.{_⊎_, inl, inr}
 use mathlib.Core.List.{List, [], _∷_}
@@ -16,17 +16,19 @@ use Rattle.layout.specs.Layout.{mark, zeroOffset, padOffset, logsOf, slotsOf, t
 use Rattle.layout.proofs.TableLaws.{length-slots}
 use Rattle.table.specs.Chains.{reaches, chain, lastOf, positionsOf}
 use Rattle.table.specs.Free.{freeChain}
-use Rattle.table.specs.WholeImage.{all, freeOk, fresh, risingFrom, started, rowOk, rowsOk, heldBy, meets, wholeImage}
+use Rattle.table.specs.Reserve.{lackFrom, lackBut, lackAll}
+use Rattle.table.specs.WholeImage.{all, freeOk, fresh, risingFrom, started, rowOk, rowsOk, heldBy, meets, linked, wholeImage}
 use Rattle.layout.specs.Tests.{blank}
 use Rattle.table.specs.Whole.{whole, stockFits}
 use Rattle.layout.specs.Tests.{constantsFit, headerFits, allBelow, padsFit}
-use Rattle.table.specs.Conditions.{Blank, Each, Rising, Fresh, Started, Rows, totalOf, Whole}
+use Rattle.table.specs.Conditions.{Blank, Each, Rising, Fresh, Started, Rows, totalOf, lackWith, Whole}
 use Rattle.layout.specs.Fits.{Range}
 use Rattle.layout.proofs.TestLaws.{and-yes, and-split}
 use Rattle.table.proofs.WalkLaws.{chain-none}
 use Rattle.layout.proofs.HeaderLaws.{in-range, range-in, header-parts}
 use Rattle.table.proofs.CheckLaws.{length-meets}
 use Rattle.table.proofs.LinkLaws.{links-reach, reach-links}
+use Rattle.table.proofs.ReserveLaws.{lack-in}
 
 -- blank slots
 
@@ -133,24 +135,27 @@ module _ (slots : List Slot) (g : ℕ) (r : Row) where
 
 -- all rows
 
-rows-conditions : (slots : List Slot) (g : ℕ) (rs : List Row) → rowsOk slots g rs ≡ true → (cs : List (List ℕ)) × Rows slots g rs cs × (totalOf cs ≡ length (heldBy slots g rs))
-unfolding rowsOk heldBy totalOf
-rows-conditions slots g [] e = ([], tt, refl)
-rows-conditions slots g (r ∷ rs) e =
+-- top is no log's number from g on
+rows-conditions : (slots : List Slot) (top g : ℕ) (rs : List Row) → g + length rs ≤ top → rowsOk slots g rs ≡ true
+    → (cs : List (List ℕ)) × Rows slots g rs cs × (totalOf cs ≡ length (heldBy slots g rs)) × (lackWith rs cs ≡ lackFrom slots top g rs)
+unfolding rowsOk heldBy totalOf lackWith lackFrom
+rows-conditions slots top g [] l e = ([], tt, refl, refl)
+rows-conditions slots top g (r ∷ rs) l e =
     let t = and-split (rowOk slots g r) (rowsOk slots (suc g) rs) e in
-    let k = rows-conditions slots (suc g) rs (t .1) in
+    let k = rows-conditions slots top (suc g) rs (omega arith) (t .1) in
     let c : List ℕ = chain slots (suc g) (r .first) in
-    (c ∷ k .0, (row-conditions slots g r (t .0), k .1), ap (λ (n : ℕ). length c + n) (k .2) ∙ sym (length-append c (heldBy slots (suc g) rs)))
+    (c ∷ k .0, (row-conditions slots g r (t .0), k .1), ap (λ (n : ℕ). length c + n) (k .2) ∙ sym (length-append c (heldBy slots (suc g) rs)), ap₂ _+_ (sym (lack-in slots top g r (λ e. omega arith))) (k .3))
 
-rows-test : (slots : List Slot) (g : ℕ) (rs : List Row) (cs : List (List ℕ)) → Rows slots g rs cs → totalOf cs ≤ length slots → (rowsOk slots g rs ≡ true) × (length (heldBy slots g rs) ≡ totalOf cs)
-unfolding rowsOk heldBy totalOf
-rows-test slots g [] [] h l = (refl, refl)
-rows-test slots g [] (c ∷ cs) h l = absurd h
-rows-test slots g (r ∷ rs) [] h l = absurd h
-rows-test slots g (r ∷ rs) (c ∷ cs) h l =
-    let k = rows-test slots (suc g) rs cs (h .1) (omega arith) in
+rows-test : (slots : List Slot) (top g : ℕ) (rs : List Row) (cs : List (List ℕ)) → g + length rs ≤ top → Rows slots g rs cs → totalOf cs ≤ length slots
+    → (rowsOk slots g rs ≡ true) × (length (heldBy slots g rs) ≡ totalOf cs) × (lackFrom slots top g rs ≡ lackWith rs cs)
+unfolding rowsOk heldBy totalOf lackWith lackFrom
+rows-test slots top g [] [] q h l = (refl, refl, refl)
+rows-test slots top g [] (c ∷ cs) q h l = absurd h
+rows-test slots top g (r ∷ rs) [] q h l = absurd h
+rows-test slots top g (r ∷ rs) (c ∷ cs) q h l =
+    let k = rows-test slots top (suc g) rs cs (omega arith) (h .1) (omega arith) in
     let t = row-test slots g r c (omega arith) (h .0) in
-    (and-yes _ (t .0) ∙ k .0, length-append (chain slots (suc g) (r .first)) (heldBy slots (suc g) rs) ∙ ap₂ _+_ (ap length (t .1)) (k .1))
+    (and-yes _ (t .0) ∙ k .0, length-append (chain slots (suc g) (r .first)) (heldBy slots (suc g) rs) ∙ ap₂ _+_ (ap length (t .1)) (k .1), ap₂ _+_ (lack-in slots top g r (λ e. omega arith) ∙ ap (λ (d : List ℕ). r .reserve - length d) (t .1)) (k .2))
 
 -- zero bytes of slots
 
@@ -189,7 +194,7 @@ header-test b e r l = and-yes _ (and-yes _ e ∙ range-in (logsOf b) (slotsOf b)
 -- the test tells the conditions
 
 pub whole-conditions : (b : List ℕ) → whole b ≡ true → Whole b
-unfolding whole wholeImage freeOk stockFits
+unfolding whole wholeImage freeOk stockFits lackAll lackBut
 whole-conditions b e =
     let m : Image = readTable b in
     let a = and-split (headerFits b && padsFit b (logsOf b) (slotsOf b) && wholeImage m) (stockFits b) e in
@@ -198,10 +203,11 @@ whole-conditions b e =
     let t = and-split (headerFits b) (padsFit b (logsOf b) (slotsOf b)) (s .0) in
     let p = header-parts b (t .0) in
     let k = constants-conditions b (p .0) in
-    let u = and-split (freeOk m && rowsOk (m .slots) 0 (m .rows)) (eqb (length (meets m)) (length (m .slots))) (s .1) in
+    let n = and-split (linked m) (leb (lackAll m) (length (freeChain m))) (s .1) in
+    let u = and-split (freeOk m && rowsOk (m .slots) 0 (m .rows)) (eqb (length (meets m)) (length (m .slots))) (n .0) in
     let v = and-split (freeOk m) (rowsOk (m .slots) 0 (m .rows)) (u .0) in
     let f = and-split (reaches (m .slots) 0 (m .free)) (all (λ (s : ℕ). blank (slotAt (m .slots) s)) (chain (m .slots) 0 (m .free))) (v .0) in
-    let r = rows-conditions (m .slots) 0 (m .rows) (v .1) in
+    let r = rows-conditions (m .slots) (length (m .rows)) 0 (m .rows) (omega arith) (v .1) in
     record {
       sized = p .2;
       marked = k .0;
@@ -216,19 +222,21 @@ whole-conditions b e =
       chains = r .0;
       rows = r .1;
       total = ap (λ (n : ℕ). length (freeChain m) + n) (r .2) ∙ sym (length-meets m) ∙ eqb-true (length (meets m)) (length (m .slots)) (u .1) ∙ length-slots b;
+      enough = omega (arith, r .3, leb-true (lackAll m) (length (freeChain m)) (n .1));
     }
 
 -- and the conditions the test
 
 pub conditions-whole : (b : List ℕ) → Whole b → whole b ≡ true
-unfolding whole wholeImage freeOk stockFits
+unfolding whole wholeImage freeOk stockFits lackAll lackBut
 conditions-whole b w =
     let m : Image = readTable b in
     let n : length (m .slots) ≡ slotsOf b = length-slots b in
     let t : length (w .freed) + totalOf (w .chains) ≡ slotsOf b = w .total in
     let f = links-reach (m .slots) 0 (m .free) (w .freed) (w .free) (omega arith) in
-    let r = rows-test (m .slots) 0 (m .rows) (w .chains) (w .rows) (omega arith) in
+    let r = rows-test (m .slots) (length (m .rows)) 0 (m .rows) (w .chains) (omega arith) (w .rows) (omega arith) in
     and-yes _ (and-yes _ (and-yes _ (header-test b (constants-test b (w .marked) (w .zero)) (w .counts) (w .sized)) ∙ pads-test b (logsOf b) (slotsOf b) (w .pads))
-    ∙ (and-yes _ (and-yes _ (and-yes _ (f .0) ∙ (ap (all (λ (s : ℕ). blank (slotAt (m .slots) s))) (f .1) ∙ each-all (m .slots) (w .freed) (w .blank))) ∙ r .0)
-    ∙ eq-eqb (length (meets m)) (length (m .slots)) (length-meets m ∙ ap₂ _+_ (ap length (f .1)) (r .1) ∙ t ∙ sym n)))
+    ∙ (and-yes _ (and-yes _ (and-yes _ (and-yes _ (f .0) ∙ (ap (all (λ (s : ℕ). blank (slotAt (m .slots) s))) (f .1) ∙ each-all (m .slots) (w .freed) (w .blank))) ∙ r .0)
+    ∙ eq-eqb (length (meets m)) (length (m .slots)) (length-meets m ∙ ap₂ _+_ (ap length (f .1)) (r .1) ∙ t ∙ sym n))
+    ∙ le-leb (lackAll m) (length (freeChain m)) (omega (arith, r .2, w .enough, ap length (f .1)))))
     ∙ (and-yes _ (eq-eqb (stockOf b .count) (length (freeChain m)) (w .number ∙ sym (ap length (f .1)))) ∙ eq-eqb (stockOf b .last) (lastOf (freeChain m)) (w .last ∙ sym (ap lastOf (f .1))))

@@ -1,14 +1,14 @@
 -- Laws for code that writes elements of n bytes one after the other, and the parts of a formatted table.
-use Prim.Native.Nat.{ℕ, zero, suc, _+_, _-_, _*_, _≤_, _<_}
+use Prim.Native.Nat.{ℕ, zero, suc, _+_, _-_, _*_, _^_, _≤_, _<_}
 use mathlib.Core.Path.{_≡_, refl, sym, ap, ap₂, _∙_}
-use mathlib.Core.List.{List, [], _∷_, _++_, append-assoc, append-nil}
+use mathlib.Core.List.{List, [], _∷_, _++_, map, append-assoc, append-nil}
 use mathlib.Core.Bool.{Bool, cond}
 use native.Mathlib.Nat.{mul-le-mul-left}
 use native.Mathlib.Numerals.{add-one}
 use native.Mathlib.Omega.{arith}
 use borrow.Author.Tests.{lt-ltb, le-ltb}
 use borrow.Rule.Slice.PartMut.{putMid}
-use lib.ListN.{length, take, getD, replicate, length-append, length-take, length-replicate, getD-replicate}
+use lib.ListN.{length, take, getD, length-append, length-take, length-map, List·getD-map}
 use lib.Seq.{take-suc, take-all}
 use Rattle.octets.specs.Octets.{splice}
 use Rattle.octets.proofs.Parts.{length-splice, put-back, splice-nil, splice-then, splice-whole}
@@ -20,7 +20,9 @@ use Rattle.layout.proofs.ListLaws.{length-flat, length-tabulate, getD-tabulate,
 use Rattle.layout.proofs.FieldLaws.{length-rowBytes, length-headerBytes}
 use Rattle.octets.proofs.Zeros.{length-zeros}
 use Rattle.table.specs.Free.{queuedNext, queue}
+use Rattle.table.specs.Reserve.{sum}
 use Rattle.table.specs.Format.{formatted}
+use Rattle.table.proofs.SumLaws.{at-most-sum}
 
 -- elements of n bytes each, one after the other over o
 module _ {A : Type 0} (f : A → List ℕ) (n : ℕ) (d : A) (l : List A) (sizes : (i : ℕ) → length (f (getD l i d)) ≡ n) (default : length (f d) ≡ n) where
@@ -91,30 +93,35 @@ pub queue-sizes : (slots i : ℕ) → length (slotBytes (getD (queue slots) i (f
 unfolding queue
 queue-sizes slots = every-tabulate (λ (s : Slot). length (slotBytes s) ≡ slotSize) slots (λ i. freeSlot (queuedNext slots (suc i))) (freeSlot 0) (length-free 0) (λ i h. length-free (queuedNext slots (suc i)))
 
-pub fresh-sizes : (logs i : ℕ) → length (rowBytes (getD (replicate logs freshRow) i freshRow)) ≡ rowSize
-fresh-sizes logs i = length-rowBytes (getD (replicate logs freshRow) i freshRow)
+-- the rows, one for each reserve
+
+fresh-sizes : (reserves : List ℕ) (i : ℕ) → length (rowBytes (getD (map freshRow reserves) i (freshRow 0))) ≡ rowSize
+fresh-sizes reserves i = length-rowBytes (getD (map freshRow reserves) i (freshRow 0))
+
+-- a reserve that the slots cover fits its field
+pub reserve-fits : (reserves : List ℕ) (g : ℕ) → sum reserves ≤ 800 → getD reserves g 0 < 256 ^ 2
+reserve-fits reserves g h = omega (arith, at-most-sum reserves g)
 
 -- the two loops
 
-pub rows-turn : (logs : ℕ) (o b y : List ℕ) (g : ℕ) → g < logs → length o ≡ rowSize * logs → b ≡ splice o 0 (flat rowBytes (take g (replicate logs freshRow))) → y ≡ rowBytes freshRow
-    → putMid (rowSize * g) (rowSize * g + rowSize - rowSize * g) b y ≡ splice o 0 (flat rowBytes (take (g + 1) (replicate logs freshRow)))
-rows-turn logs o b y g h z w e =
-    let l : length (replicate logs freshRow) ≡ logs = length-replicate logs freshRow in
-    fill-turn rowBytes rowSize freshRow (replicate logs freshRow) (fresh-sizes logs) (length-rowBytes freshRow) o b y g (omega arith) (z ∙ ap (λ (k : ℕ). rowSize * k) (sym l)) w
-    (e ∙ ap rowBytes (sym (getD-replicate logs g freshRow freshRow h)))
+module _ (reserves o b : List ℕ) (g : ℕ) (z : length o ≡ rowSize * length reserves) where
+  size : length o ≡ rowSize * length (map freshRow reserves)
+  size = z ∙ ap (λ (k : ℕ). rowSize * k) (sym (length-map reserves freshRow))
 
-pub rows-length : (logs : ℕ) (o b : List ℕ) (g : ℕ) → g < logs → length o ≡ rowSize * logs → b ≡ splice o 0 (flat rowBytes (take (g + 1) (replicate logs freshRow))) → length b ≡ length o
-rows-length logs o b g h z w =
-    let l : length (replicate logs freshRow) ≡ logs = length-replicate logs freshRow in
-    fill-length rowBytes rowSize freshRow (replicate logs freshRow) (fresh-sizes logs) (length-rowBytes freshRow) o b (g + 1) (omega arith) (z ∙ ap (λ (k : ℕ). rowSize * k) (sym l)) w
+  pub rows-turn : (y : List ℕ) → g < length reserves → b ≡ splice o 0 (flat rowBytes (take g (map freshRow reserves))) → y ≡ rowBytes (freshRow (getD reserves g 0))
+      → putMid (rowSize * g) (rowSize * g + rowSize - rowSize * g) b y ≡ splice o 0 (flat rowBytes (take (g + 1) (map freshRow reserves)))
+  rows-turn y h w e =
+      fill-turn rowBytes rowSize (freshRow 0) (map freshRow reserves) (fresh-sizes reserves) (length-rowBytes (freshRow 0)) o b y g (omega (arith, length-map reserves freshRow)) size w
+      (e ∙ ap rowBytes (sym (List·getD-map freshRow reserves g 0)))
 
-pub rows-done : (logs : ℕ) (o b : List ℕ) (g : ℕ) → logs ≤ g → g ≤ logs → length o ≡ rowSize * logs → b ≡ splice o 0 (flat rowBytes (take g (replicate logs freshRow))) → b ≡ flat rowBytes (replicate logs freshRow)
-rows-done logs o b g h k z w =
-    let l : length (replicate logs freshRow) ≡ logs = length-replicate logs freshRow in
-    fill-done rowBytes rowSize freshRow (replicate logs freshRow) (fresh-sizes logs) (length-rowBytes freshRow) o b g (omega arith) (omega arith) (z ∙ ap (λ (k : ℕ). rowSize * k) (sym l)) w
+  pub rows-length : g < length reserves → b ≡ splice o 0 (flat rowBytes (take (g + 1) (map freshRow reserves))) → length b ≡ length o
+  rows-length h w = fill-length rowBytes rowSize (freshRow 0) (map freshRow reserves) (fresh-sizes reserves) (length-rowBytes (freshRow 0)) o b (g + 1) (omega (arith, length-map reserves freshRow)) size w
 
-pub rows-none : (logs : ℕ) (o : List ℕ) → o ≡ splice o 0 (flat rowBytes (take 0 (replicate logs freshRow)))
-rows-none logs o = fill-none rowBytes rowSize freshRow (replicate logs freshRow) (fresh-sizes logs) (length-rowBytes freshRow) o
+  pub rows-done : length reserves ≤ g → g ≤ length reserves → b ≡ splice o 0 (flat rowBytes (take g (map freshRow reserves))) → b ≡ flat rowBytes (map freshRow reserves)
+  rows-done h k w = fill-done rowBytes rowSize (freshRow 0) (map freshRow reserves) (fresh-sizes reserves) (length-rowBytes (freshRow 0)) o b g (omega (arith, length-map reserves freshRow)) (omega (arith, length-map reserves freshRow)) size w
+
+pub rows-none : (reserves o : List ℕ) → o ≡ splice o 0 (flat rowBytes (take 0 (map freshRow reserves)))
+rows-none reserves o = fill-none rowBytes rowSize (freshRow 0) (map freshRow reserves) (fresh-sizes reserves) (length-rowBytes (freshRow 0)) o
 
 pub slots-turn : (slots : ℕ) (o b y : List ℕ) (i next : ℕ) → i < slots → length o ≡ slotSize * slots → b ≡ splice o 0 (flat slotBytes (take i (queue slots))) → next ≡ queuedNext slots (i + 1) → y ≡ slotBytes (freeSlot next)
     → putMid (slotSize * i) (slotSize * i + slotSize - slotSize * i) b y ≡ splice o 0 (flat slotBytes (take (i + 1) (queue slots)))
@@ -146,18 +153,20 @@ unfolding queuedNext
 none-queued slots s h = sym (ap (λ (t : Bool). cond t (suc s) 0) (le-ltb s slots h))
 
 -- header, rows and slots, written one after the other
-pub three : (o h r s : List ℕ) (logs slots keeper : ℕ) (key : List ℕ) → length o ≡ tableSize logs slots → length key ≡ 32
-    → h ≡ headerBytes logs slots keeper 1 (stocked slots slots) key → r ≡ flat rowBytes (replicate logs freshRow) → s ≡ flat slotBytes (queue slots)
-    → putMid (rowOffset logs) (tableSize logs slots - rowOffset logs) (putMid headerSize (rowOffset logs - headerSize) (putMid 0 headerSize o h) r) s ≡ writeWith (stocked slots slots) (formatted logs slots keeper key)
+pub three : (o h r s : List ℕ) (slots keeper : ℕ) (key reserves : List ℕ) → length o ≡ tableSize (length reserves) slots → length key ≡ 32
+    → h ≡ headerBytes (length reserves) slots keeper 1 (stocked slots slots) key → r ≡ flat rowBytes (map freshRow reserves) → s ≡ flat slotBytes (queue slots)
+    → putMid (rowOffset (length reserves)) (tableSize (length reserves) slots - rowOffset (length reserves)) (putMid headerSize (rowOffset (length reserves) - headerSize) (putMid 0 headerSize o h) r) s
+    ≡ writeWith (stocked slots slots) (formatted slots keeper key reserves)
 unfolding writeWith formatted
-three o h r s logs slots keeper key e k eh er es =
+three o h r s slots keeper key reserves e k eh er es =
+    let logs : ℕ = length reserves in
     let H : List ℕ = headerBytes logs slots keeper 1 (stocked slots slots) key in
-    let R : List ℕ = flat rowBytes (replicate logs freshRow) in
+    let R : List ℕ = flat rowBytes (map freshRow reserves) in
     let S : List ℕ = flat slotBytes (queue slots) in
     let o₁ : List ℕ = putMid 0 headerSize o h in
     let o₂ : List ℕ = putMid headerSize (rowOffset logs - headerSize) o₁ r in
     let lh : length H ≡ headerSize = length-headerBytes logs slots keeper 1 (stocked slots slots) key k in
-    let lr : length R ≡ rowSize * logs = length-flat rowBytes rowSize freshRow (replicate logs freshRow) (fresh-sizes logs) ∙ ap (λ (n : ℕ). rowSize * n) (length-replicate logs freshRow) in
+    let lr : length R ≡ rowSize * logs = length-flat rowBytes rowSize (freshRow 0) (map freshRow reserves) (fresh-sizes reserves) ∙ ap (λ (n : ℕ). rowSize * n) (length-map reserves freshRow) in
     let ls : length S ≡ slotSize * slots = length-flat slotBytes slotSize (freeSlot 0) (queue slots) (queue-sizes slots) ∙ ap (λ (n : ℕ). slotSize * n) (length-queue slots) in
     let w₁ : o₁ ≡ splice o 0 H = put-back o h H 0 headerSize eh lh in
     let w₂ : o₂ ≡ splice o 0 (H ++ R) = splice-then o H R headerSize w₁ lh (omega arith) (put-back o₁ r R headerSize (rowSize * logs) er lr) in
@@ -167,4 +176,4 @@ three o h r s logs slots keeper key e k eh er es =
     w₃
     ∙ splice-whole o ((H ++ R) ++ S) (length-append (H ++ R) S ∙ omega arith)
     ∙ append-assoc H R S
-    ∙ ap₂ (λ (g n : ℕ). headerBytes g n keeper 1 (stocked slots slots) key ++ (R ++ S)) (sym (length-replicate logs freshRow)) (sym (length-queue slots))
+    ∙ ap₂ (λ (g n : ℕ). headerBytes g n keeper 1 (stocked slots slots) key ++ (R ++ S)) (sym (length-map reserves freshRow)) (sym (length-queue slots))

@@ -4,9 +4,11 @@ pub mod WalkedLaws
 pub mod TurnLaws
 pub mod HeldLaws
 pub mod CheckLaws
+pub mod SumLaws
 pub mod FillLaws
 pub mod FormatLaws
 pub mod LinkLaws
+pub mod ReserveLaws
 pub mod ConditionLaws
 pub mod WholeLaws
 pub mod FormattedLaws

@@ -15,6 +15,7 @@ use Rattle.layout.proofs.TableLaws.{logs-written, slots-written, read-with, sto
 use Rattle.table.specs.declared.Check.the-variants as check
 use Rattle.table.specs.Chains.{lastOf}
 use Rattle.table.specs.Free.{freeChain, joint, stockIn, writeTable}
+use Rattle.table.specs.Reserve.{lackBut}
 use Rattle.table.specs.WholeImage.{wholeImage}
 use Rattle.table.specs.Whole.{whole, stockFits, checked, checkOf}
 use Rattle.layout.specs.Tests.{headerFits, padsFit}
@@ -99,20 +100,21 @@ written-whole m h r =
 
 -- what the check's answer tells
 
-checked-torn : (t : Bool) (c : List ℕ) → check.Torn ≡ checked t c → t ≡ false
+checked-torn : (t : Bool) (c : List ℕ) (o : ℕ) → check.Torn ≡ checked t c o → t ≡ false
 unfolding checked
-checked-torn true c e = absurd (let z : _≡_ {A = ℕ} 0 1 = cc in omega arith)
-checked-torn false c e = refl
+checked-torn true c o e = absurd (let z : _≡_ {A = ℕ} 0 1 = cc in omega arith)
+checked-torn false c o e = refl
 
-checked-whole : (t : Bool) (c : List ℕ) (n last : ℕ) → check.Whole n last ≡ checked t c → (t ≡ true) × (length c ≡ n) × (lastOf c ≡ last)
+checked-whole : (t : Bool) (c : List ℕ) (o n last others : ℕ) → check.Whole n last others ≡ checked t c o → (t ≡ true) × (length c ≡ n) × (lastOf c ≡ last) × (o ≡ others)
 unfolding checked
-checked-whole true c n last e = (refl, cc, cc)
-checked-whole false c n last e = absurd (let z : _≡_ {A = ℕ} 0 1 = cc in omega arith)
+checked-whole true c o n last others e = (refl, cc, cc, cc)
+checked-whole false c o n last others e = absurd (let z : _≡_ {A = ℕ} 0 1 = cc in omega arith)
 
-pub check-torn : (b : List ℕ) → check.Torn ≡ checkOf b → whole b ≡ false
+pub check-torn : (b : List ℕ) (g : ℕ) → check.Torn ≡ checkOf b g → whole b ≡ false
 unfolding checkOf
-check-torn b e = checked-torn (whole b) (freeChain (readTable b)) e
+check-torn b g e = checked-torn (whole b) (freeChain (readTable b)) (lackBut (readTable b) g) e
 
-pub check-whole : (b : List ℕ) (n last : ℕ) → check.Whole n last ≡ checkOf b → (whole b ≡ true) × (length (freeChain (readTable b)) ≡ n) × (lastOf (freeChain (readTable b)) ≡ last)
+pub check-whole : (b : List ℕ) (g n last others : ℕ) → check.Whole n last others ≡ checkOf b g
+    → (whole b ≡ true) × (length (freeChain (readTable b)) ≡ n) × (lastOf (freeChain (readTable b)) ≡ last) × (lackBut (readTable b) g ≡ others)
 unfolding checkOf
-check-whole b n last e = checked-whole (whole b) (freeChain (readTable b)) n last e
+check-whole b g n last others e = checked-whole (whole b) (freeChain (readTable b)) (lackBut (readTable b) g) n last others e

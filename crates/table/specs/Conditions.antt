@@ -1,5 +1,5 @@
--- Document 01, "A table is whole if ..", as conditions: a field for each clause of the sentence, and those of requests [1] and [4]. `proofs/ConditionLaws` shows that they hold exactly when the test `whole` does.
-use Prim.Native.Nat.{ℕ, suc, _+_, _≤_, _<_}
+-- Document 01, "A table is whole if ..", as conditions: a field for each clause of the sentence, and those of requests [1], [4] and [5]. `proofs/ConditionLaws` shows that they hold exactly when the test `whole` does.
+use Prim.Native.Nat.{ℕ, suc, _+_, _-_, _≤_, _<_}
 use mathlib.Core.Path.{_≡_}
 use mathlib.Core.Logic.{_⊎_}
 use mathlib.Core.List.{List, [], _∷_}
@@ -61,6 +61,12 @@ unfoldable pub totalOf : List (List ℕ) → ℕ
 totalOf [] = 0
 totalOf (c ∷ cs) = length c + totalOf cs
 
+-- what the rows lack of their reserves, given their chains; a chain longer than its row's reserve makes up for no other
+unfoldable pub lackWith : List Row → List (List ℕ) → ℕ
+lackWith [] cs = 0
+lackWith (r ∷ rs) [] = 0
+lackWith (r ∷ rs) (c ∷ cs) = (r .reserve - length c) + lackWith rs cs
+
 pub record Whole (b : List ℕ) : Type 0 where
   -- "the length"
   pub sized : length b ≡ tableSize (logsOf b) (slotsOf b)
@@ -84,3 +90,5 @@ pub record Whole (b : List ℕ) : Type 0 where
   pub rows : Rows (readTable b .slots) 0 (readTable b .rows) chains
   -- "chain lengths together make S"
   pub total : length freed + totalOf chains ≡ slotsOf b
+  -- request [5]: "A table with fewer free slots than its logs together lack of their reserves is torn."
+  pub enough : lackWith (readTable b .rows) chains ≤ length freed

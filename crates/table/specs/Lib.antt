@@ -2,6 +2,7 @@ pub mod Chains
 pub mod Conditions
 pub mod Format
 pub mod Free
+pub mod Reserve
 pub mod Screen
 pub mod Walks
 pub mod Whole

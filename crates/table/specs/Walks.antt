@@ -8,19 +8,24 @@ use Rattle.table.specs.declared.Walk.the-variants.{Met, Broken}
 use Rattle.table.specs.declared.Held.{Held}
 use Rattle.table.specs.declared.Held.the-variants as held
 use Rattle.layout.specs.declared.Row.{Row}
-use Rattle.layout.specs.Image.{Slot}
+use Rattle.layout.specs.Image.{Slot, Image}
 use Rattle.table.specs.Chains.{lastOf, reaches, chain, positionsOf}
-use Rattle.table.specs.WholeImage.{rowOk, started}
+use Rattle.table.specs.Reserve.{lackBut, lackAll}
+use Rattle.table.specs.WholeImage.{rowOk, rowsOk, heldBy, started}
 
 -- one chain
 abbrev pub walkOf : Bool → List ℕ → Walk
 walkOf true c = Met (length c) (lastOf c)
 walkOf false c = Broken
 
--- all logs' chains
-abbrev pub heldOf : Bool → List ℕ → Held
-heldOf true c = held.Slots (length c)
-heldOf false c = held.Broken
+-- all logs' chains, what the logs lack of their reserves, and what all but one lack
+abbrev pub heldOf : Bool → List ℕ → ℕ → ℕ → Held
+heldOf true c lack others = held.Slots (length c) lack others
+heldOf false c lack others = held.Broken
+
+-- the same of a table, for a call on log g
+unfoldable pub heldWalk : Image → ℕ → Held
+heldWalk m g = heldOf (rowsOk (m .slots) 0 (m .rows)) (heldBy (m .slots) 0 (m .rows)) (lackAll m) (lackBut m g)
 
 -- the chain of log g, with its row
 abbrev pub rowWalk : List Slot → ℕ → Row → Walk

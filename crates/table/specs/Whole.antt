@@ -12,6 +12,7 @@ use Rattle.table.specs.declared.Check.{Check}
 use Rattle.table.specs.declared.Check.the-variants as variants
 use Rattle.table.specs.Chains.{lastOf}
 use Rattle.table.specs.Free.{freeChain, joint}
+use Rattle.table.specs.Reserve.{lackBut}
 use Rattle.table.specs.WholeImage.{wholeImage}
 
 -- request [1]: "A table whose number differs is torn."; request [4], of the last free slot: "A table that names another is torn."
@@ -26,10 +27,11 @@ whole b = headerFits b && padsFit b (logsOf b) (slotsOf b) && wholeImage (readTa
 unfoldable pub wholeRefusal : List ℕ → Option ℕ
 wholeRefusal b = firstFault (fault 1 (not (whole b)) ∷ [])
 
--- what the check inside finds: torn; or whole, with the number of free slots and the last of the free chain
-unfoldable pub checked : Bool → List ℕ → Check
-checked true c = variants.Whole (length c) (lastOf c)
-checked false c = variants.Torn
+-- what the check inside finds: torn; or whole, with the number of free slots, the last of the free chain, and what the other logs lack of their reserves
+unfoldable pub checked : Bool → List ℕ → ℕ → Check
+checked true c others = variants.Whole (length c) (lastOf c) others
+checked false c others = variants.Torn
 
-unfoldable pub checkOf : List ℕ → Check
-checkOf b = checked (whole b) (freeChain (readTable b))
+-- the check for a call on log g
+unfoldable pub checkOf : List ℕ → ℕ → Check
+checkOf b g = checked (whole b) (freeChain (readTable b)) (lackBut (readTable b) g)

@@ -1,4 +1,4 @@
--- Document 01, "A table is whole if ..", as far as it speaks of rows, slots and chains: a test that a reader can compute.
+-- Document 01, "A table is whole if ..", as far as it speaks of rows, slots and chains, and request [5]'s clause: a test that a reader can compute.
 use Prim.Native.Nat.{ℕ, suc}
 use mathlib.Core.List.{List, [], _∷_, _++_}
 use mathlib.Core.Bool.{Bool, true, _&&_, _||_}
@@ -8,6 +8,8 @@ use Rattle.layout.specs.declared.Row.{Row}
 use Rattle.layout.specs.Image.{Slot, Image, slotAt}
 use Rattle.layout.specs.Tests.{blank}
 use Rattle.table.specs.Chains.{reaches, chain, lastOf, positionsOf}
+use Rattle.table.specs.Free.{freeChain}
+use Rattle.table.specs.Reserve.{lackAll}
 
 unfoldable pub all {ℓ} : {A : Type ℓ} → (A → Bool) → List A → Bool
 all p [] = true
@@ -54,5 +56,6 @@ meets m = chain (m .slots) 0 (m .free) ++ heldBy (m .slots) 0 (m .rows)
 abbrev pub linked : Image → Bool
 linked m = freeOk m && rowsOk (m .slots) 0 (m .rows) && eqb (length (meets m)) (length (m .slots))
 
+-- request [5]: "A table with fewer free slots than its logs together lack of their reserves is torn."
 unfoldable pub wholeImage : Image → Bool
-wholeImage m = linked m
+wholeImage m = linked m && leb (lackAll m) (length (freeChain m))

@@ -1,9 +1,14 @@
 // Whole tables, the free slots, what format writes (document 01, "Table bytes") and what the status screen reads. No code.
 
-// What the check finds: a torn table; or a whole one, how many slots are free, and the last of the free chain (0 if none).
+// What the check finds: a torn table; or a whole one, how many slots are free, the last of the free chain (0 if none), and
+// what the logs lack of their reserves, but for the log that is called.
 pub enum Check {
     Torn,
-    Whole { free: usize, last: usize },
+    Whole {
+        free: usize,
+        last: usize,
+        others: usize,
+    },
 }
 
 // What a walk along a chain finds: that it is broken; or how many slots it met, and the last.
@@ -12,10 +17,15 @@ pub enum Walk {
     Met { count: usize, last: usize },
 }
 
-// How many slots all logs hold, or that a chain is broken.
+// How many slots all logs hold, what they lack of their reserves, and what all but one of them lack; or that a chain is
+// broken.
 pub enum Held {
     Broken,
-    Slots(usize),
+    Slots {
+        held: usize,
+        lack: usize,
+        others: usize,
+    },
 }
 
 // What the status screen reads: the number of free slots; or that the bytes are no header with the mark.

@@ -1,4 +1,5 @@
-// Whether a table is whole (document 01, "A table is whole if ..", and the number and last free slot of requests [1] and [4]).
+// Whether a table is whole (document 01, "A table is whole if ..", the number and last free slot of requests [1] and [4], and the
+// reserves of request [5]).
 mod walks;
 
 use crate::walks::free_walk;
@@ -19,9 +20,10 @@ ghost use Rattle.refusal.specs.Number.{outcomeNumber};
 ghost use Rattle.refusal.specs.Order.{answerOf};
 ghost use Rattle.table.specs.Whole.{checkOf, wholeRefusal};
 
-// Inner, for the calls on a table: whether the table is whole; and if so, how many slots are free, and the last of the free chain.
-pub fn check(table: &[u8]) -> Check
-    ensures { λ r. ⌜ r ≡ checkOf (now (table .entry)) ⌝ }
+// Inner, for the calls on a table: whether the table is whole; and if so, how many slots are free, the last of the free chain,
+// and what the logs other than the given one lack of their reserves. A log's number is compared as it is given.
+pub fn check(table: &[u8], log: u64) -> Check
+    ensures { λ r. ⌜ r ≡ checkOf (now (table .entry)) log ⌝ }
 {
     if !header_fits(table) {
         return Check::Torn;
@@ -34,7 +36,7 @@ pub fn check(table: &[u8]) -> Check
     let Walk::Met { count, last } = free_walk(table, logs, slots) else {
         return Check::Torn;
     };
-    let Held::Slots(held) = held_walk(table, logs, slots) else {
+    let Held::Slots { held, lack, others } = held_walk(table, logs, slots, log) else {
         return Check::Torn;
     };
     if slots < held {
@@ -43,21 +45,32 @@ pub fn check(table: &[u8]) -> Check
     if count != slots - held {
         return Check::Torn;
     }
+    if count < lack {
+        return Check::Torn;
+    }
     if count_of(table) != count {
         return Check::Torn;
     }
     if last_of(table) != last {
         return Check::Torn;
     }
-    Check::Whole { free: count, last }
+    Check::Whole {
+        free: count,
+        last,
+        others,
+    }
 }
 
 // The check of a table. Refused with 1: torn.
 pub fn is_whole(table: &[u8]) -> Outcome
     ensures { λ r. ⌜ outcomeNumber r ≡ answerOf (wholeRefusal (now (table .entry))) ⌝ }
 {
-    match check(table) {
+    match check(table, 0) {
         Check::Torn => Outcome::Refused(Refusal::Torn),
-        Check::Whole { free: _, last: _ } => Outcome::Done,
+        Check::Whole {
+            free: _,
+            last: _,
+            others: _,
+        } => Outcome::Done,
     }
 }

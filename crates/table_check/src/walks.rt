@@ -7,13 +7,14 @@ use layout_slots::link_at;
 use table::Held;
 use table::Walk;
 ghost use mathlib.Core.Path.{_≡_};
-ghost use Prim.Native.Nat.{_≤_, _<_};
-ghost use Rattle.layout.specs.Image.{rowAt};
+ghost use mathlib.Core.Bool.{cond};
+ghost use Prim.Native.Nat.{_-_, _≤_, _<_};
+ghost use lib.Dec.{eqb};
 ghost use Rattle.layout.specs.Layout.{readTable};
 ghost use Rattle.layout.specs.Fits.{Counted};
 ghost use Rattle.table.specs.Free.{freeChain};
-ghost use Rattle.table.specs.Walks.{walkOf, heldOf, rowWalk, startedWalk};
-ghost use Rattle.table.specs.WholeImage.{fresh, freeOk, rowsOk, heldBy};
+ghost use Rattle.table.specs.Walks.{walkOf, heldWalk, rowWalk, startedWalk};
+ghost use Rattle.table.specs.WholeImage.{fresh, freeOk};
 
 // Whether a row is a fresh log's.
 fn is_fresh(row: Row) -> bool
@@ -99,13 +100,12 @@ pub fn log_walk(table: &[u8], logs: usize, slots: usize, g: usize, row: Row) -> 
     Walk::Met { count: n, last }
 }
 
-// The chain of log g.
-pub fn row_walk(table: &[u8], logs: usize, slots: usize, g: usize) -> Walk
+// The chain of log g, whose row is given.
+pub fn row_walk(table: &[u8], logs: usize, slots: usize, g: usize, row: Row) -> Walk
     requires { ⌜ Counted (now table) logs slots ⌝ }
-    requires { ⌜ g < logs ⌝ }
-    ensures { λ r. ⌜ r ≡ rowWalk (readTable (now (table .entry)) .slots) g (rowAt (readTable (now (table .entry)) .rows) g) ⌝ }
+    requires { ⌜ g < 16 ⌝ }
+    ensures { λ r. ⌜ r ≡ rowWalk (readTable (now (table .entry)) .slots) g row ⌝ }
 {
-    let row = row_at(table, logs, slots, g);
     if is_fresh(row) {
         return Walk::Met { count: 0, last: 0 };
     }
@@ -118,19 +118,42 @@ pub fn row_walk(table: &[u8], logs: usize, slots: usize, g: usize) -> Walk
     log_walk(table, logs, slots, g, row)
 }
 
-// The chains of all logs.
-pub fn held_walk(table: &[u8], logs: usize, slots: usize) -> Held
-    requires { ⌜ Counted (now table) logs slots ⌝ }
-    ensures { λ r. ⌜ r ≡ heldOf (rowsOk (readTable (now (table .entry)) .slots) 0 (readTable (now (table .entry)) .rows)) (heldBy (readTable (now (table .entry)) .slots) 0 (readTable (now (table .entry)) .rows)) ⌝ }
+// What a log lacks of its reserve.
+fn lacking(reserve: usize, held: usize) -> usize
+    ensures { λ r. ⌜ r ≡ reserve - held ⌝ }
 {
-    let mut total = 0;
+    if held < reserve { reserve - held } else { 0 }
+}
+
+// What log g adds to the lack of all logs but one.
+fn unless_own(g: usize, log: u64, lack: usize) -> usize
+    ensures { λ r. ⌜ r ≡ cond (eqb g log) 0 lack ⌝ }
+{
+    if g as u64 == log {
+        return 0;
+    }
+    lack
+}
+
+// The chains of all logs, with what they lack of their reserves, and what all but the given log lack.
+pub fn held_walk(table: &[u8], logs: usize, slots: usize, log: u64) -> Held
+    requires { ⌜ Counted (now table) logs slots ⌝ }
+    ensures { λ r. ⌜ r ≡ heldWalk (readTable (now (table .entry))) log ⌝ }
+{
+    let mut held = 0;
+    let mut lack = 0;
+    let mut others = 0;
     let mut g = 0;
     while g < logs {
-        let Walk::Met { count, last: _ } = row_walk(table, logs, slots, g) else {
+        let row = row_at(table, logs, slots, g);
+        let Walk::Met { count, last: _ } = row_walk(table, logs, slots, g, row) else {
             return Held::Broken;
         };
-        total += count;
+        let short = lacking(row.reserve, count);
+        held += count;
+        lack += short;
+        others += unless_own(g, log, short);
         g += 1;
     }
-    Held::Slots(total)
+    Held::Slots { held, lack, others }
 }

@@ -11,30 +11,51 @@ use layout_slots::write_slot;
 use refusal::Refusal;
 use refusal::Worked;
 ghost use mathlib.Core.Path.{_≡_};
+ghost use mathlib.Core.List.{map};
 ghost use Prim.Native.Nat.{_*_, _≤_};
-ghost use lib.ListN.{length, replicate};
+ghost use lib.Dec.{leb};
+ghost use lib.ListN.{length};
 ghost use Rattle.refusal.specs.Order.{answerOf};
 ghost use Rattle.refusal.specs.Work.{workedNumber, workedBlocks};
 ghost use Rattle.layout.specs.Lists.{flat};
 ghost use Rattle.layout.specs.Image.{freshRow, freeSlot};
 ghost use Rattle.layout.specs.Layout.{rowSize, slotSize, tableSize, rowBytes, slotBytes};
 ghost use Rattle.table.specs.Free.{queuedNext, queue, writeTable};
+ghost use Rattle.table.specs.Reserve.{sum};
 ghost use Rattle.table.specs.Format.{formatted, formatRefusal, formatBytes};
 
-// Fresh rows over the rows' part of a table.
-fn fill_rows(part: &mut [u8], logs: usize)
-    requires { ⌜ logs ≤ 16 ⌝ }
-    requires { ⌜ length (now part) ≡ rowSize * logs ⌝ }
-    ensures { λ _. ⌜ now (part .exit) ≡ flat rowBytes (replicate logs freshRow) ⌝ }
+// Whether the reserves together do not pass the slots: each is taken from what is left of these, so nothing wraps.
+fn reserves_fit(reserves: &[u64], slots: u64) -> bool
+    ensures { λ r. ⌜ r ≡ leb (sum (now (reserves .entry))) slots ⌝ }
+{
+    let mut left = slots;
+    let mut i = 0;
+    while i < reserves.len() {
+        let reserve = reserves[i];
+        if left < reserve {
+            return false;
+        }
+        left -= reserve;
+        i += 1;
+    }
+    true
+}
+
+// Fresh rows, one for each reserve, over the rows' part of a table.
+fn fill_rows(part: &mut [u8], reserves: &[u64])
+    requires { ⌜ (length (now reserves) ≤ 16) × (sum (now reserves) ≤ 800) ⌝ }
+    requires { ⌜ length (now part) ≡ rowSize * length (now reserves) ⌝ }
+    ensures { λ _. ⌜ now (part .exit) ≡ flat rowBytes (map freshRow (now (reserves .entry))) ⌝ }
 {
     let mut g = 0;
-    while g < logs {
+    while g < reserves.len() {
         let at = ROW * g;
         let row = Row {
             low: 1,
             high: 0,
             first: 0,
             last: 0,
+            reserve: reserves[g] as usize,
         };
         write_row(&mut part[at..at + ROW], row);
         g += 1;
@@ -75,11 +96,12 @@ fn fill_slots(part: &mut [u8], slots: usize)
 }
 
 // A formatted table over the whole buffer.
-fn fill(table: &mut [u8], logs: usize, slots: usize, keeper: u64, key: &[u8])
-    requires { ⌜ (logs ≤ 16) × (slots ≤ 800) ⌝ }
-    requires { ⌜ (length (now table) ≡ tableSize logs slots) × (length (now key) ≡ 32) ⌝ }
-    ensures { λ _. ⌜ now (table .exit) ≡ writeTable (formatted logs slots keeper (now (key .entry))) ⌝ }
+fn fill(table: &mut [u8], slots: usize, keeper: u64, key: &[u8], reserves: &[u64])
+    requires { ⌜ (length (now reserves) ≤ 16) × (slots ≤ 800) × (sum (now reserves) ≤ 800) ⌝ }
+    requires { ⌜ (length (now table) ≡ tableSize (length (now reserves)) slots) × (length (now key) ≡ 32) ⌝ }
+    ensures { λ _. ⌜ now (table .exit) ≡ writeTable (formatted slots keeper (now (key .entry)) (now (reserves .entry))) ⌝ }
 {
+    let logs = reserves.len();
     let rows = HEADER;
     let start = rows + ROW * logs;
     let end = start + SLOT * slots;
@@ -93,16 +115,23 @@ fn fill(table: &mut [u8], logs: usize, slots: usize, keeper: u64, key: &[u8])
         slots,
         key,
     );
-    fill_rows(&mut table[rows..start], logs);
+    fill_rows(&mut table[rows..start], reserves);
     fill_slots(&mut table[start..end], slots);
 }
 
-// Writes the table of so many logs and slots, every log fresh and every slot free; or refuses, and changes nothing. It hashes
-// nothing.
-pub fn format(table: &mut [u8], logs: u64, slots: u64, keeper: u64, key: &[u8]) -> Worked
-    ensures answer { λ r. ⌜ workedNumber r ≡ answerOf (formatRefusal (length (now (table .entry))) logs slots (length (now (key .entry)))) ⌝ }
+// Writes the table of so many logs and slots, every log fresh, with its reserve, and every slot free; or refuses, and changes
+// nothing. It hashes nothing.
+pub fn format(
+    table: &mut [u8],
+    logs: u64,
+    slots: u64,
+    keeper: u64,
+    key: &[u8],
+    reserves: &[u64],
+) -> Worked
+    ensures answer { λ r. ⌜ workedNumber r ≡ answerOf (formatRefusal (length (now (table .entry))) logs slots (length (now (key .entry))) (now (reserves .entry))) ⌝ }
     ensures blocks { λ r. ⌜ workedBlocks r ≡ 0 ⌝ }
-    ensures bytes { λ _. ⌜ now (table .exit) ≡ formatBytes (now (table .entry)) logs slots keeper (now (key .entry)) ⌝ }
+    ensures bytes { λ _. ⌜ now (table .exit) ≡ formatBytes (now (table .entry)) logs slots keeper (now (key .entry)) (now (reserves .entry)) ⌝ }
 {
     if !in_range(logs, slots) {
         return Worked::Refused {
@@ -124,6 +153,18 @@ pub fn format(table: &mut [u8], logs: u64, slots: u64, keeper: u64, key: &[u8]) 
             blocks: 0,
         };
     }
-    fill(table, g, s, keeper, key);
+    if reserves.len() != g {
+        return Worked::Refused {
+            why: Refusal::Length,
+            blocks: 0,
+        };
+    }
+    if !reserves_fit(reserves, slots) {
+        return Worked::Refused {
+            why: Refusal::Counts,
+            blocks: 0,
+        };
+    }
+    fill(table, s, keeper, key, reserves);
     Worked::Done { blocks: 0 }
 }

@@ -19,25 +19,25 @@ returns : tie.Need-returns
 returns c = open-torn (c .before .before .before .before .args .table .now) (c .before .before .before .before .args .log) (sym (c .enum-told .given .1) ∙ c .before .before .check .ensures)
 
 logs-of-requires : tie.Need-logs-of-requires
-logs-of-requires c κs = whole-long (c .before .before .before .before .before .args .table .now) (check-whole (c .before .before .before .before .before .args .table .now) (c .before .before .before .before .before .args .log) _ _ (sym (c .before .count .given .1) ∙ c .before .before .before .check .ensures) .0)
+logs-of-requires c κs = whole-long (c .before .before .before .before .before .args .table .now) (check-whole (c .before .before .before .before .before .args .table .now) (c .before .before .before .before .before .args .log) _ _ _ (sym (c .before .count .given .1) ∙ c .before .before .before .check .ensures) .0)
 
 returns-2 : tie.Need-returns-2
-returns-2 c = open-beyond (c .before .before .before .before .before .before .before .args .table .now) (c .before .before .before .before .before .before .before .args .log) (check-whole (c .before .before .before .before .before .before .before .args .table .now) (c .before .before .before .before .before .before .before .args .log) _ _ (sym (c .before .before .before .count .given .1) ∙ c .before .before .before .before .before .check .ensures) .0) (omega (arith, c .if1 .taken, c .before .logs-of .ensures .0))
+returns-2 c = open-beyond (c .before .before .before .before .before .before .before .args .table .now) (c .before .before .before .before .before .before .before .args .log) (check-whole (c .before .before .before .before .before .before .before .args .table .now) (c .before .before .before .before .before .before .before .args .log) _ _ _ (sym (c .before .before .before .count .given .1) ∙ c .before .before .before .before .before .check .ensures) .0) (omega (arith, c .if1 .taken, c .before .logs-of .ensures .0))
 
 slots-of-requires : tie.Need-slots-of-requires
-slots-of-requires c κs = whole-long (c .before .before .before .before .before .before .before .args .table .now) (check-whole (c .before .before .before .before .before .before .before .args .table .now) (c .before .before .before .before .before .before .before .args .log) _ _ (sym (c .before .before .before .count .given .1) ∙ c .before .before .before .before .before .check .ensures) .0)
+slots-of-requires c κs = whole-long (c .before .before .before .before .before .before .before .args .table .now) (check-whole (c .before .before .before .before .before .before .before .args .table .now) (c .before .before .before .before .before .before .before .args .log) _ _ _ (sym (c .before .before .before .count .given .1) ∙ c .before .before .before .before .before .check .ensures) .0)
 
 row-at-requires : tie.Need-row-at-requires
 row-at-requires c κs = let p8 = c .before .before .before .before .before .before .before .before in
-    (whole-counted (p8 .args .table .now) (c .before .before .logs-of .result) (c .slots-of .result) (check-whole (p8 .args .table .now) (p8 .args .log) _ _ (sym (c .before .before .before .before .count .given .1) ∙ c .before .before .before .before .before .before .check .ensures) .0) (c .before .before .logs-of .ensures .0) (c .slots-of .ensures .0), c .before .if1 .left)
+    (whole-counted (p8 .args .table .now) (c .before .before .logs-of .result) (c .slots-of .result) (check-whole (p8 .args .table .now) (p8 .args .log) _ _ _ (sym (c .before .before .before .before .count .given .1) ∙ c .before .before .before .before .before .before .check .ensures) .0) (c .before .before .logs-of .ensures .0) (c .slots-of .ensures .0), c .before .if1 .left)
 
 free-of-requires : tie.Need-free-of-requires
 free-of-requires c κs = let p9 = c .before .before .before .before .before .before .before .before .before in
-    whole-long (p9 .args .table .now) (check-whole (p9 .args .table .now) (p9 .args .log) _ _ (sym (c .before .before .before .before .before .count .given .1) ∙ c .before .before .before .before .before .before .before .check .ensures) .0)
+    whole-long (p9 .args .table .now) (check-whole (p9 .args .table .now) (p9 .args .log) _ _ _ (sym (c .before .before .before .before .before .count .given .1) ∙ c .before .before .before .before .before .before .before .check .ensures) .0)
 
 returns-3 : tie.Need-returns-3
 returns-3 c = let p10 = c .before .before .before .before .before .before .before .before .before .before in
-    let w = check-whole (p10 .args .table .now) (p10 .args .log) _ _ (sym (c .before .before .before .before .before .before .count .given .1) ∙ c .before .before .before .before .before .before .before .before .check .ensures) in open-found (p10 .args .table .now) (p10 .args .log) (w .0) (c .before .before .before .before .logs-of .result) (c .before .before .slots-of .result) (c .free-of .result) (c .before .before .before .before .before .before .count .given .0 .0) (c .before .before .before .before .before .before .count .given .0 .1 .0) (c .before .row-at .result) (c .before .before .before .if1 .left) (c .before .before .before .before .logs-of .ensures .0) (c .before .before .slots-of .ensures .0) (c .before .row-at .ensures) (c .free-of .ensures .0) (w .1) (w .2)
+    let w = check-whole (p10 .args .table .now) (p10 .args .log) _ _ _ (sym (c .before .before .before .before .before .before .count .given .1) ∙ c .before .before .before .before .before .before .before .before .check .ensures) in open-found (p10 .args .table .now) (p10 .args .log) (w .0) (c .before .before .before .before .logs-of .result) (c .before .before .slots-of .result) (c .free-of .result) (c .before .before .before .before .before .before .count .given .0 .0) (c .before .before .before .before .before .before .count .given .0 .1 .0) (c .before .before .before .before .before .before .count .given .0 .1 .1 .0) (c .before .row-at .result) (c .before .before .before .if1 .left) (c .before .before .before .before .logs-of .ensures .0) (c .before .before .slots-of .ensures .0) (c .before .row-at .ensures) (c .free-of .ensures .0) (w .1) (w .2) (w .3)
 
 pub open-spec : {M : Type 1} → statement M
 open-spec =

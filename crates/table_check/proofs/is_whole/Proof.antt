@@ -15,10 +15,10 @@ enum-told-2 : tie.Need-enum-told-2
 enum-told-2 c = search needs
 
 returns : tie.Need-returns
-returns c = ap checkNumber (sym (c .enum-told .given .1) ∙ c .before .before .check .ensures) ∙ check-number (c .before .before .before .before .args .table .now)
+returns c = ap checkNumber (sym (c .enum-told .given .1) ∙ c .before .before .check .ensures) ∙ check-number (c .before .before .before .before .args .table .now) 0
 
 returns-2 : tie.Need-returns-2
-returns-2 c = ap checkNumber (sym (c .enum-told2 .given .1) ∙ c .before .before .check .ensures) ∙ check-number (c .before .before .before .before .args .table .now)
+returns-2 c = ap checkNumber (sym (c .enum-told2 .given .1) ∙ c .before .before .check .ensures) ∙ check-number (c .before .before .before .before .args .table .now) 0
 
 pub is-whole-spec : {M : Type 1} → statement M
 is-whole-spec = tie.close (tie.spec check-requires enum-told enum-told-2 returns returns-2)

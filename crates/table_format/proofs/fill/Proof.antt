@@ -58,8 +58,14 @@ same-length : tie.Need-same-length
 same-length c = search needs
 
 returns : tie.Need-returns
-returns c = let p10 = c .before .before .before .before .before .before .before .before .before .before in
-    let x = p10 .before .before .before .before in let a = x .args in three (a .table .now) (p10 .write-header .last .0) (c .before .before .before .before .before .before .fill-rows .last .0) (c .before .before .fill-slots .last .0) (a .logs) (a .slots) (a .keeper) (a .key .now) (x .pre .1 .0) (x .pre .1 .1) (p10 .write-header .ensures) (c .before .before .before .before .before .before .fill-rows .ensures) (c .before .before .fill-slots .ensures) ∙ formatted-bytes (a .logs) (a .slots) (a .keeper) (a .key .now)
+returns c =
+    let x = c .before .before .before .before .before .before .before .before .before .before .before .before .before .before .before in
+    let a = x .args in
+    let h = c .before .before .before .before .before .before .before .before .before .before .write-header in
+    let r = c .before .before .before .before .before .before .fill-rows in
+    let s = c .before .before .fill-slots in
+    three (a .table .now) (h .last .0) (r .last .0) (s .last .0) (a .slots) (a .keeper) (a .key .now) (a .reserves .now) (x .pre .1 .0) (x .pre .1 .1) (h .ensures) (r .ensures) (s .ensures)
+    ∙ formatted-bytes (a .slots) (a .keeper) (a .key .now) (a .reserves .now)
 
 pub fill-spec : {M : Type 1} → statement M
 fill-spec =

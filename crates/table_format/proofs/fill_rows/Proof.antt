@@ -1,11 +1,13 @@
 -- `table_format::fill_rows` meets its contract.
-use Rattle.table.proofs.FillLaws.{rows-length, rows-none, rows-turn, rows-done}
+use Rattle.table.proofs.FillLaws.{rows-length, rows-none, rows-turn, rows-done, reserve-fits}
 use mathlib.Core.Path.{refl, _≡_}
+use mathlib.Core.List.{map}
 use Rattle.layout.specs.Layout.{rowBytes}
 use Rattle.layout.specs.Image.{freshRow}
 use Rattle.layout.specs.Lists.{flat}
+use Rattle.layout.proofs.TableLaws.{fresh-fits}
 use Rattle.octets.specs.Octets.{splice}
-use lib.ListN.{length, take, replicate}
+use lib.ListN.{length, take, getD}
 use native.Mathlib.Omega.{arith}
 use Prim.Native.Nat.{_≤_, _-_}
 use borrow.Author.Needs.{needs}
@@ -13,16 +15,22 @@ use Rattle.table_format.proofs.fill_rows.Statement.{statement}
 use Rattle.table_format.proofs.fill_rows.Tie as tie
 
 abbrev Inv-loop : tie.InvT-loop
-Inv-loop part₀ logs g₀ part g = (g ≤ logs) × (length part ≡ length part₀) × (part ≡ splice part₀ 0 (flat rowBytes (take g (replicate logs freshRow))))
+Inv-loop part₀ reserves g₀ part g = (g ≤ length reserves) × (length part ≡ length part₀) × (part ≡ splice part₀ 0 (flat rowBytes (take g (map freshRow reserves))))
 
 abbrev μ-loop : tie.MeasureT-loop
-μ-loop part₀ logs g₀ part g = logs - g
+μ-loop part₀ reserves g₀ part g = length reserves - g
 
 loop-holds : tie.Need-loop-holds Inv-loop μ-loop
-loop-holds c = let a = c .before .args in (omega arith, refl, rows-none (a .logs) (a .part .now))
+loop-holds c = let a = c .before .before .args in (omega arith, refl, rows-none (a .reserves .now) (a .part .now))
 
 mul-at : tie.Need-mul-at Inv-loop μ-loop
 mul-at c = omega arith
+
+mul-write-row : tie.Need-mul-write-row Inv-loop μ-loop
+mul-write-row c = search needs
+
+shared-slice-read-write-row : tie.Need-shared-slice-read-write-row Inv-loop μ-loop
+shared-slice-read-write-row c = search needs
 
 add-write-row : tie.Need-add-write-row Inv-loop μ-loop
 add-write-row c = omega arith
@@ -37,7 +45,11 @@ part-write-row-end : tie.Need-part-write-row-end Inv-loop μ-loop
 part-write-row-end c = omega arith
 
 write-row-requires : tie.Need-write-row-requires Inv-loop μ-loop
-write-row-requires c κs = search needs
+write-row-requires c κs =
+    let x = c .before .before .before .before .before .before in
+    let r = x .args .reserves .now in
+    let g = c .before .before .before .loop .g in
+    (search needs, fresh-fits (getD r g 0) (reserve-fits r g (x .pre .0 .1)))
 
 add-g : tie.Need-add-g Inv-loop μ-loop
 add-g c = omega arith
@@ -46,13 +58,23 @@ loop-less : tie.Need-loop-less Inv-loop μ-loop
 loop-less c = omega arith
 
 loop-again : tie.Need-loop-again Inv-loop μ-loop
-loop-again c = let x = c .before .before .before .before .before .before .before in let a = x .args in let l = c .before .before .before .before .before .loop in let t = rows-turn (a .logs) (a .part .now) (l .part) (c .before .before .write-row .last .0) (l .g) (c .before .before .before .before .loop-test .taken) (x .pre .1) (l .inv .2) (c .before .before .write-row .ensures) in (omega arith, rows-length (a .logs) (a .part .now) _ (l .g) (c .before .before .before .before .loop-test .taken) (x .pre .1) t, t)
+loop-again c =
+    let x = c .before .before .before .before .before .before .before .before .before in
+    let a = x .args in
+    let l = c .before .before .before .before .before .before .loop in
+    let more = c .before .before .before .before .before .loop-test .taken in
+    let t = rows-turn (a .reserves .now) (a .part .now) (l .part) (l .g) (x .pre .1) (c .before .before .write-row .last .0) more (l .inv .2) (c .before .before .write-row .ensures) in
+    (omega arith, rows-length (a .reserves .now) (a .part .now) _ (l .g) (x .pre .1) more t, t)
 
 same-length : tie.Need-same-length Inv-loop μ-loop
 same-length c = omega arith
 
 returns : tie.Need-returns Inv-loop μ-loop
-returns c = let x = c .before .before .before in let a = x .args in let l = c .before .loop in rows-done (a .logs) (a .part .now) (l .part) (l .g) (c .loop-test .left) (l .inv .0) (x .pre .1) (l .inv .2)
+returns c =
+    let x = c .before .before .before .before in
+    let a = x .args in
+    let l = c .before .loop in
+    rows-done (a .reserves .now) (a .part .now) (l .part) (l .g) (x .pre .1) (c .loop-test .left) (l .inv .0) (l .inv .2)
 
 pub fill-rows-spec : {M : Type 1} → statement M
 fill-rows-spec =
@@ -62,6 +84,8 @@ fill-rows-spec =
     μ-loop
     loop-holds
     mul-at
+    mul-write-row
+    shared-slice-read-write-row
     add-write-row
     sub-write-row
     part-write-row-start

@@ -1,7 +1,7 @@
 -- `a2m_put::append::append_open` meets its contract. Assumes nothing.
 use Rattle.a2m.specs.Opened.{changeReply, changeBlocks}
 use lib.ListN.{length}
-use Rattle.a2m.proofs.CallLaws.{append-spent, append-full, append-done, append-high, append-fits}
+use Rattle.a2m.proofs.CallLaws.{append-spent, append-full, append-promised, append-done, append-high, append-fits}
 use Rattle.entry.proofs.DigestLaws.{length-entryDigest}
 use Rattle.a2m.proofs.OpenedLaws.{opened-counted, last-most}
 use mathlib.Core.Logic.{_≢_}
@@ -20,11 +20,14 @@ returns c = let a = c .before .before .before .before .before .args in append-sp
 returns-2 : tie.Need-returns-2
 returns-2 c = let a = c .before .before .before .before .before .before .before .args in append-full (a .table .now) (a .value .now) (a .view) (c .before .before .before .before .before .before .before .pre .0) (c .before .before .before .before .before .before .before .pre .1) (c .before .before .if1 .left) (c .if2 .taken)
 
+returns-3 : tie.Need-returns-3
+returns-3 c = let p = c .before .before .before .before .before .before .before .before .before in let a = p .args in append-promised (a .table .now) (a .value .now) (a .view) (p .pre .0) (p .pre .1) (c .before .before .before .before .if1 .left) (c .before .before .if2 .left) (c .if3 .taken)
+
 append-requires : tie.Need-append-requires
 append-requires c κs = search needs
 
 digest-after-requires : tie.Need-digest-after-requires
-digest-after-requires c κs = let p9 = c .before .before .before .before .before .before .before .before .before in
+digest-after-requires c κs = let p9 = c .before .before .before .before .before .before .before .before .before .before .before in
     let a = p9 .args in (opened-counted (a .table .now) (a .view) (p9 .pre .0), (last-most (a .table .now) (a .view) (p9 .pre .0), p9 .pre .1))
 
 slice-aggregate-enter : tie.Need-slice-aggregate-enter
@@ -34,22 +37,22 @@ enter-requires : tie.Need-enter-requires
 enter-requires c κs =
     let d = c .before .before .before in
     let r = d .before .before in
-    let p = r .before .before .before .before .before .before .before .before in
+    let p = r .before .before .before .before .before .before .before .before .before .before in
     let a = p .args in
-    let f : a .view .free ≢ 0 = r .before .if2 .left in
-    (p .pre .0, (omega arith, (append-high (a .view .row) (r .append .result) (a .view .free) (r .append .ensures), (append-fits (a .view .row) (r .append .result) (a .view .free) (r .append .ensures) (omega (arith, r .before .before .before .before .struct-known .given)) (r .before .before .before .if1 .left), (p .pre .1, ap length (d .digest-after .ensures .0) ∙ length-entryDigest _ _ _)))))
+    let f : a .view .free ≢ 0 = r .before .before .before .if2 .left in
+    (p .pre .0, (omega arith, (append-high (a .view .row) (r .append .result) (a .view .free) (r .append .ensures), (append-fits (a .view .row) (r .append .result) (a .view .free) (r .append .ensures) (omega (arith, r .before .before .before .before .before .before .struct-known .given)) (r .before .before .before .before .before .if1 .left), (p .pre .1, ap length (d .digest-after .ensures .0) ∙ length-entryDigest _ _ _)))))
 
 same-length : tie.Need-same-length
 same-length c = search needs
 
-returns-3 : tie.Need-returns-3
-returns-3 c =
+returns-4 : tie.Need-returns-4
+returns-4 c =
     let e = c .before .before in
     let d = e .before .before .before .before in
     let r = d .before .before in
-    let p = r .before .before .before .before .before .before .before .before in
+    let p = r .before .before .before .before .before .before .before .before .before .before in
     let a = p .args in
-    append-done (a .table .now) (a .value .now) (a .view) (p .pre .0) (p .pre .1) (r .before .before .before .if1 .left) (r .before .if2 .left) (r .append .result) (d .digest-after .result .bytes) (r .append .ensures) (d .digest-after .ensures .0) (changeReply (e .enter .result)) (changeBlocks (e .enter .result)) (e .enter .last .0) (e .enter .ensures .0) (e .enter .ensures .1 .0 ∙ d .digest-after .ensures .1) (e .enter .ensures .1 .1)
+    append-done (a .table .now) (a .value .now) (a .view) (p .pre .0) (p .pre .1) (r .before .before .before .before .before .if1 .left) (r .before .before .before .if2 .left) (r .before .if3 .left) (r .append .result) (d .digest-after .result .bytes) (r .append .ensures) (d .digest-after .ensures .0) (changeReply (e .enter .result)) (changeBlocks (e .enter .result)) (e .enter .last .0) (e .enter .ensures .0) (e .enter .ensures .1 .0 ∙ d .digest-after .ensures .1) (e .enter .ensures .1 .1)
 
 pub append-open-spec : {M : Type 1} → statement M
 append-open-spec =
@@ -57,12 +60,13 @@ append-open-spec =
     (tie.spec
     returns
     returns-2
+    returns-3
     append-requires
     digest-after-requires
     slice-aggregate-enter
     enter-requires
     same-length
-    returns-3)
+    returns-4)
 
 -- no literal of the body becomes the count
 pub counted : unwritten counts (function .body) ≡ true

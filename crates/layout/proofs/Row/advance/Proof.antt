@@ -10,7 +10,7 @@ use Rattle.layout.proofs.Row.advance.Tie as tie
 
 -- the row, by the test whether the chain was empty
 abbrev chosen : Row → ℕ → ℕ → Bool → Row
-chosen r n slot empty = record { low = r .low; high = n; first = cond empty slot (r .first); last = slot }
+chosen r n slot empty = record { low = r .low; high = n; first = cond empty slot (r .first); last = slot; reserve = r .reserve }
 
 returns : tie.Need-returns
 unfolding advancedRow

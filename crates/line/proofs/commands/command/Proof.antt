@@ -1,126 +1,138 @@
+-- `line::commands::command` meets its contract.
+use Prim.Native.Nat.{ℕ, _+_}
+use mathlib.Core.Logic.{⊎-elim}
+use lib.ListN.{getD}
+use native.Mathlib.Omega.{arith}
+use mathlib.Core.Path.{_≡_, refl, sym, ap, _∙_}
+use Rattle.line.specs.declared.Command.{Command}
+use Rattle.line.specs.declared.Command.the-variants.{Append, Advance, Truncate, Lookup, End, Malformed}
 use Rattle.line.specs.declared.Word.{Word}
 use Rattle.line.specs.Command.{made}
-use lib.ListN.{take}
-use Rattle.line.proofs.CommandLaws.{made-of, not-taking}
-use native.Mathlib.Omega.{arith}
-use mathlib.Core.Path.{sym, ap, _∙_}
-use Rattle.line.specs.declared.Word.the-variants as word
+use Rattle.line.proofs.CommandLaws.{taken, not-made, alone-line, format-line}
 use borrow.Author.Needs.{needs}
 use Rattle.line.proofs.commands.command.Statement.{statement}
+use Rattle.line.specs.declared.Word.the-variants as word
 use Rattle.line.proofs.commands.command.Tie as tie
-use Rattle.line.proofs.commands.command.Reads as reads
-use Rattle.line.proofs.commands.command.Lts as lts
 
--- src/commands.rt:41:15
 array-read-log : tie.Need-array-read-log
 array-read-log c = search needs
 
--- src/commands.rt:42:20
 array-read-position : tie.Need-array-read-position
 array-read-position c = search needs
 
--- src/commands.rt:44:28
 enum-told : tie.Need-enum-told
 enum-told c = search needs
 
--- src/commands.rt:46:23
-array-read-t15 : tie.Need-array-read-t15
-array-read-t15 c = search needs
+array-read-if2 : tie.Need-array-read-if2
+array-read-if2 c = search needs
 
--- src/commands.rt:47:24
-array-read-t18 : tie.Need-array-read-t18
-array-read-t18 c = search needs
+array-read-t23 : tie.Need-array-read-t23
+array-read-t23 c = search needs
 
--- src/commands.rt:48:25
-array-read-t21 : tie.Need-array-read-t21
-array-read-t21 c = search needs
+array-read-t26 : tie.Need-array-read-t26
+array-read-t26 c = search needs
 
--- src/commands.rt:45:13
-returns : tie.Need-returns
-returns c = let a = c .before .before .before .args in sym (made-of (a .w) word.Format (a .n) 3 (a .t3) (c .before .enum-told .given .1) (c .if1 .taken) (omega arith))
-
--- src/commands.rt:51:28
-enum-told-2 : tie.Need-enum-told-2
-enum-told-2 c = search needs
-
--- src/commands.rt:52:50
-array-read-t25 : tie.Need-array-read-t25
-array-read-t25 c = search needs
-
--- src/commands.rt:52:13
-returns-2 : tie.Need-returns-2
-returns-2 c = let a = c .before .before .before .args in sym (made-of (a .w) word.Append (a .n) 2 (a .t3) (c .before .enum-told2 .given .1) (c .if2 .taken) (omega arith))
-
--- src/commands.rt:54:29
-enum-told-3 : tie.Need-enum-told-3
-enum-told-3 c = search needs
-
--- src/commands.rt:58:25
 array-read-t29 : tie.Need-array-read-t29
 array-read-t29 c = search needs
 
--- src/commands.rt:59:24
-array-read-t32 : tie.Need-array-read-t32
-array-read-t32 c = search needs
+following-requires : tie.Need-following-requires
+following-requires c κs = search needs
 
--- src/commands.rt:55:13
+returns : tie.Need-returns
+returns c =
+    let a = c .before .before .before .before .before .args in
+    format-line (a .w) (a .n) (a .t3) (c .following .result) (c .before .before .before .enum-told .given .1) (omega (arith, c .before .before .if1 .taken, c .before .if2 .taken)) (omega arith) (c .following .ensures)
+
+enum-told-2 : tie.Need-enum-told-2
+enum-told-2 c = search needs
+
+array-read-t34 : tie.Need-array-read-t34
+array-read-t34 c = search needs
+
+alone-requires : tie.Need-alone-requires
+alone-requires c κs = search needs
+
+returns-2 : tie.Need-returns-2
+returns-2 c =
+    let a = c .before .before .before .before .args in
+    let x : Command = Append (getD (a .t3) 0 0) (getD (a .t3) 1 0) in
+    c .alone .ensures ∙ alone-line (a .w) word.Append (a .n) (a .t3) x (c .before .before .enum-told2 .given .1) (taken 2 (a .n) x (c .before .if3 .taken)) refl
+
+enum-told-3 : tie.Need-enum-told-3
+enum-told-3 c = search needs
+
+array-read-t39 : tie.Need-array-read-t39
+array-read-t39 c = search needs
+
+array-read-t42 : tie.Need-array-read-t42
+array-read-t42 c = search needs
+
+alone-requires-2 : tie.Need-alone-requires-2
+alone-requires-2 c κs = search needs
+
 returns-3 : tie.Need-returns-3
-returns-3 c = let a = c .before .before .before .args in sym (made-of (a .w) word.Advance (a .n) 4 (a .t3) (c .before .enum-told3 .given .1) (c .if3 .taken) (omega arith))
+returns-3 c =
+    let a = c .before .before .before .before .args in
+    let x : Command = Advance (getD (a .t3) 0 0) (getD (a .t3) 1 0) (getD (a .t3) 2 0) (getD (a .t3) 3 0) in
+    c .alone2 .ensures ∙ alone-line (a .w) word.Advance (a .n) (a .t3) x (c .before .before .enum-told3 .given .1) (taken 4 (a .n) x (c .before .if4 .taken)) refl
 
--- src/commands.rt:62:30
 enum-told-4 : tie.Need-enum-told-4
 enum-told-4 c = search needs
 
--- src/commands.rt:63:13
-returns-4 : tie.Need-returns-4
-returns-4 c = let a = c .before .before .before .args in sym (made-of (a .w) word.Truncate (a .n) 2 (a .t3) (c .before .enum-told4 .given .1) (c .if4 .taken) (omega arith))
+alone-requires-3 : tie.Need-alone-requires-3
+alone-requires-3 c κs = search needs
 
--- src/commands.rt:65:28
+returns-4 : tie.Need-returns-4
+returns-4 c =
+    let a = c .before .before .before .before .args in
+    let x : Command = Truncate (getD (a .t3) 0 0) (getD (a .t3) 1 0) in
+    c .alone3 .ensures ∙ alone-line (a .w) word.Truncate (a .n) (a .t3) x (c .before .before .enum-told4 .given .1) (taken 2 (a .n) x (c .before .if5 .taken)) refl
+
 enum-told-5 : tie.Need-enum-told-5
 enum-told-5 c = search needs
 
--- src/commands.rt:66:13
-returns-5 : tie.Need-returns-5
-returns-5 c = let a = c .before .before .before .args in sym (made-of (a .w) word.Lookup (a .n) 2 (a .t3) (c .before .enum-told5 .given .1) (c .if5 .taken) (omega arith))
+alone-requires-4 : tie.Need-alone-requires-4
+alone-requires-4 c κs = search needs
 
--- src/commands.rt:68:25
+returns-5 : tie.Need-returns-5
+returns-5 c =
+    let a = c .before .before .before .before .args in
+    let x : Command = Lookup (getD (a .t3) 0 0) (getD (a .t3) 1 0) in
+    c .alone4 .ensures ∙ alone-line (a .w) word.Lookup (a .n) (a .t3) x (c .before .before .enum-told5 .given .1) (taken 2 (a .n) x (c .before .if6 .taken)) refl
+
 enum-told-6 : tie.Need-enum-told-6
 enum-told-6 c = search needs
 
--- src/commands.rt:69:13
+alone-requires-5 : tie.Need-alone-requires-5
+alone-requires-5 c κs = search needs
+
 returns-6 : tie.Need-returns-6
-returns-6 c = let a = c .before .before .before .args in sym (made-of (a .w) word.End (a .n) 1 (a .t3) (c .before .enum-told6 .given .1) (c .if6 .taken) (omega arith))
+returns-6 c =
+    let a = c .before .before .before .before .args in
+    let x : Command = End (getD (a .t3) 0 0) in
+    c .alone5 .ensures ∙ alone-line (a .w) word.End (a .n) (a .t3) x (c .before .before .enum-told6 .given .1) (taken 1 (a .n) x (c .before .if7 .taken)) refl
 
 enum-told-7 : tie.Need-enum-told-7
 enum-told-7 c = search needs
 
--- src/commands.rt:37:1
+alone-requires-6 : tie.Need-alone-requires-6
+alone-requires-6 c κs = search needs
+
 returns-7 : tie.Need-returns-7
-returns-7 c = let a = c .before .before .before .args in sym (ap (λ (x : Word). made x (take (a .n) (a .t3))) (c .before .enum-told .given .1) ∙ not-taking 3 (a .n) (a .t3) _ (omega arith) (omega arith) (c .if1 .left))
-
--- src/commands.rt:37:1
-returns-8 : tie.Need-returns-8
-returns-8 c = let a = c .before .before .before .args in sym (ap (λ (x : Word). made x (take (a .n) (a .t3))) (c .before .enum-told2 .given .1) ∙ not-taking 2 (a .n) (a .t3) _ (omega arith) (omega arith) (c .if2 .left))
-
--- src/commands.rt:37:1
-returns-9 : tie.Need-returns-9
-returns-9 c = let a = c .before .before .before .args in sym (ap (λ (x : Word). made x (take (a .n) (a .t3))) (c .before .enum-told3 .given .1) ∙ not-taking 4 (a .n) (a .t3) _ (omega arith) (omega arith) (c .if3 .left))
-
--- src/commands.rt:37:1
-returns-10 : tie.Need-returns-10
-returns-10 c = let a = c .before .before .before .args in sym (ap (λ (x : Word). made x (take (a .n) (a .t3))) (c .before .enum-told4 .given .1) ∙ not-taking 2 (a .n) (a .t3) _ (omega arith) (omega arith) (c .if4 .left))
-
--- src/commands.rt:37:1
-returns-11 : tie.Need-returns-11
-returns-11 c = let a = c .before .before .before .args in sym (ap (λ (x : Word). made x (take (a .n) (a .t3))) (c .before .enum-told5 .given .1) ∙ not-taking 2 (a .n) (a .t3) _ (omega arith) (omega arith) (c .if5 .left))
-
--- src/commands.rt:37:1
-returns-12 : tie.Need-returns-12
-returns-12 c = let a = c .before .before .before .args in sym (ap (λ (x : Word). made x (take (a .n) (a .t3))) (c .before .enum-told6 .given .1) ∙ not-taking 1 (a .n) (a .t3) _ (omega arith) (omega arith) (c .if6 .left))
-
--- src/commands.rt:37:1
-returns-13 : tie.Need-returns-13
-returns-13 c = search needs
+returns-7 c =
+    let a = c .before .before .args in
+    let f : ℕ = getD (a .t3) 0 0 in
+    let m : made (a .w) (a .n) (a .t3) ≡ Malformed =
+    ⊎-elim (λ w. not-made (a .w) word.Format (a .n) (3 + f) (a .t3) _ (w .1 .given .1) refl (λ q. w .3 .left (omega arith)))
+    (⊎-elim (λ w. not-made (a .w) word.Format (a .n) (3 + f) (a .t3) _ (w .1 .given .1) refl (λ q. omega (arith, w .2 .left)))
+    (⊎-elim (λ w. not-made (a .w) word.Append (a .n) 2 (a .t3) _ (w .1 .given .1) refl (w .2 .left))
+    (⊎-elim (λ w. not-made (a .w) word.Advance (a .n) 4 (a .t3) _ (w .1 .given .1) refl (w .2 .left))
+    (⊎-elim (λ w. not-made (a .w) word.Truncate (a .n) 2 (a .t3) _ (w .1 .given .1) refl (w .2 .left))
+    (⊎-elim (λ w. not-made (a .w) word.Lookup (a .n) 2 (a .t3) _ (w .1 .given .1) refl (w .2 .left))
+    (⊎-elim (λ w. not-made (a .w) word.End (a .n) 1 (a .t3) _ (w .1 .given .1) refl (w .2 .left))
+    (λ w. ap (λ (x : Word). made x (a .n) (a .t3)) (w .1 .given .1))))))))
+    (c .before .match .came) in
+    c .alone6 .ensures ∙ alone-line (a .w) (a .w) (a .n) (a .t3) Malformed refl (sym m) refl
 
 pub command-spec : {M : Type 1} → statement M
 command-spec =
@@ -129,28 +141,30 @@ command-spec =
     array-read-log
     array-read-position
     enum-told
-    array-read-t15
-    array-read-t18
-    array-read-t21
+    array-read-if2
+    array-read-t23
+    array-read-t26
+    array-read-t29
+    following-requires
     returns
     enum-told-2
-    array-read-t25
+    array-read-t34
+    alone-requires
     returns-2
     enum-told-3
-    array-read-t29
-    array-read-t32
+    array-read-t39
+    array-read-t42
+    alone-requires-2
     returns-3
     enum-told-4
+    alone-requires-3
     returns-4
     enum-told-5
+    alone-requires-4
     returns-5
     enum-told-6
+    alone-requires-5
     returns-6
     enum-told-7
-    returns-7
-    returns-8
-    returns-9
-    returns-10
-    returns-11
-    returns-12
-    returns-13)
+    alone-requires-6
+    returns-7)

@@ -1,28 +1,36 @@
 -- `line::fields::numbers` meets its contract.
-use lib.ListN.{length-append, length, drop, take, set, length-set}
-use Prim.Native.Nat.{_<_, ℕ, _+_, _-_, _≤_}
-use lib.Seq.{length-take-le}
-use Rattle.decimal.specs.Decimal.{numberOf}
-use Rattle.line.specs.declared.Count.the-variants.{Of}
-use Rattle.line.specs.Command.{countOf}
-use mathlib.Core.Option.{Option, some}
+use Prim.Native.Nat.{ℕ, _+_, _≤_, _<_, _-_}
+use mathlib.Core.Logic.{inl, inr, ⊎-elim}
 use mathlib.Core.List.{List, [], _∷_, _++_}
-use Rattle.line.specs.Fields.{fieldsOf, numbersOf}
-use Rattle.line.proofs.FieldLaws.{prepend, prepend-nil, field-part, last-field, more-fields, never-counted, count-some, stop-bad, stop-over, stop-last, go-on, stored, untouched, whole}
+use mathlib.Core.Option.{some}
+use lib.ListN.{length, drop, length-append, length-set}
 use native.Mathlib.Omega.{arith}
-use mathlib.Core.Path.{_≡_, refl, sym, ap, _∙_}
+use mathlib.Core.Path.{_≡_, sym, ap, _∙_}
+use Rattle.octets.specs.Octets.{zeros}
+use Rattle.line.specs.declared.Count.the-variants.{Of}
+use Rattle.line.specs.Fields.{fieldsOf, numbersOf}
+use Rattle.line.specs.Command.{countOf, padded}
+use Rattle.line.proofs.PaddedLaws.{length-padded}
+use Rattle.line.proofs.FieldLaws.{Reading, reading-none, reading-bad, reading-last, reading-more, reading-kept, some-inj, none-some}
 use borrow.Author.Needs.{needs}
 use Rattle.line.proofs.fields.numbers.Statement.{statement}
 use Rattle.line.proofs.fields.numbers.Tie as tie
 
 abbrev Inv-loop : tie.InvT-loop
-Inv-loop s from values₀ at₀ n₀ values at n = (at ≤ length s) × (n ≤ 4) × (numbersOf (fieldsOf (drop from s)) ≡ prepend (take n values) (numbersOf (fieldsOf (drop at s)))) × (length values ≡ 4) × (drop n values ≡ drop n values₀)
+Inv-loop s from values₀ at₀ n₀ values at n = (at ≤ length s) × (n ≤ at) × (length values ≡ 19) × Reading s from at n values
 
 abbrev μ-loop : tie.MeasureT-loop
-μ-loop s from values₀ at₀ n₀ values at n = 4 - n
+μ-loop s from values₀ at₀ n₀ values at n = length s + 1 - at
 
 loop-holds : tie.Need-loop-holds Inv-loop μ-loop
-loop-holds c = (omega arith, omega arith, prepend-nil (numbersOf (fieldsOf (drop (c .before .before .args .from) (c .before .before .args .s .now)))), omega arith, refl)
+unfolding zeros
+loop-holds c =
+    let z : length (c .before .before .args .values .now) ≡ 19 = ap length (c .before .before .pre .1) in (
+      omega arith,
+      omega arith,
+      z,
+      reading-none (c .before .before .args .s .now) (c .before .before .args .from) (c .before .before .args .values .now) (c .before .before .pre .1),
+    )
 
 find-requires : tie.Need-find-requires Inv-loop μ-loop
 find-requires c κs = search needs
@@ -46,16 +54,16 @@ enum-told : tie.Need-enum-told Inv-loop μ-loop
 enum-told c = search needs
 
 same-length : tie.Need-same-length Inv-loop μ-loop
-same-length c = search needs
+unfolding zeros
+same-length c = let z : length (c .before .before .before .before .before .before .before .before .args .values .now) ≡ 19 = ap length (c .before .before .before .before .before .before .before .before .pre .1) in omega arith
 
 returns : tie.Need-returns Inv-loop μ-loop
 returns c =
-    let a = c .before .before .before .before .before .before .before .before .before .args in
-    let l = c .before .before .before .before .before .before .loop in
+    let a = c .before .before .before .before .before .before .before .before .args in
+    let l = c .before .before .before .before .before .loop in
     let f = c .before .before .before .before .find in
-    let p = field-part 44 (a .s .now) (l .at) (f .result) (f .ensures .0) in
-    let h = stop-bad (numbersOf (fieldsOf (drop (a .from) (a .s .now)))) (take (l .n) (l .values)) (drop (l .at) (a .s .now)) (l .inv .2) (ap numberOf (sym p) ∙ sym (c .before .before .parse .ensures) ∙ c .enum-told .given .1) in
-    (sym h, λ ns e q. absurd (never-counted (numbersOf (fieldsOf (drop (a .from) (a .s .now)))) ns h e q))
+    let h = reading-bad (a .s .now) (a .from) (l .at) (l .n) (l .values) (l .inv .3) (f .result) (f .ensures .0) (sym (c .before .before .parse .ensures) ∙ c .enum-told .given .1) in
+    (sym (ap countOf h), λ ns e. absurd (none-some ns (sym h ∙ e)))
 
 mul-values : tie.Need-mul-values Inv-loop μ-loop
 mul-values c = search needs
@@ -67,60 +75,47 @@ add-n : tie.Need-add-n Inv-loop μ-loop
 add-n c = search needs
 
 same-length-2 : tie.Need-same-length-2 Inv-loop μ-loop
-same-length-2 c = simp length-set (omega arith)
+unfolding zeros
+same-length-2 c =
+    let z : length (c .before .before .before .before .before .before .before .before .before .before .before .args .values .now) ≡ 19 = ap length (c .before .before .before .before .before .before .before .before .before .before .before .pre .1) in
+    let l = c .before .before .before .before .before .before .before .before .loop in
+    ⊎-elim (λ w. ap length (w .1) ∙ length-set (l .values) (l .n) (c .before .before .before .v .given .0 .0) ∙ omega arith) (λ w. ap length (w .1) ∙ omega arith) (c .before .if1 .came)
 
 returns-2 : tie.Need-returns-2 Inv-loop μ-loop
 returns-2 c =
     let a = c .before .before .before .before .before .before .before .before .before .before .before .args in
     let l = c .before .before .before .before .before .before .before .before .loop in
-    let f = c .before .before .before .before .before .before .find in
-    let v = c .before .before .v .given .0 .0 in
-    let o : Option (List ℕ) = numbersOf (fieldsOf (drop (a .from) (a .s .now))) in
-    let p = field-part 44 (a .s .now) (l .at) (f .result) (f .ensures .0) in
-    let ys : List ℕ = take (l .n) (l .values) ++ (v ∷ []) in
-    let b : l .n < length (l .values) = omega arith in
-    let t : length (take (l .n) (l .values)) ≡ l .n = length-take-le (l .n) (l .values) (omega arith) in
-    let z : length ys ≡ l .n + 1 = omega (arith, length-append (take (l .n) (l .values)) (v ∷ [])) in
-    let h : o ≡ some ys = stop-last o (take (l .n) (l .values)) (drop (l .at) (a .s .now)) (l .inv .2) v (ap numberOf (sym p) ∙ sym (c .before .before .before .before .parse .ensures) ∙ c .before .before .v .given .1) (last-field 44 (a .s .now) (l .at) (f .result) (f .ensures .0) (c .if1 .taken)) in
-    let g : countOf o ≡ Of (length ys) = ap countOf h ∙ count-some ys (omega arith) in (
-      ap Of (sym z) ∙ sym g,
-      λ ns e q. let i : ys ≡ ns = cc in whole (set (l .values) (l .n) v) (a .values .now) ns (l .n + 1) (stored (l .values) (l .n) v b ∙ i) (ap length (sym i) ∙ z) (untouched (l .values) (a .values .now) (l .n) v (l .inv .4)),
-    )
+    let f = c .before .before .before .before .before .before .before .find in
+    let v = c .before .before .before .v .given .0 .0 in
+    let i = sym (c .before .before .before .before .before .parse .ensures) ∙ c .before .before .before .v .given .1 in
+    let r = l .inv .3 in
+    let k = reading-kept (a .s .now) (a .from) (l .at) (l .n) (l .values) r (f .result) (f .ensures .0) v i (c .before .if1 .values) (⊎-elim (λ w. inl (omega (arith, w .0 .taken), w .1)) (λ w. inr (omega (arith, w .0 .left), w .1)) (c .before .if1 .came)) in
+    let ys : List ℕ = r .ns ++ (v ∷ []) in
+    let h : numbersOf (fieldsOf (drop (a .from) (a .s .now))) ≡ some ys = reading-last (a .s .now) (a .from) (l .at) (l .n) (l .values) r (f .result) (f .ensures .0) v i (c .if2 .taken) in
+    let z : l .n + 1 ≡ length ys = omega (arith, length-append (r .ns) (v ∷ []), r .size) in
+    (ap Of z ∙ sym (ap countOf h), λ ns e. k ∙ ap (padded 19) (some-inj ys ns (sym h ∙ e)))
 
 add-at : tie.Need-add-at Inv-loop μ-loop
 add-at c = search needs
 
 loop-less : tie.Need-loop-less Inv-loop μ-loop
-loop-less c = search needs
+loop-less c = omega arith
 
 loop-again : tie.Need-loop-again Inv-loop μ-loop
 loop-again c =
     let a = c .before .before .before .before .before .before .before .before .before .before .before .args in
     let l = c .before .before .before .before .before .before .before .before .loop in
-    let f = c .before .before .before .before .before .before .find in
-    let v = c .before .before .v .given .0 .0 in
-    let o : Option (List ℕ) = numbersOf (fieldsOf (drop (a .from) (a .s .now))) in
-    let p = field-part 44 (a .s .now) (l .at) (f .result) (f .ensures .0) in
-    let m : List ℕ = drop (f .result + 1) (a .s .now) in
-    let b : l .n < length (l .values) = omega arith in
-    let k : f .result < length (a .s .now) = omega arith in
-    let h : o ≡ prepend (take (l .n) (l .values) ++ (v ∷ [])) (numbersOf (fieldsOf m)) = go-on o (take (l .n) (l .values)) (drop (l .at) (a .s .now)) (l .inv .2) v m (ap numberOf (sym p) ∙ sym (c .before .before .before .before .parse .ensures) ∙ c .before .before .v .given .1) (more-fields 44 (a .s .now) (l .at) (f .result) (f .ensures .0) k) in (
+    let f = c .before .before .before .before .before .before .before .find in
+    let v = c .before .before .before .v .given .0 .0 in
+    let i = sym (c .before .before .before .before .before .parse .ensures) ∙ c .before .before .before .v .given .1 in
+    let r = l .inv .3 in
+    let k = reading-kept (a .s .now) (a .from) (l .at) (l .n) (l .values) r (f .result) (f .ensures .0) v i (c .before .if1 .values) (⊎-elim (λ w. inl (omega (arith, w .0 .taken), w .1)) (λ w. inr (omega (arith, w .0 .left), w .1)) (c .before .if1 .came)) in
+    let h : f .result < length (a .s .now) = omega arith in (
       omega arith,
       omega arith,
-      h ∙ ap (λ (xs : List ℕ). prepend xs (numbersOf (fieldsOf m))) (sym (stored (l .values) (l .n) v b)),
-      simp length-set (omega arith),
-      untouched (l .values) (a .values .now) (l .n) v (l .inv .4),
+      ap length k ∙ length-padded 19 (r .ns ++ (v ∷ [])),
+      reading-more (a .s .now) (a .from) (l .at) (l .n) (l .values) r (f .result) (f .ensures .0) v i (c .before .if1 .values) k h,
     )
-
-same-length-3 : tie.Need-same-length-3 Inv-loop μ-loop
-same-length-3 c = search needs
-
-returns-3 : tie.Need-returns-3 Inv-loop μ-loop
-returns-3 c =
-    let a = c .before .before .before .before .args in
-    let l = c .before .loop in
-    let h = stop-over (numbersOf (fieldsOf (drop (a .from) (a .s .now)))) (take (l .n) (l .values)) (drop (l .at) (a .s .now)) (l .inv .2) (length-take-le (l .n) (l .values) (omega arith) ∙ omega arith) in
-    (sym h, λ ns e q. absurd (never-counted (numbersOf (fieldsOf (drop (a .from) (a .s .now)))) ns h e q))
 
 pub numbers-spec : {M : Type 1} → statement M
 numbers-spec =
@@ -145,6 +140,4 @@ numbers-spec =
     returns-2
     add-at
     loop-less
-    loop-again
-    same-length-3
-    returns-3)
+    loop-again)

@@ -1,12 +1,12 @@
 -- `script_lines::lines::answer_line` meets its contract.
 use Prim.Native.Nat.{_+_}
 use mathlib.Core.List.{List}
-use lib.ListN.{length, take}
+use lib.ListN.{length}
 use Rattle.octets.specs.Octets.{splice}
-use Rattle.line.specs.declared.Command.{Command}
 use Rattle.line.specs.declared.Cell.{Cell}
 use Rattle.line.specs.Answer.{lineText}
-use Rattle.script.specs.Script.{cellsOf, commandAnswer, commandTable, answerText, tableAfter}
+use Rattle.script.specs.Script.{cellsOf, answerText, tableAfter}
+use Rattle.script.proofs.ReserveLaws.{line-turns}
 use mathlib.Core.Path.{ap, _∙_}
 use borrow.Author.Needs.{needs}
 use Rattle.script_lines.proofs.lines.answer_line.Statement.{statement}
@@ -14,6 +14,9 @@ use Rattle.script_lines.proofs.lines.answer_line.Tie as tie
 
 parse-requires : tie.Need-parse-requires
 parse-requires c κs = search needs
+
+slice-aggregate-carry-out : tie.Need-slice-aggregate-carry-out
+slice-aggregate-carry-out c = search needs
 
 carry-out-requires : tie.Need-carry-out-requires
 carry-out-requires c κs = search needs
@@ -32,18 +35,16 @@ same-length-2 c = search needs
 
 returns : tie.Need-returns
 unfolding answerText tableAfter
-returns c = let a = c .before .before .before .before .before .before .before .before .before .before .before .before .before .args in
-    let T : List _ = take (a .size) (a .buffer .now) in
+returns c =
+    let a = c .before .before .before .before .before .before .before .before .before .before .before .before .before .before .before .args in
+    let p = c .before .before .before .before .before .before .before .before .before .before .before .parse in
     let t = c .before .before .before .before .before .before .before .carry-out in
-    let p = c .before .before .before .before .before .before .before .before .before .parse .ensures in
-    let e = c .before .before .before .before .cells .ensures ∙ ap (cellsOf (a .number)) (t .ensures .answer ∙ ap (commandAnswer T) p) in (
-      (t .ensures .size ∙ ap (λ (x : Command). length (commandTable T x)) p, t .ensures .most),
+    let u = line-turns (a .buffer .now) (a .size) (a .text .now) (p .result) (t .last .0) (t .result) (p .ensures) (t .ensures) in
+    let e = c .before .before .before .before .cells .ensures ∙ ap (cellsOf (a .number)) (u .answer) in (
+      (u .size, u .most),
       (
         c .before .before .render .ensures .0 ∙ ap (λ (x : List Cell). a .to + length (lineText x)) e,
-        (
-          t .ensures .bytes ∙ ap (λ (x : Command). splice (a .buffer .now) 0 (commandTable T x)) p,
-          c .before .before .render .ensures .1 ∙ ap (λ (x : List Cell). splice (a .out .now) (a .to) (lineText x)) e,
-        ),
+        (u .bytes, c .before .before .render .ensures .1 ∙ ap (λ (x : List Cell). splice (a .out .now) (a .to) (lineText x)) e),
       ),
     )
 
@@ -52,6 +53,7 @@ answer-line-spec =
     tie.close
     (tie.spec
     parse-requires
+    slice-aggregate-carry-out
     carry-out-requires
     cells-requires
     render-requires

@@ -1,22 +1,28 @@
 -- `script_lines::tables::format` meets its contract.
 use Rattle.layout.specs.Layout.{largest}
 use Rattle.refusal.specs.Number.{numberOf}
-use Rattle.refusal.specs.Work.{workedNumber}
 use Rattle.octets.specs.Octets.{zeros}
-use Prim.Native.Nat.{_≤_}
+use Prim.Native.Nat.{ℕ, _≤_}
+use mathlib.Core.List.{List}
+use lib.ListN.{take}
 use Rattle.script.proofs.TurnLaws.{many-logs, many-slots, format-counts, format-done, format-refused}
-use Rattle.refusal.proofs.NumberLaws.{numberOf-positive}
 use native.Mathlib.Omega.{arith}
-use mathlib.Core.Path.{_≡_, sym, ap, _∙_}
+use mathlib.Core.Path.{_≡_, _∙_}
 use borrow.Author.Needs.{needs}
 use Rattle.script_lines.proofs.tables.format.Statement.{statement}
 use Rattle.script_lines.proofs.tables.format.Tie as tie
 
 returns : tie.Need-returns
-returns c = let a = c .before .before .args in format-counts (a .buffer .now) (a .size) (a .logs) (a .slots) (a .keeper) (omega arith) (omega arith) (many-logs (a .logs) (a .slots) (omega arith))
+returns c =
+    let a = c .before .before .before .args in
+    let rs : List ℕ = take (a .logs) (a .reserves .now) in
+    format-counts (a .buffer .now) (a .size) (a .logs) (a .slots) (a .keeper) rs (omega arith) (omega arith) (many-logs (a .logs) (a .slots) rs (omega arith))
 
 returns-2 : tie.Need-returns-2
-returns-2 c = let a = c .before .before .before .args in format-counts (a .buffer .now) (a .size) (a .logs) (a .slots) (a .keeper) (omega arith) (omega arith) (many-slots (a .logs) (a .slots) (omega arith))
+returns-2 c =
+    let a = c .before .before .before .before .args in
+    let rs : List ℕ = take (a .logs) (a .reserves .now) in
+    format-counts (a .buffer .now) (a .size) (a .logs) (a .slots) (a .keeper) rs (omega arith) (omega arith) (many-slots (a .logs) (a .slots) rs (omega arith))
 
 table-size-requires : tie.Need-table-size-requires
 table-size-requires c κs = search needs
@@ -32,6 +38,15 @@ part-format-end c = search needs
 
 slice-aggregate-format : tie.Need-slice-aggregate-format
 slice-aggregate-format c = search needs
+
+sub-format-2 : tie.Need-sub-format-2
+sub-format-2 c = search needs
+
+part-format-start-2 : tie.Need-part-format-start-2
+part-format-start-2 c = search needs
+
+part-format-end-2 : tie.Need-part-format-end-2
+part-format-end-2 c = search needs
 
 format-requires : tie.Need-format-requires
 format-requires c κs = search needs
@@ -53,25 +68,30 @@ same-length c = search needs
 
 returns-3 : tie.Need-returns-3
 unfolding zeros
-returns-3 c = let a = c .before .before .before .before .before .before .before .before .before .before .before .args in
-    let n = c .before .before .before .before .before .before .before .table-size .result in
+returns-3 c =
+    let a = c .before .before .before .before .before .before .before .before .before .before .before .before .before .args in
+    let n = c .before .before .before .before .before .before .before .before .table-size .result in
     let f = c .before .before .before .before .format in
-    let k : n ≤ largest = omega (arith, c .before .before .before .before .before .before .before .table-size .ensures) in
-    format-done (a .buffer .now) (f .last .0) (a .size) n (a .logs) (a .slots) (a .keeper) (c .before .before .before .before .before .before .before .table-size .ensures) (omega arith) k (f .kept .0) (f .ensures .1 .1)
-    (ap workedNumber (sym (c .enum-told .given .1)) ∙ f .ensures .0)
+    let e = c .before .before .before .before .before .before .before .before .table-size .ensures in
+    let k : n ≤ largest = omega (arith, e) in
+    format-done (a .buffer .now) (f .last .0) (a .size) n (a .logs) (a .slots) (a .keeper) (a .reserves .now) (f .result) e (omega arith) k (f .kept .0) (f .ensures .0) (f .ensures .1 .1)
+    _ (c .enum-told .given .1)
 
 same-length-2 : tie.Need-same-length-2
 same-length-2 c = search needs
 
 returns-4 : tie.Need-returns-4
 unfolding zeros
-returns-4 c = let a = c .before .before .before .before .before .before .before .before .before .before .before .before .before .before .args in
-    let n = c .before .before .before .before .before .before .before .before .before .before .table-size .result in
+returns-4 c =
+    let a = c .before .before .before .before .before .before .before .before .before .before .before .before .before .before .before .before .args in
+    let n = c .before .before .before .before .before .before .before .before .before .before .before .table-size .result in
     let f = c .before .before .before .before .before .before .before .format in
-    let k : n ≤ largest = omega (arith, c .before .before .before .before .before .before .before .before .before .before .table-size .ensures) in
-    let e : c .wide .result ≡ numberOf (c .before .before .before .worked .given .0 .0) = c .wide .ensures .0 ∙ c .before .number .ensures in
-    format-refused (a .buffer .now) (f .last .0) (a .size) n (a .logs) (a .slots) (a .keeper) (c .before .before .before .before .before .before .before .before .before .before .table-size .ensures) (omega arith) k (f .kept .0) (f .ensures .1 .1)
-    (c .wide .result) (omega (arith, numberOf-positive (c .before .before .before .worked .given .0 .0))) (omega arith) (omega arith) (e ∙ ap workedNumber (sym (c .before .before .before .worked .given .1)) ∙ f .ensures .0)
+    let e = c .before .before .before .before .before .before .before .before .before .before .before .table-size .ensures in
+    let k : n ≤ largest = omega (arith, e) in
+    let w = c .before .before .before .worked .given in
+    let j : c .wide .result ≡ numberOf (w .0 .0) = c .wide .ensures .0 ∙ c .before .number .ensures in
+    format-refused (a .buffer .now) (f .last .0) (a .size) n (a .logs) (a .slots) (a .keeper) (a .reserves .now) (f .result) e (omega arith) k (f .kept .0) (f .ensures .0) (f .ensures .1 .1)
+    (w .0 .0) (w .0 .1 .0) (c .wide .result) (w .1) j (omega arith) (omega arith)
 
 pub format-spec : {M : Type 1} → statement M
 format-spec =
@@ -84,6 +104,9 @@ format-spec =
     part-format-start
     part-format-end
     slice-aggregate-format
+    sub-format-2
+    part-format-start-2
+    part-format-end-2
     format-requires
     enum-told
     enum-known-worked
