@@ -22,7 +22,7 @@ const CERTIFY: usize = 12;
 const COMPARE: usize = 13;
 
 /// The numbers that calls return: 15 is for lines of a script.
-const NUMBERS: [usize; 16] = [0, 1, 2, 3, 4, 5, 6, 7, 8, 9, 10, 11, 12, 13, 14, 16];
+const NUMBERS: [usize; 15] = [0, 1, 2, 3, 4, 5, 7, 8, 9, 10, 11, 12, 13, 14, 16];
 
 /// What is spoiled of plain C's first accepted answer to a call, to see that the check finds it. A promise is its first
 /// answer 16.
@@ -107,9 +107,10 @@ pub struct Check {
     random: Random,
     /// Answers by call and number.
     pub counts: [[u64; 17]; CALLS.len()],
-    /// Accepted comparisons of runs by verdict, and accepted lookups by kind.
+    /// Accepted comparisons of runs by verdict, accepted lookups by kind, and accepted ends, of fresh logs and of others.
     pub verdicts: [u64; 3],
     pub kinds: [u64; 4],
+    pub ends: [u64; 2],
     pub longest: usize,
     spoil: Option<(usize, Part)>,
 }
@@ -151,6 +152,7 @@ impl Check {
             counts: [[0; 17]; CALLS.len()],
             verdicts: [0; 3],
             kinds: [0; 4],
+            ends: [0; 2],
             longest: 0,
             spoil,
         }
@@ -346,6 +348,9 @@ impl Check {
         };
         let says = || format!("receipt, table; log {log}, nonce {}", hex(nonce));
         let answer = self.case(END, &[&receipt, table], run, says)?;
+        if answer.number == 0 {
+            self.ends[answer.lent[0][6] as usize] += 1;
+        }
         reports_if_done(END, answer, 6)
     }
 
@@ -1128,7 +1133,7 @@ impl Check {
         Ok(())
     }
 
-    /// Document 01's script, as calls; what line 6 shows is document 02's.
+    /// Document 01's script, as calls, with an end of a fresh log; what line 6 and that end show is document 02's.
     fn example(&mut self) -> Checked<()> {
         let number = |n: u64| {
             let mut v = vec![0; 32];
@@ -1148,6 +1153,7 @@ impl Check {
         };
         t = expect(self.format(&t, 2, 3, 7, &zeros, &[0, 0])?, 0, &[], &[])?.lent.swap_remove(0);
         self.shows(&t, Some(3))?;
+        expect(self.end(&t, 1, &zeros, 160)?, 0, &[], &[0, 0, 0, 0])?;
         t = expect(self.append(&t, 0, &number(41))?, 0, &[1, 1], &[])?.lent.swap_remove(0);
         self.shows(&t, Some(2))?;
         t = expect(self.append(&t, 0, &number(42))?, 0, &[1, 2], &[])?.lent.swap_remove(0);
@@ -1184,7 +1190,7 @@ impl Check {
             2 => changed[6] = self.random.below(6) as u8,
             3 => changed[7] = self.random.pick(&[0, 1, 14, 15, 16, 17, 255]),
             4 => put(&mut changed, 16, 8, self.random.pick(&[0, 1, position.wrapping_add(1), u64::MAX])),
-            5 => put(&mut changed, 24, 8, self.random.pick(&[0, 1, position - 1, position, u64::MAX])),
+            5 => put(&mut changed, 24, 8, self.random.pick(&[0, 1, position.wrapping_sub(1), position, u64::MAX])),
             6 => {
                 let name = self.random.pick(&[b"LOOKUP", b"END\0\0\0", b"END\0\0P", b"ENDKUP", b"lookup", b"\0OOKUP"]);
                 changed[..6].copy_from_slice(name);
@@ -1230,8 +1236,8 @@ impl Check {
         Ok(())
     }
 
-    /// Of a station of three: a good receipt, a member's that is no possible entry, a stranger's, and a member's of an
-    /// end. The first and the last are hashed.
+    /// Of a station of three: a good receipt, a member's that is no possible entry, a stranger's, a member's of an end, and
+    /// one of the end of a fresh log. The first and the last two are hashed.
     fn mixed(&mut self) -> Checked<()> {
         let (keys, nonce, pair) = (self.random.bytes(96), self.random.bytes(32), self.random.bytes(64));
         let key = |m: usize| &keys[32 * m..32 * (m + 1)];
@@ -1243,14 +1249,15 @@ impl Check {
         let good = |keeper: u64| Receipt::assigned(keeper, 0, 9, &nonce, &pair);
         let impossible = Receipt { reference: 8, ..good(6) };
         let end = Receipt { name: *b"END\0\0\0", ..good(7) };
-        for (receipt, m) in [(good(5), 0), (impossible, 1), (good(8), 1), (end, 2)] {
+        let fresh = Receipt::fresh_end(6, 0, &nonce);
+        for (receipt, m) in [(good(5), 0), (impossible, 1), (good(8), 1), (end, 2), (fresh, 1)] {
             certificate.extend(receipt.write(key(m)));
         }
         let answer = self.certify(&roster, &nonce, 0, 9, &certificate)?;
         if answer.number != 13 {
             return Err(format!("certify: one good receipt of three members gives {}", answer.number));
         }
-        reports(CERTIFY, answer, 12)?;
+        reports(CERTIFY, answer, 18)?;
         Ok(())
     }
 
@@ -1422,6 +1429,7 @@ impl Check {
             }
         }
         let (key, nonce, pair) = (self.random.bytes(32), self.random.bytes(32), self.random.bytes(64));
+        let mut written = vec![Receipt::fresh_end(7, 3, &nonce)];
         for (kind, reference, shows) in [(0, 4, false), (1, 5, true), (2, 6, true), (2, 6, false), (3, 9, false)] {
             let mut fields = Receipt::assigned(7, 3, 5, &nonce, &pair);
             fields.kind = kind;
@@ -1429,6 +1437,9 @@ impl Check {
             if !shows {
                 fields.pair.fill(0);
             }
+            written.push(fields);
+        }
+        for fields in written {
             let receipt = fields.write(&key);
             for at in (0..32).chain([32, 63, 64, 95, 96, 127]) {
                 for x in 0..=255 {
@@ -1567,21 +1578,27 @@ pub fn run(seed: u64, times: u64) -> bool {
         }
         println!();
     }
-    let k = check.kinds;
+    let (k, e) = (check.kinds, check.ends);
     println!("  lookups: {} unassigned, {} assigned, {} skipped, {} forgotten", k[0], k[1], k[2], k[3]);
+    println!("  ends: {} of fresh logs, {} of others", e[0], e[1]);
     println!(
         "  comparisons: {} differ, {} agree, {} collisions (one would need a collision of SHA-256)",
         check.verdicts[0], check.verdicts[1], check.verdicts[2]
     );
     println!("  longest message hashed: {} bytes", check.longest);
     let mut full = true;
-    for number in NUMBERS {
-        if check.counts.iter().all(|c| c[number] == 0) {
+    for number in 0..17 {
+        let came = check.counts.iter().any(|c| c[number] != 0);
+        if number == 6 && came {
+            println!("  number 6 came up, which no call answers any more");
+            full = false;
+        }
+        if NUMBERS.contains(&number) && !came {
             println!("  number {number} never came up: the check is too weak");
             full = false;
         }
     }
-    if check.kinds.contains(&0) || check.verdicts[0] == 0 || check.verdicts[1] == 0 {
+    if check.kinds.contains(&0) || check.ends.contains(&0) || check.verdicts[0] == 0 || check.verdicts[1] == 0 {
         println!("  some kind or verdict never came up: the check is too weak");
         full = false;
     }

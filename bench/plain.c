@@ -577,16 +577,17 @@ keeper_result plain_end(const uint8_t *table, size_t table_bytes, uint64_t log, 
         return refused(KEEPER_NO_LOG);
     const uint8_t *r = table + row_at(log);
     uint32_t last = get16(r + R_LAST);
-    if (last == 0)
-        return refused(KEEPER_NOTHING_HELD);
     uint64_t high = get64(r + R_HIGH);
+    if (last == 0) /* a fresh log: high is 0 */
+        return done(put_receipt(receipt, table, name_end, KEEPER_UNASSIGNED, log, high, high, nonce, NULL));
     return done(put_receipt(receipt, table, name_end, KEEPER_ASSIGNED, log, high, high, nonce,
                             table + slot_at(logs, last)));
 }
 
 /* ---- the verifier ---- */
 
-/* Whether the 160 bytes are those of a possible entry, the tag apart; a skipped one may show anything (document 02, [3]). */
+/* Whether the 160 bytes are those of a possible entry, the tag apart; a skipped one may show anything (document 02, [3]), and
+ * the end of a fresh log is the one with position 0 ([6]). */
 static int possible(const uint8_t *c)
 {
     int end = memcmp(c + C_NAME, name_end, 6) == 0;
@@ -594,8 +595,10 @@ static int possible(const uint8_t *c)
         return 0;
     uint8_t kind = c[C_KIND];
     uint64_t position = get64(c + C_POSITION), reference = get64(c + C_REFERENCE);
-    if (c[C_LOG] > 15 || position < 1)
+    if (c[C_LOG] > 15)
         return 0;
+    if (position == 0)
+        return end && kind == KEEPER_UNASSIGNED && reference == 0 && all_zero(c + C_VALUE, 8);
     if (kind == KEEPER_ASSIGNED)
         return reference == position;
     if (end)

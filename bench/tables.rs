@@ -163,6 +163,12 @@ impl Receipt {
         }
     }
 
+    /// The end of a fresh log.
+    pub fn fresh_end(keeper: u64, log: u8, nonce: &[u8]) -> Receipt {
+        let name = *b"END\0\0\0";
+        Receipt { name, kind: 0, reference: 0, ..Receipt::assigned(keeper, log, 0, nonce, &[0; 64]) }
+    }
+
     pub fn write(&self, key: &[u8]) -> Vec<u8> {
         let mut c = vec![0; 160];
         c[..6].copy_from_slice(&self.name);

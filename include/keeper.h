@@ -35,7 +35,7 @@ extern "C" {
 #endif
 
 /* One more with each change of a prototype, a constant, a rule, or the bytes of a table or receipt. */
-#define KEEPER_VERSION 6
+#define KEEPER_VERSION 7
 
 /* Numbers returned. */
 enum {
@@ -45,7 +45,7 @@ enum {
     KEEPER_POSITION = 3,        /* lookup of 0; advance to H or below; truncate outside L < n <= H */
     KEEPER_SPENT = 4,           /* append to a log whose H is 2^64 - 1 */
     KEEPER_FULL = 5,            /* append or advance, and no slot is free */
-    KEEPER_NOTHING_HELD = 6,    /* end of a fresh log */
+                                /* 6 is reserved: it was for the end of a fresh log, and no call returns it any more */
     KEEPER_LENGTH = 7,          /* a buffer of another length than its own, another number of reserves than logs, or a
                                    message longer than FIPS 180-4 allows */
     KEEPER_COUNTS = 8,          /* format with a log or slot count out of range, or reserves that together pass the slots */
@@ -85,7 +85,7 @@ enum {
     KEEPER_AT_KIND = 6,       /*  1: a receipt's kind, below */
     KEEPER_AT_LOG = 7,        /*  1 */
     KEEPER_AT_KEEPER = 8,     /*  8: the keeper's number */
-    KEEPER_AT_POSITION = 16,  /*  8: the position asked for, or that of the log's end */
+    KEEPER_AT_POSITION = 16,  /*  8: the position asked for, or that of the log's end, 0 while the log is fresh */
     KEEPER_AT_REFERENCE = 24, /*  8: unassigned: the highest position; assigned: the position itself; skipped: that of the
                                      next entry; forgotten: the lowest position */
     KEEPER_AT_NONCE = 32,     /* 32: the asker's own fresh bytes */
@@ -172,8 +172,9 @@ keeper_result keeper_lookup(const uint8_t *table, size_t table_bytes, uint64_t l
                             const uint8_t *nonce, size_t nonce_bytes, uint8_t *receipt, size_t receipt_bytes,
                             uint64_t *examined);
 
-/* Writes a receipt of 160 bytes on the log's last entry. Blocks: 6, or 0 where refused. Refused, in this order: 7 the nonce's
- * or receipt's length; 1; 2; 6 for a log without an entry. */
+/* Writes a receipt of 160 bytes on the log's last entry. That of a fresh log says that it has none: unassigned, position and
+ * reference 0, value and digest zero. Blocks: 6, or 0 where refused. Refused, in this order: 7 the nonce's or receipt's length;
+ * 1; 2. */
 keeper_result keeper_end(const uint8_t *table, size_t table_bytes, uint64_t log, const uint8_t *nonce,
                          size_t nonce_bytes, uint8_t *receipt, size_t receipt_bytes);
 
@@ -184,7 +185,8 @@ keeper_result keeper_verify_lookup(const uint8_t *key, size_t key_bytes, const u
                                    const uint8_t *nonce, size_t nonce_bytes, uint64_t keeper, uint64_t log,
                                    uint64_t position, keeper_verdict *verdict);
 
-/* The same for the question for a log's end, which names no position. */
+/* The same for the question for a log's end, which names no position. The end of a fresh log is the one receipt with position 0
+ * that is accepted. */
 keeper_result keeper_verify_end(const uint8_t *key, size_t key_bytes, const uint8_t *receipt, size_t receipt_bytes,
                                 const uint8_t *nonce, size_t nonce_bytes, uint64_t keeper, uint64_t log,
                                 keeper_verdict *verdict);

@@ -47,8 +47,17 @@ int main(void)
     uint8_t value[KEEPER_VALUE_BYTES] = {0};
     uint64_t low, high;
 
-    /* Readings 412, 431 and 455 at positions 1, 2 and 5, the first of which is then forgotten. */
     uint64_t failed = keeper_format(table, sizeof table, LOGS, SLOTS, KEEPER, key, sizeof key, reserves, LOGS).number;
+    printf("# key,KEEPER,KEY; then questions: lookup,KEEPER,LOG,POSITION,NONCE,RECEIPT and end,KEEPER,LOG,NONCE,RECEIPT\n");
+    printf("key,%d", KEEPER);
+    print_hex(',', key, sizeof key);
+    putchar('\n');
+
+    /* The log's end before its first reading. */
+    failed |= fetch(0);
+    print_question(0, sizeof receipt);
+
+    /* Readings 412, 431 and 455 at positions 1, 2 and 5, the first of which is then forgotten. */
     value[30] = 1, value[31] = 156;
     failed |= keeper_append(table, sizeof table, STAGE, value, sizeof value, &low, &high).number;
     value[31] = 175;
@@ -57,10 +66,6 @@ int main(void)
     failed |= keeper_advance(table, sizeof table, STAGE, 5, digest, sizeof digest, value, sizeof value, &low, &high).number;
     failed |= keeper_truncate(table, sizeof table, STAGE, 2, &low, &high).number;
 
-    printf("# key,KEEPER,KEY; then questions: lookup,KEEPER,LOG,POSITION,NONCE,RECEIPT and end,KEEPER,LOG,NONCE,RECEIPT\n");
-    printf("key,%d", KEEPER);
-    print_hex(',', key, sizeof key);
-    putchar('\n');
     for (size_t i = 0; i < sizeof good / sizeof *good; i++) {
         failed |= fetch(good[i]);
         print_question(good[i], sizeof receipt);

@@ -26,7 +26,7 @@ use Rattle.a2m.specs.declared.Opening.the-variants as opening
 use Rattle.a2m.specs.Call.{Call, append, advance, truncate, logOf, Reply, refused, done}
 use Rattle.entry.specs.Digest.{entryDigest}
 use Rattle.a2m.specs.NewEntry.{newEntry}
-use Rattle.a2m.specs.ImageCalls.{rowIn, wrongLength, misplaced, spent, nothingHeld, full, promised, withheld, put, previousIn, releases, lowered, imageDone, imageAccept}
+use Rattle.a2m.specs.ImageCalls.{rowIn, wrongLength, misplaced, spent, full, promised, withheld, put, previousIn, releases, lowered, imageDone, imageAccept}
 use Rattle.a2m.specs.TableCalls.{tableStep}
 use Rattle.a2m.specs.Opened.{openingOf, Opened, entryAt}
 use Rattle.a2m.proofs.Cases.{refused-step, accepted-step, wrong-length, wrong-position, is-spent, is-full, is-promised, no-refusal}
@@ -106,20 +106,20 @@ module _ (b x : List ℕ) where
     not-spent n = ne-eqb _ _ (λ (q : rowIn (readTable b) (v .log) .high ≡ 2 ^ 64 - 1). n (high-is ∙ q))
 
     pub append-full : v .row .high ≢ 2 ^ 64 - 1 → v .free ≡ 0 → Steps b (append (v .log) x) (refused 5) 0 b
-    unfolding misplaced spent nothingHeld full
+    unfolding misplaced spent full
     append-full n e =
         let call = append (v .log) x in
-        refused-step b call 5 (is-full b call (append-sized (v .log) h) (o .whole) (opened-known b v o) refl (not-spent n) refl (eq-eqb _ _ (sym (view-free b v o) ∙ e)))
+        refused-step b call 5 (is-full b call (append-sized (v .log) h) (o .whole) (opened-known b v o) refl (not-spent n) (eq-eqb _ _ (sym (view-free b v o) ∙ e)))
 
     pub append-promised : v .row .high ≢ 2 ^ 64 - 1 → v .free ≢ 0 → v .count ≤ v .others → Steps b (append (v .log) x) (refused 16) 0 b
-    unfolding misplaced spent nothingHeld full promised
+    unfolding misplaced spent full promised
     append-promised n f q =
         let call = append (v .log) x in
-        refused-step b call 16 (is-promised b call (append-sized (v .log) h) (o .whole) (opened-known b v o) refl (not-spent n) refl (ne-eqb _ _ (λ (z : readTable b .free ≡ 0). f (view-free b v o ∙ z))) (may-not b v o q))
+        refused-step b call 16 (is-promised b call (append-sized (v .log) h) (o .whole) (opened-known b v o) refl (not-spent n) (ne-eqb _ _ (λ (z : readTable b .free ≡ 0). f (view-free b v o ∙ z))) (may-not b v o q))
 
     pub append-done : v .row .high ≢ 2 ^ 64 - 1 → v .free ≢ 0 → v .others < v .count → (after : Row) (d : List ℕ) → after ≡ appendedRow (v .row) (v .free) → d ≡ entryDigest (after .high) x (slotAt (readTable b .slots) (v .row .last) .digest)
         → (r : Reply) (w : ℕ) (a : List ℕ) → r ≡ done (v .row .low) (after .high) → w ≡ 2 → a ≡ writeTable (put (readTable b) (v .log) (entryAt (after .high) x d)) → Steps b (append (v .log) x) r w a
-    unfolding misplaced spent nothingHeld full promised imageAccept imageDone appendedRow advancedRow
+    unfolding misplaced spent full promised imageAccept imageDone appendedRow advancedRow
     append-done n f q after d ea ed r w a er ew es =
         let call = append (v .log) x in
         let m = readTable b in
@@ -129,7 +129,7 @@ module _ (b x : List ℕ) where
         ap (entryAt (after .high) x) (ed ∙ ap (λ (w : Row). entryDigest (after .high) x (slotAt (m .slots) (w .last) .digest)) (view-row b v o))
         ∙ ap (λ (k : ℕ). newEntry k x (previousIn m g)) top in
         accepted-step b call r w a
-        (no-refusal b call (append-sized g h) (o .whole) (opened-known b v o) refl (not-spent n) refl (ne-eqb _ _ (λ (z : m .free ≡ 0). f (view-free b v o ∙ z))) (may b v o q))
+        (no-refusal b call (append-sized g h) (o .whole) (opened-known b v o) refl (not-spent n) (ne-eqb _ _ (λ (z : m .free ≡ 0). f (view-free b v o ∙ z))) (may b v o q))
         (er ∙ ap₂ done (ap (λ (w : Row). w .low) (view-row b v o)) top ∙ sym (put-answer m g (newEntry (rowIn m g .high + 1) x (previousIn m g)) (omega (arith, o .log, length-rows b))))
         ew
         (es ∙ ap (λ (e : Entry). writeTable (put m g e)) entry)
@@ -160,27 +160,27 @@ module _ (b : List ℕ) (n : ℕ) (d x : List ℕ) where
         refused-step b call 3 (wrong-position b call (advance-sized (v .log) h k) (o .whole) (opened-known b v o) (le-leb n _ (omega (arith, top-is))))
 
     pub advance-full : v .row .high < n → v .free ≡ 0 → Steps b (advance (v .log) n d x) (refused 5) 0 b
-    unfolding misplaced spent nothingHeld full
+    unfolding misplaced spent full
     advance-full p e =
         let call = advance (v .log) n d x in
-        refused-step b call 5 (is-full b call (advance-sized (v .log) h k) (o .whole) (opened-known b v o) (lt-leb n _ (omega (arith, top-is))) refl refl (eq-eqb _ _ (sym (view-free b v o) ∙ e)))
+        refused-step b call 5 (is-full b call (advance-sized (v .log) h k) (o .whole) (opened-known b v o) (lt-leb n _ (omega (arith, top-is))) refl (eq-eqb _ _ (sym (view-free b v o) ∙ e)))
 
     pub advance-promised : v .row .high < n → v .free ≢ 0 → v .count ≤ v .others → Steps b (advance (v .log) n d x) (refused 16) 0 b
-    unfolding misplaced spent nothingHeld full promised
+    unfolding misplaced spent full promised
     advance-promised p f q =
         let call = advance (v .log) n d x in
-        refused-step b call 16 (is-promised b call (advance-sized (v .log) h k) (o .whole) (opened-known b v o) (lt-leb n _ (omega (arith, top-is))) refl refl (ne-eqb _ _ (λ (z : readTable b .free ≡ 0). f (view-free b v o ∙ z))) (may-not b v o q))
+        refused-step b call 16 (is-promised b call (advance-sized (v .log) h k) (o .whole) (opened-known b v o) (lt-leb n _ (omega (arith, top-is))) refl (ne-eqb _ _ (λ (z : readTable b .free ≡ 0). f (view-free b v o ∙ z))) (may-not b v o q))
 
     pub advance-done : v .row .high < n → v .free ≢ 0 → v .others < v .count → (after : Row) (y : List ℕ) → after ≡ advancedRow (v .row) n (v .free) → y ≡ entryDigest n x d
         → (r : Reply) (w : ℕ) (a : List ℕ) → r ≡ done (v .row .low) (after .high) → w ≡ 2 → a ≡ writeTable (put (readTable b) (v .log) (entryAt (after .high) x y)) → Steps b (advance (v .log) n d x) r w a
-    unfolding misplaced spent nothingHeld full promised imageAccept imageDone advancedRow
+    unfolding misplaced spent full promised imageAccept imageDone advancedRow
     advance-done p f q after y ea ey r w a er ew es =
         let call = advance (v .log) n d x in
         let m = readTable b in
         let g = v .log in
         let top : after .high ≡ n = ap (λ (w : Row). w .high) ea in
         accepted-step b call r w a
-        (no-refusal b call (advance-sized g h k) (o .whole) (opened-known b v o) (lt-leb n _ (omega (arith, top-is))) refl refl (ne-eqb _ _ (λ (z : m .free ≡ 0). f (view-free b v o ∙ z))) (may b v o q))
+        (no-refusal b call (advance-sized g h k) (o .whole) (opened-known b v o) (lt-leb n _ (omega (arith, top-is))) refl (ne-eqb _ _ (λ (z : m .free ≡ 0). f (view-free b v o ∙ z))) (may b v o q))
         (er ∙ ap₂ done (ap (λ (w : Row). w .low) (view-row b v o)) top ∙ sym (put-answer m g (newEntry n x d) (omega (arith, o .log, length-rows b))))
         ew
         (es ∙ ap₂ (λ (k : ℕ) (l : List ℕ). writeTable (put m g (entryAt k x l))) top ey)
@@ -225,7 +225,7 @@ module _ (b : List ℕ) (n : ℕ) where
         outside (ap₂ (λ (t u : Bool). not (t && u)) (lt-ltb (rowIn (readTable b) (v .log) .low) n (omega (arith, low-at))) (lt-leb n (rowIn (readTable b) (v .log) .high) (omega (arith, high-at))))
 
     pub truncate-done : v .row .low < n → n ≤ v .row .high → (r : Reply) (w : ℕ) (a : List ℕ) → r ≡ done n (v .row .high) → w ≡ 0 → a ≡ writeTable (lowered (releases (v .slots) n (readTable b) (v .log)) (v .log) n) → Steps b (truncate (v .log) n) r w a
-    unfolding misplaced spent nothingHeld full promised imageAccept imageDone lowered truncatedRow
+    unfolding misplaced spent full promised imageAccept imageDone lowered truncatedRow
     truncate-done k h r w a er ew es =
         let call = truncate (v .log) n in
         let m = readTable b in
@@ -236,7 +236,7 @@ module _ (b : List ℕ) (n : ℕ) where
         let count : v .slots ≡ length (m .slots) = sym (slots-length b v o) in
         accepted-step b call r w a
         (no-refusal b call (truncate-sized g) (o .whole) (opened-known b v o)
-        (ap₂ (λ (t u : Bool). not (t && u)) (lt-ltb (rowIn m g .low) n (omega (arith, low-at))) (le-leb n (rowIn m g .high) (omega (arith, high-at)))) refl refl refl refl)
+        (ap₂ (λ (t u : Bool). not (t && u)) (lt-ltb (rowIn m g .low) n (omega (arith, low-at))) (le-leb n (rowIn m g .high) (omega (arith, high-at)))) refl refl refl)
         (er ∙ ap (done n) (high-at ∙ sym (q .1)) ∙ sym (ap (λ (w : Row). done (w .low) (w .high)) row) ∙ ap (λ (f : ℕ). done (rowIn (lowered (releases f n m g) g n) g .low) (rowIn (lowered (releases f n m g) g n) g .high)) count)
         ew
         (es ∙ ap (λ (f : ℕ). writeTable (lowered (releases f n m g) g n)) count)

@@ -8,7 +8,7 @@ use Rattle.refusal.specs.Order.{firstFault}
 use Rattle.refusal.proofs.OrderLaws.{peel}
 use Rattle.layout.specs.Image.{Image}
 use Rattle.a2m.specs.Call.{Call, logOf}
-use Rattle.a2m.specs.ImageCalls.{rowIn, wrongLength, misplaced, spent, nothingHeld, full, promised, faults}
+use Rattle.a2m.specs.ImageCalls.{rowIn, wrongLength, misplaced, spent, full, promised, faults}
 
 pub record Clear (torn : Bool) (m : Image) (call : Call) : Type 0 where
   pub sized : wrongLength call ≡ false
@@ -16,7 +16,6 @@ pub record Clear (torn : Bool) (m : Image) (call : Call) : Type 0 where
   pub log : leb (length (m .rows)) (logOf call) ≡ false
   pub position : misplaced (rowIn m (logOf call)) call ≡ false
   pub room : spent (rowIn m (logOf call)) call ≡ false
-  pub held : nothingHeld (rowIn m (logOf call)) call ≡ false
   pub free : full m call ≡ false
   pub unpromised : promised m call ≡ false
 
@@ -29,7 +28,6 @@ clear torn m call h =
     let p2 = peel 2 (leb (length (m .rows)) (logOf call)) _ (p1 .1) in
     let p3 = peel 3 (misplaced r call) _ (p2 .1) in
     let p4 = peel 4 (spent r call) _ (p3 .1) in
-    let p6 = peel 6 (nothingHeld r call) _ (p4 .1) in
-    let p5 = peel 5 (full m call) _ (p6 .1) in
+    let p5 = peel 5 (full m call) _ (p4 .1) in
     let p16 = peel 16 (promised m call) _ (p5 .1) in
-    record { sized = p7 .0; whole = p1 .0; log = p2 .0; position = p3 .0; room = p4 .0; held = p6 .0; free = p5 .0; unpromised = p16 .0 }
+    record { sized = p7 .0; whole = p1 .0; log = p2 .0; position = p3 .0; room = p4 .0; free = p5 .0; unpromised = p16 .0 }

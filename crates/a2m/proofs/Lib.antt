@@ -5,9 +5,11 @@ pub mod Chained
 pub mod Clear
 pub mod EnterLaws
 pub mod FitsAfter
+pub mod FreshEnd
 pub mod Links
 pub mod Lists
 pub mod Moves
+pub mod NeverSix
 pub mod OpenedLaws
 pub mod ReadLaws
 pub mod ReleaseLaws

@@ -26,11 +26,11 @@ use Rattle.a2m.specs.declared.View.{View}
 use Rattle.a2m.specs.declared.Hit.{Hit}
 use Rattle.a2m.specs.declared.Opening.the-variants as opening
 use Rattle.a2m.specs.Call.{Call, lookup, end, logOf, Reply, refused, found, ended}
-use Rattle.a2m.specs.ImageCalls.{rowIn, entriesIn, wrongLength, misplaced, spent, nothingHeld, full, promised, lookupAttested, endAttested, imageAccept}
+use Rattle.a2m.specs.ImageCalls.{rowIn, entriesIn, wrongLength, misplaced, spent, full, promised, lookupAttested, endKind, endAttested, imageAccept}
 use Rattle.a2m.specs.Search.{Found, lookedUp}
 use Rattle.a2m.specs.TableCalls.{tableRefusal, tableStep}
 use Rattle.a2m.specs.Opened.{openingOf, Opened, foundOf, receiptAfter}
-use Rattle.a2m.proofs.Cases.{refused-step, accepted-step, wrong-length, wrong-position, holds-nothing, no-refusal}
+use Rattle.a2m.proofs.Cases.{refused-step, accepted-step, wrong-length, wrong-position, no-refusal}
 use Rattle.a2m.proofs.OpenedLaws.{not-opened, view-row, opened-known}
 
 -- the answer r, the blocks k and the receipt out after the call
@@ -84,10 +84,10 @@ module _ (b : List ℕ) (s : ℕ) (f : Facts) (nonce k x d out : List ℕ) (ek :
 
 -- what the facts attest is what the definitions say
 of-end : (b c : List ℕ) (v : View) (keeper : ℕ) → v .row ≡ rowIn (readTable b) (v .log) → keeper ≡ keeperOf b
-    → attestationOf (facts name.End 1 (v .log) keeper (v .row .high) (v .row .high)) c (slotAt (readTable b .slots) (v .row .last) .value) (slotAt (readTable b .slots) (v .row .last) .digest) ≡ endAttested (readTable b) (v .log) c
+    → attestationOf (facts name.End (endKind (v .row .last)) (v .log) keeper (v .row .high) (v .row .high)) c (slotAt (readTable b .slots) (v .row .last) .value) (slotAt (readTable b .slots) (v .row .last) .digest) ≡ endAttested (readTable b) (v .log) c
 unfolding attestationOf nameBytes endAttested readTable
 of-end b c v keeper er ek =
-    ap₂ (λ (w : Row) (k : ℕ). attestationOf (facts name.End 1 (v .log) k (w .high) (w .high)) c (slotAt (readTable b .slots) (w .last) .value) (slotAt (readTable b .slots) (w .last) .digest)) er ek
+    ap₂ (λ (w : Row) (k : ℕ). attestationOf (facts name.End (endKind (w .last)) (v .log) k (w .high) (w .high)) c (slotAt (readTable b .slots) (w .last) .value) (slotAt (readTable b .slots) (w .last) .digest)) er ek
 
 of-lookup : (b c : List ℕ) (v : View) (n : ℕ) (hit : Hit) (keeper : ℕ) → keeper ≡ keeperOf b
     → attestationOf (facts name.Lookup (hit .kind) (v .log) keeper n (hit .reference)) c (slotAt (readTable b .slots) (hit .slot) .value) (slotAt (readTable b .slots) (hit .slot) .digest) ≡ lookupAttested (readTable b) (v .log) n c (foundOf (readTable b .slots) hit)
@@ -96,6 +96,14 @@ of-lookup b c v n hit keeper ek =
     ap (λ (k : ℕ). attestationOf (facts name.Lookup (hit .kind) (v .log) k n (hit .reference)) c (slotAt (readTable b .slots) (hit .slot) .value) (slotAt (readTable b .slots) (hit .slot) .digest)) ek
 
 -- ---- end
+
+pub kind-fresh : (last : ℕ) → last ≡ 0 → 0 ≡ endKind last
+unfolding endKind
+kind-fresh last h = simp (eq-eqb last 0 h)
+
+pub kind-held : (last : ℕ) → last ≢ 0 → 1 ≡ endKind last
+unfolding endKind
+kind-held last h = simp (ne-eqb last 0 h)
 
 module _ (b c old : List ℕ) where
   pub end-sized : (g k : ℕ) → length c ≡ 32 → k ≡ 160 → wrongLength (end g c k) ≡ false
@@ -111,25 +119,16 @@ module _ (b c old : List ℕ) where
   end-receipt g h n = read-refused b (end g c (length old)) old 7 (wrong-length b (end g c (length old)) (wrong-receipt c (length old) h n))
 
   module _ (v : View) (o : Opened b v) (h : length c ≡ 32) (k : length old ≡ 160) where
-    last-is : v .row .last ≡ rowIn (readTable b) (v .log) .last
-    last-is = ap (λ (r : Row). r .last) (view-row b v o)
-
-    pub end-fresh : v .row .last ≡ 0 → Reads b (end (v .log) c (length old)) (refused 6) 0 old old
-    unfolding misplaced spent nothingHeld
-    end-fresh e =
-        let call = end (v .log) c (length old) in
-        read-refused b call old 6 (holds-nothing b call (end-sized (v .log) (length old) h k) (o .whole) (opened-known b v o) refl refl (eq-eqb _ _ (sym last-is ∙ e)))
-
-    pub end-done : v .row .last ≢ 0 → (keeper w : ℕ) (out : List ℕ) → keeper ≡ keeperOf b → w ≡ 6
-        → out ≡ receiptBytes (readTable b .key) (attestationOf (facts name.End 1 (v .log) keeper (v .row .high) (v .row .high)) c (slotAt (readTable b .slots) (v .row .last) .value) (slotAt (readTable b .slots) (v .row .last) .digest))
+    pub end-done : (kind keeper w : ℕ) (out : List ℕ) → kind ≡ endKind (v .row .last) → keeper ≡ keeperOf b → w ≡ 6
+        → out ≡ receiptBytes (readTable b .key) (attestationOf (facts name.End kind (v .log) keeper (v .row .high) (v .row .high)) c (slotAt (readTable b .slots) (v .row .last) .value) (slotAt (readTable b .slots) (v .row .last) .digest))
         → Reads b (end (v .log) c (length old)) (ended out) w out old
-    unfolding misplaced spent nothingHeld full promised imageAccept receiptAfter
-    end-done n keeper w out ek ew e =
+    unfolding misplaced spent full promised imageAccept receiptAfter
+    end-done kind keeper w out en ek ew e =
         let call = end (v .log) c (length old) in
         let m = readTable b in
         read-accepted b call (ended out) w out old
-        (no-refusal b call (end-sized (v .log) (length old) h k) (o .whole) (opened-known b v o) refl refl (ne-eqb _ _ (λ (q : rowIn m (v .log) .last ≡ 0). n (last-is ∙ q))) refl refl)
-        (ap ended (e ∙ ap (receiptBytes (m .key)) (of-end b c v keeper (view-row b v o) ek)))
+        (no-refusal b call (end-sized (v .log) (length old) h k) (o .whole) (opened-known b v o) refl refl refl refl)
+        (ap ended (e ∙ ap (receiptBytes (m .key)) (ap (λ (t : ℕ). attestationOf (facts name.End t (v .log) keeper (v .row .high) (v .row .high)) c (slotAt (m .slots) (v .row .last) .value) (slotAt (m .slots) (v .row .last) .digest)) en ∙ of-end b c v keeper (view-row b v o) ek)))
         ew
         refl
 
@@ -158,13 +157,13 @@ module _ (b c old : List ℕ) (n : ℕ) where
     pub lookup-done : n ≢ 0 → (hit : Hit) (keeper w : ℕ) (out : List ℕ) → foundOf (readTable b .slots) hit ≡ lookedUp (v .row) (entriesIn (readTable b) (v .log)) n → keeper ≡ keeperOf b → w ≡ 6
         → out ≡ receiptBytes (readTable b .key) (attestationOf (facts name.Lookup (hit .kind) (v .log) keeper n (hit .reference)) c (slotAt (readTable b .slots) (hit .slot) .value) (slotAt (readTable b .slots) (hit .slot) .digest))
         → Reads b (lookup (v .log) n c (length old)) (found out (hit .examined)) w out old
-    unfolding misplaced spent nothingHeld full promised imageAccept receiptAfter
+    unfolding misplaced spent full promised imageAccept receiptAfter
     lookup-done z hit keeper w out eh ek ew e =
         let call = lookup (v .log) n c (length old) in
         let m = readTable b in
         let f : foundOf (m .slots) hit ≡ lookedUp (rowIn m (v .log)) (entriesIn m (v .log)) n = eh ∙ ap (λ (r : Row). lookedUp r (entriesIn m (v .log)) n) (view-row b v o) in
         read-accepted b call (found out (hit .examined)) w out old
-        (no-refusal b call (lookup-sized (v .log) (length old) h k) (o .whole) (opened-known b v o) (ne-eqb n 0 z) refl refl refl refl)
+        (no-refusal b call (lookup-sized (v .log) (length old) h k) (o .whole) (opened-known b v o) (ne-eqb n 0 z) refl refl refl)
         (ap (λ (x : List ℕ). found x (hit .examined)) (e ∙ ap (receiptBytes (m .key)) (of-lookup b c v n hit keeper ek)) ∙ ap (λ (y : Found). found (receiptBytes (m .key) (lookupAttested m (v .log) n c y)) (y .examined)) f)
         ew
         refl

@@ -20,7 +20,7 @@ use Rattle.table.proofs.WalkLaws.{chain-none}
 use Rattle.table.proofs.WholeLaws.{whole-image}
 use Rattle.table.proofs.ReserveLaws.{whole-linked, lack-below}
 use Rattle.a2m.specs.Call.{Call, append, advance, truncate, lookup, end, logOf, Puts}
-use Rattle.a2m.specs.ImageCalls.{rowIn, nothingHeld, full, promised, withheld}
+use Rattle.a2m.specs.ImageCalls.{rowIn, full, promised, withheld}
 use Rattle.a2m.specs.TableCalls.{tableRefusal}
 use Rattle.a2m.specs.Room.{Passes}
 use Rattle.a2m.proofs.Cases.{is-full, is-promised, no-refusal}
@@ -37,15 +37,7 @@ reserve b g = rowIn (readTable b) g .reserve
 abbrev pub MayTake : List ℕ → ℕ → Type 0
 MayTake b g = (held b g < reserve b g) ⊎ (lackBut (readTable b) g < length (freeChain (readTable b)))
 
--- of a put the tests of 6, 5 and 16 are these
-puts-held : (b : List ℕ) (c : Call) → Puts c → nothingHeld (rowIn (readTable b) (logOf c)) c ≡ false
-unfolding nothingHeld
-puts-held b (append g x) p = refl
-puts-held b (advance g n d x) p = refl
-puts-held b (truncate g n) p = absurd p
-puts-held b (lookup g n k l) p = absurd p
-puts-held b (end g k l) p = absurd p
-
+-- of a put the tests of 5 and 16 are these
 puts-full : (m : Image) (c : Call) → Puts c → full m c ≡ eqb (m .free) 0
 unfolding full
 puts-full m (append g x) p = refl
@@ -87,18 +79,18 @@ module _ (b : List ℕ) (c : Call) (p : Puts c) (h : Passes b c) where
   taken t =
       let k = outnumber t in
       let f : readTable b .free ≢ 0 = λ e. let z : length (freeChain (readTable b)) ≡ 0 = ap length (free-none e) in omega arith in
-      no-refusal b c (h .sized) (h .whole) known (h .position) (h .room) (puts-held b c p) (puts-full (readTable b) c p ∙ ne-eqb (readTable b .free) 0 f)
+      no-refusal b c (h .sized) (h .whole) known (h .position) (h .room) (puts-full (readTable b) c p ∙ ne-eqb (readTable b .free) 0 f)
       (puts-promised (readTable b) c p ∙ and-not (not (ltb (held b (logOf c)) (reserve b (logOf c)))) (lt-leb (length (freeChain (readTable b))) (lackBut (readTable b) (logOf c)) k))
 
   is-5 : freeChain (readTable b) ≡ [] → tableRefusal b c ≡ some 5
-  is-5 e = is-full b c (h .sized) (h .whole) known (h .position) (h .room) (puts-held b c p) (puts-full (readTable b) c p ∙ eq-eqb (readTable b .free) 0 (free-some e))
+  is-5 e = is-full b c (h .sized) (h .whole) known (h .position) (h .room) (puts-full (readTable b) c p ∙ eq-eqb (readTable b .free) 0 (free-some e))
 
   is-16 : freeChain (readTable b) ≢ [] → (MayTake b (logOf c) → ⊥) → tableRefusal b c ≡ some 16
   unfolding withheld
   is-16 e n =
       let k : reserve b (logOf c) ≤ held b (logOf c) = not-below (held b (logOf c)) (reserve b (logOf c)) (λ x. n (inl x)) in
       let j : length (freeChain (readTable b)) ≤ lackBut (readTable b) (logOf c) = not-below (lackBut (readTable b) (logOf c)) (length (freeChain (readTable b))) (λ x. n (inr x)) in
-      is-promised b c (h .sized) (h .whole) known (h .position) (h .room) (puts-held b c p) (puts-full (readTable b) c p ∙ ne-eqb (readTable b .free) 0 (λ z. e (free-none z)))
+      is-promised b c (h .sized) (h .whole) known (h .position) (h .room) (puts-full (readTable b) c p ∙ ne-eqb (readTable b .free) 0 (λ z. e (free-none z)))
       (puts-promised (readTable b) c p ∙ and-yes _ (ap not (le-ltb (held b (logOf c)) (reserve b (logOf c)) k)) ∙ le-leb (length (freeChain (readTable b))) (lackBut (readTable b) (logOf c)) j)
     where
       not-below : (x y : ℕ) → (x < y → ⊥) → y ≤ x

@@ -51,14 +51,6 @@ spent r (truncate g n) = false
 spent r (lookup g n c k) = false
 spent r (end g c k) = false
 
--- 6: "end of a fresh log", which has no last slot
-unfoldable pub nothingHeld : Row → Call → Bool
-nothingHeld r (append g x) = false
-nothingHeld r (advance g n d x) = false
-nothingHeld r (truncate g n) = false
-nothingHeld r (lookup g n c k) = false
-nothingHeld r (end g c k) = eqb (r .last) 0
-
 -- 5: "append or advance, and the logs' entries number S": no slot is free
 unfoldable pub full : Image → Call → Bool
 full m (append g x) = eqb (m .free) 0
@@ -80,11 +72,12 @@ promised m (truncate g n) = false
 promised m (lookup g n c k) = false
 promised m (end g c k) = false
 
--- "Order: table calls 7 (receipt output included), 1, 2, 3, 4, 6, 5"; 16 "tested after 5"; torn tells whether the table is not whole
+-- "Order: table calls 7 (receipt output included), 1, 2, 3, 4, 6, 5", without the 6 since document 02, [6]; 16 "tested after 5"; torn
+-- tells whether the table is not whole
 unfoldable pub faults : Bool → Image → Call → List Fault
 faults torn m call =
     fault 7 (wrongLength call) ∷ fault 1 torn ∷ fault 2 (leb (length (m .rows)) (logOf call)) ∷ fault 3 (misplaced (rowIn m (logOf call)) call) ∷
-    fault 4 (spent (rowIn m (logOf call)) call) ∷ fault 6 (nothingHeld (rowIn m (logOf call)) call) ∷
+    fault 4 (spent (rowIn m (logOf call)) call) ∷
     fault 5 (full m call) ∷ fault 16 (promised m call) ∷ []
 
 unfoldable pub imageRefusal : Image → Call → Option ℕ
@@ -153,11 +146,15 @@ lookupAttested m g n nonce f = record {
   digest = f .shown .digest;
 }
 
--- "End gives the entry at H", which is in the log's last slot
+-- document 02, [6]: "kind unassigned" where the log is fresh, so has no last slot; otherwise assigned
+unfoldable pub endKind : ℕ → ℕ
+endKind last = cond (eqb last 0) 0 1
+
+-- "End gives the entry at H", which is in the log's last slot; of a fresh log "position 0, reference 0, value and digest zero", those of slot 0
 unfoldable pub endAttested : Image → ℕ → List ℕ → Attestation
 endAttested m g nonce = record {
   name = END;
-  kind = 1;
+  kind = endKind (rowIn m g .last);
   log = g;
   keeper = m .keeper;
   position = rowIn m g .high;

@@ -11,8 +11,8 @@ use Rattle.table.specs.Whole.{whole}
 use Rattle.a2m.specs.Call.{Call, refused, Effect, effect}
 use Rattle.a2m.specs.ImageCalls.{faults, imageAccept}
 
--- document 01: "Order: table calls 7 (receipt output included), 1, 2, 3, 4, 6, 5"; request [5]: 16 "tested after 5"; 1 where the bytes are not a whole
--- table
+-- document 01: "Order: table calls 7 (receipt output included), 1, 2, 3, 4, 6, 5", since document 02, [6], without the 6, and [5]: 16 "tested after 5"; 1
+-- where the bytes are not a whole table
 unfoldable pub tableRefusal : List ℕ → Call → Option ℕ
 tableRefusal b call = firstFault (faults (not (whole b)) (readTable b) call)
 

@@ -12,10 +12,18 @@ ghost use mathlib.Core.Path.{_≡_};
 ghost use lib.ListN.{length};
 ghost use Rattle.refusal.specs.Work.{workedBlocks};
 ghost use Rattle.a2m.specs.Call.{end as ends};
+ghost use Rattle.a2m.specs.ImageCalls.{endKind};
 ghost use Rattle.a2m.specs.TableCalls.{tableStep};
 ghost use Rattle.a2m.specs.Opened.{Opened, endReply, receiptAfter};
 
-// Refusal 6, and the receipt of the entry at the high position.
+// The kind of an end, given the log's last slot: a fresh log has none, and its end is unassigned.
+fn kind_at(last: usize) -> u8
+    ensures { λ r. ⌜ r ≡ endKind last ⌝ }
+{
+    if last == 0 { 0 } else { 1 }
+}
+
+// The receipt of the entry at the high position; of a fresh log, that nothing is assigned there.
 fn end_open(table: &[u8], view: View, nonce: &[u8], receipt: &mut [u8]) -> Worked
     requires { ⌜ Opened (now table) view ⌝ }
     requires { ⌜ (length (now nonce) ≡ 32) × (length (now receipt) ≡ 160) ⌝ }
@@ -24,16 +32,10 @@ fn end_open(table: &[u8], view: View, nonce: &[u8], receipt: &mut [u8]) -> Worke
     ensures bytes { λ _. ⌜ now (receipt .exit) ≡ receiptAfter (tableStep (now (table .entry)) (ends (view .log) (now (nonce .entry)) (length (now (receipt .entry)))) .reply) (now (receipt .entry)) ⌝ }
 {
     let row = view.row;
-    if row.last == 0 {
-        return Worked::Refused {
-            why: Refusal::NothingHeld,
-            blocks: 0,
-        };
-    }
     let keeper = keeper_of(table);
     let facts = Facts {
         name: Name::End,
-        kind: 1,
+        kind: kind_at(row.last),
         log: view.log as u8,
         keeper,
         position: row.high,
@@ -51,7 +53,7 @@ fn end_open(table: &[u8], view: View, nonce: &[u8], receipt: &mut [u8]) -> Worke
     Worked::Done { blocks }
 }
 
-// Writes a receipt of the log's last entry.
+// Writes a receipt of the log's last entry, or that it has none yet.
 pub fn end(table: &[u8], log: u64, nonce: &[u8], receipt: &mut [u8]) -> Worked
     ensures answer { λ r. ⌜ endReply r (now (receipt .exit)) ≡ tableStep (now (table .entry)) (ends log (now (nonce .entry)) (length (now (receipt .entry)))) .reply ⌝ }
     ensures blocks { λ r. ⌜ workedBlocks r ≡ tableStep (now (table .entry)) (ends log (now (nonce .entry)) (length (now (receipt .entry)))) .blocks ⌝ }

@@ -4,9 +4,10 @@ use Prim.Native.Nat.{ℕ, _^_, _≤_, _<_}
 use mathlib.Core.Path.{_≡_, refl, sym, ap, ap₂, subst, _∙_}
 use mathlib.Core.Logic.{_≢_, inl, inr}
 use mathlib.Core.List.{List, [], _∷_}
-use mathlib.Core.Bool.{Bool, true, false, cond}
-use mathlib.Core.Option.{none, some, Option·none-ne-some, Option·some-ne-none, Option·some-injective}
+use mathlib.Core.Bool.{false, cond}
+use mathlib.Core.Option.{some, Option·none-ne-some, Option·some-injective}
 use native.Mathlib.Omega.{arith}
+use lib.Dec.{lit<}
 use lib.ListN.{length, getD, take}
 use Rattle.octets.specs.Octets.{zeros}
 use Rattle.octets.proofs.Zeros.{length-zeros}
@@ -45,20 +46,18 @@ not-end : LOOKUP ≢ END
 unfolding LOOKUP END
 not-end h = let z : _≡_ {A = ℕ} 76 69 = ap (λ (l : List ℕ). getD l 0 0) h in omega arith
 
--- rules by which the verifier accepts every receipt: a skipped one shows a value and a digest of 32 bytes, and an end of an empty list has a number. Asked
--- of each call's rules, so that a list may begin by document 01's: a verifier that is changed with the present rules must go on to accept the receipts given
--- by the old ones
+-- rules by which the verifier accepts every receipt: a skipped one shows a value and a digest of 32 bytes. Asked of each call's rules, so that a list may
+-- begin by document 01's: a verifier that is changed with the present rules must go on to accept the receipts given by the old ones
 pub record Attests (ru : Rules) : Type 0 where
   pub gap : (e : Entry) → length (e .value) ≡ 32 → length (e .digest) ≡ 32 → (length (ru .gap e .value) ≡ 32) × (length (ru .gap e .digest) ≡ 32)
-  pub end : ru .emptyEnd ≢ none
 
 pub attests01 : Attests rules01
 unfolding rules01
-attests01 = record { gap = λ (e : Entry) (v : length (e .value) ≡ 32) (d : length (e .digest) ≡ 32). (length-zeros 32, length-zeros 32); end = Option·some-ne-none 6 }
+attests01 = record { gap = λ (e : Entry) (v : length (e .value) ≡ 32) (d : length (e .digest) ≡ 32). (length-zeros 32, length-zeros 32) }
 
 pub attests : Attests rules
 unfolding rules
-attests = record { gap = λ (e : Entry) (v : length (e .value) ≡ 32) (d : length (e .digest) ≡ 32). (v, d); end = attests01 .end }
+attests = record { gap = λ (e : Entry) (v : length (e .value) ≡ 32) (d : length (e .digest) ≡ 32). (v, d) }
 
 abbrev pub AttestsTurn : Turn → Type 0
 AttestsTurn t = Attests (t .rules)
@@ -76,7 +75,7 @@ module _ (b : Model) (keeps : Keeps b) (key : length (b .key) ≡ 32) (g : ℕ) 
       complete (b .key) _ c _ (attested b LOOKUP kind g n reference c e) (record {
         key = key;
         sized = record { name = length-LOOKUP; keeper = keeps .keeper; position = n64; reference = r64; nonce = nonce; value = lv; digest = ld };
-        possible = record { named = inl refl; kind = k3; log = log; position = n1; assigned = at; unassigned = below; passed = above; blank = blank; end = λ (z : LOOKUP ≡ END). absurd (not-end z) };
+        possible = inl (record { named = inl refl; kind = k3; log = log; position = n1; assigned = at; unassigned = below; passed = above; blank = blank; end = λ (z : LOOKUP ≡ END). absurd (not-end z) });
         bytes = refl;
         keeper = refl;
         log = refl;
@@ -124,10 +123,13 @@ module _ (b : Model) (keeps : Keeps b) (key : length (b .key) ≡ 32) (g : ℕ) 
     standing-accepted ru t (assigned e) h = assigned-accepted e (h .0) (h .1)
     standing-accepted ru t (skipped e) h = skipped-accepted ru t e (h .0) (h .1)
 
+  abbrev Ended : ℕ → ℕ → Entry → Type 0
+  Ended kind n e = Accepted b END kind g n n c e (record { keeper = b .keeper; log = g; ask = End })
+
   -- an END shows the entry at H
-  end-accepted : isNil (L .entries) ≡ false → Accepted b END 1 g (L .high) (L .high) c (lastEntry (L .entries)) (record { keeper = b .keeper; log = g; ask = End })
+  held-accepted : isNil (L .entries) ≡ false → Ended 1 (L .high) (lastEntry (L .entries))
   unfolding modelReceipt carried
-  end-accepted held =
+  held-accepted held =
       let e = lastEntry (L .entries) in
       let m = last-in (L .entries) held in
       let z = keeps .fits g .sized e m in
@@ -137,7 +139,7 @@ module _ (b : Model) (keeps : Keeps b) (key : length (b .key) ≡ 32) (g : ℕ) 
       complete (b .key) _ c _ (attested b END 1 g (L .high) (L .high) c e) (record {
         key = key;
         sized = record { name = length-END; keeper = keeps .keeper; position = keeps .fits g .high; reference = keeps .fits g .high; nonce = nonce; value = z .0; digest = z .1 };
-        possible = record {
+        possible = inl (record {
           named = inr refl;
           kind = omega arith;
           log = log;
@@ -147,7 +149,7 @@ module _ (b : Model) (keeps : Keeps b) (key : length (b .key) ≡ 32) (g : ℕ) 
           passed = λ (q : 2 ≤ 1). absurd (omega arith);
           blank = λ (q : 1 ≡ 1 → ⊥) (y : 1 ≡ 2 → ⊥). absurd (q refl);
           end = λ (q : END ≡ END). refl;
-        };
+        });
         bytes = refl;
         keeper = refl;
         log = refl;
@@ -155,23 +157,42 @@ module _ (b : Model) (keeps : Keeps b) (key : length (b .key) ≡ 32) (g : ℕ) 
         ask = refl;
       })
 
+  -- or that there is none
+  fresh-accepted : Ended 0 0 blankEntry
+  unfolding modelReceipt carried
+  fresh-accepted =
+      complete (b .key) _ c _ (attested b END 0 g 0 0 c blankEntry) (record {
+        key = key;
+        sized = record { name = length-END; keeper = keeps .keeper; position = lit< tt; reference = lit< tt; nonce = nonce; value = length-zeros 32; digest = length-zeros 32 };
+        possible = inr (record { named = refl; unassigned = refl; log = log; position = refl; reference = refl; value = refl; digest = refl });
+        bytes = refl;
+        keeper = refl;
+        log = refl;
+        nonce = refl;
+        ask = refl;
+      })
+
+  end-accepted : Ended (cond (isNil (L .entries)) 0 1) (L .high) (lastEntry (L .entries))
+  unfolding isNil lastEntry
+  end-accepted = go (L .entries) refl
+    where
+      go : (es : List Entry) → L .entries ≡ es → Ended (cond (isNil es) 0 1) (L .high) (lastEntry es)
+      go [] q = subst (λ (n : ℕ). Ended 0 n blankEntry) (sym (ap (λ (es : List Entry). lastEntry es .position) q) ∙ keeps .sound g .top) fresh-accepted
+      go (e ∷ es) q = subst (λ (l : List Entry). Ended 1 (L .high) (lastEntry l)) q (held-accepted (ap isNil q))
+
 -- ---- a call of the model
 
 -- the verifier's verdict on what a call wrote
 abbrev pub Verifies : List ℕ → ℕ → Call → List ℕ → List ℕ → Type 0
 Verifies key keeper call r values = verdict key r (nonceOf call) (questionOf keeper call) ≡ answer 0 values
 
--- an end of an empty list was turned away
-end-held : (ru : Rules) → Attests ru → (t : Bool) → cond t (ru .emptyEnd) none ≡ none → t ≡ false
-end-held ru a true h = absurd (a .end h)
-end-held ru a false h = refl
-
-end-shows : (b : Model) (g : ℕ) (c : List ℕ) → isNil (logAt (b .logs) g .entries) ≡ false → LogOk (logAt (b .logs) g)
+-- the position of the last entry is H
+end-shows : (b : Model) (g : ℕ) (c : List ℕ) → LogOk (logAt (b .logs) g)
     → modelReceipt b END (cond (isNil (logAt (b .logs) g .entries)) 0 1) g (lastEntry (logAt (b .logs) g .entries) .position) (lastEntry (logAt (b .logs) g .entries) .position) c (lastEntry (logAt (b .logs) g .entries))
-    ≡ modelReceipt b END 1 g (logAt (b .logs) g .high) (logAt (b .logs) g .high) c (lastEntry (logAt (b .logs) g .entries))
-end-shows b g c held ok =
-    let e = lastEntry (logAt (b .logs) g .entries) in
-    rw held (ap (λ (n : ℕ). modelReceipt b END 1 g n n c e) (ok .top))
+    ≡ modelReceipt b END (cond (isNil (logAt (b .logs) g .entries)) 0 1) g (logAt (b .logs) g .high) (logAt (b .logs) g .high) c (lastEntry (logAt (b .logs) g .entries))
+end-shows b g c ok =
+    let es = logAt (b .logs) g .entries in
+    ap (λ (n : ℕ). modelReceipt b END (cond (isNil es) 0 1) g n n c (lastEntry es)) (ok .top)
 
 module _ (b : Model) (keeps : Keeps b) (key : length (b .key) ≡ 32) (few : length (b .logs) ≤ 16) (ru : Rules) (t : Attests ru) where
   accept-verified : (call : Call) → Wide call → Passed ru b call → (r : List ℕ) → receiptIn (modelAccept ru b call .reply) ≡ some r → Verifies (b .key) (b .keeper) call r (valuesOf b call)
@@ -189,9 +210,8 @@ module _ (b : Model) (keeps : Keeps b) (key : length (b .key) ≡ 32) (few : len
   accept-verified (end g c k) w a r q =
       let l = logAt (b .logs) g in
       let gG = a .log in
-      let held = end-held ru t (isNil (l .entries)) (a .held) in
-      ap (λ (x : List ℕ). verdict (b .key) x c (record { keeper = b .keeper; log = g; ask = End })) (sym (Option·some-injective _ _ q) ∙ end-shows b g c held (keeps .sound g))
-      ∙ end-accepted b keeps key g (omega arith) c (a .nonce) held
+      ap (λ (x : List ℕ). verdict (b .key) x c (record { keeper = b .keeper; log = g; ask = End })) (sym (Option·some-injective _ _ q) ∙ end-shows b g c (keeps .sound g))
+      ∙ end-accepted b keeps key g (omega arith) c (a .nonce)
 
   pub step-verified : (call : Call) → Wide call → (r : List ℕ) → receiptIn (modelStep ru b call .reply) ≡ some r → Verifies (b .key) (b .keeper) call r (valuesOf b call)
   step-verified call w r q = go (stepped ru b call)

@@ -15,6 +15,7 @@ pub mod Later
 pub mod Lookups
 pub mod MarkedSet
 pub mod MarkedTable
+pub mod NeverSix
 pub mod OfTable
 pub mod OfWhole
 pub mod Once

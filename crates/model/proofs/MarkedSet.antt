@@ -20,14 +20,14 @@ use Rattle.layout.specs.Tests.{blank}
 use Rattle.a2m.specs.Call.{Call, append, lookup, replies, after}
 use Rattle.entry.specs.Digest.{entryDigest}
 use Rattle.a2m.specs.Search.{search, lookedUp}
-use Rattle.a2m.specs.ImageCalls.{rowIn, entriesIn, wrongLength, misplaced, spent, nothingHeld, full, withheld, promised, faults, imageRefusal, joined, put, release, releases, lowered, lookupAttested, endAttested, imageDone, imageAccept, imageStep}
+use Rattle.a2m.specs.ImageCalls.{rowIn, entriesIn, wrongLength, misplaced, spent, full, withheld, promised, faults, imageRefusal, joined, put, release, releases, lowered, lookupAttested, endKind, endAttested, imageDone, imageAccept, imageStep}
 use Rattle.model.specs.Log.{lastEntry, keepFrom, keepBelow, entered, cutAt, standingAmong, standing, kindOf, referenceOf, examinedFor}
 use Rattle.model.specs.Model.{rules01, rules, Model, newModel, logAt, total, lacks, lacksBut, slotRule, isNil, modelRefusal, modelReceipt, shownFor, modelLookup, modelEnd, modelDone, modelAccept, modelStep}
 use Rattle.model.specs.Claim.{by, modelTurn, callAt, ShowsAt, SkipsAt, ForgetsAt, Asked}
 use Rattle.model.specs.Marked.{Line, zero32, marked, answered}
 
 pub marked-image : answered imageStep (λ (m : Image) (g : ℕ). rowIn m g .low) (λ (m : Image) (g : ℕ). rowIn m g .high) (formatted 3 7 (zeros 32) (0 ∷ 0 ∷ [])) marked ≡ marked
-unfolding formatted marked answered placed zero32 same zeros be unbe firstFault LOOKUP END attestedBytes receiptBytes readAttestation slotAt setSlot advancedRow truncatedRow tabulate walk reaches chain lastOf queue queuedNext all blank freeOk fresh risingFrom started rowOk rowsOk heldBy meets lackFrom lackBut lackAll wholeImage entryDigest search lookedUp entriesIn wrongLength misplaced spent nothingHeld full withheld promised faults imageRefusal joined put release releases lowered lookupAttested endAttested imageDone imageAccept imageStep
+unfolding formatted marked answered placed zero32 same zeros be unbe firstFault LOOKUP END attestedBytes receiptBytes readAttestation slotAt setSlot advancedRow truncatedRow tabulate walk reaches chain lastOf queue queuedNext all blank freeOk fresh risingFrom started rowOk rowsOk heldBy meets lackFrom lackBut lackAll wholeImage entryDigest search lookedUp entriesIn wrongLength misplaced spent full withheld promised faults imageRefusal joined put release releases lowered lookupAttested endKind endAttested imageDone imageAccept imageStep
 marked-image = refl
 
 pub marked-model : answered (modelStep rules) (λ (b : Model) (g : ℕ). logAt (b .logs) g .low) (λ (b : Model) (g : ℕ). logAt (b .logs) g .high) (newModel 3 7 (zeros 32) (0 ∷ 0 ∷ [])) marked ≡ marked

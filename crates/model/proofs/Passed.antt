@@ -10,7 +10,7 @@ use lib.Dec.{eqb, leb, ltb}
 use borrow.Author.Tests.{eqb-true, eqb-false, leb-false, ltb-false, not-false}
 use Rattle.octets.proofs.Tests.{or-none}
 use Rattle.a2m.specs.Call.{Call, append, advance, truncate, lookup, end, refused, effect}
-use Rattle.model.specs.Model.{Rules, Model, logAt, isNil, not32, modelRefusal, modelAccept, modelStep}
+use Rattle.model.specs.Model.{Rules, Model, logAt, not32, modelRefusal, modelAccept, modelStep}
 
 pub record AppendPassed (ru : Rules) (b : Model) (g : ℕ) (x : List ℕ) : Type 0 where
   pub value : length x ≡ 32
@@ -34,17 +34,16 @@ pub record LookupPassed (b : Model) (g n : ℕ) (c : List ℕ) : Type 0 where
   pub log : g < length (b .logs)
   pub position : n ≢ 0
 
-pub record EndPassed (ru : Rules) (b : Model) (g : ℕ) (c : List ℕ) : Type 0 where
+pub record EndPassed (b : Model) (g : ℕ) (c : List ℕ) : Type 0 where
   pub nonce : length c ≡ 32
   pub log : g < length (b .logs)
-  pub held : cond (isNil (logAt (b .logs) g .entries)) (ru .emptyEnd) none ≡ none
 
 abbrev pub Passed : Rules → Model → Call → Type 0
 Passed ru b (append g x) = AppendPassed ru b g x
 Passed ru b (advance g n d x) = AdvancePassed ru b g n d x
 Passed ru b (truncate g n) = TruncatePassed b g n
 Passed ru b (lookup g n c k) = LookupPassed b g n c
-Passed ru b (end g c k) = EndPassed ru b g c
+Passed ru b (end g c k) = EndPassed b g c
 
 -- a test that gave no number did not hold
 pub peel : (b : Bool) (k : ℕ) (rest : Option ℕ) → cond b (some k) rest ≡ none → (b ≡ false) × (rest ≡ none)
@@ -79,7 +78,7 @@ passed ru b (lookup g n c k) h =
 passed ru b (end g c k) h =
     let p7 = peel (not32 c || not (eqb k 160)) 7 _ h in
     let p2 = peel (leb (length (b .logs)) g) 2 _ (p7 .1) in
-    record { nonce = is32 c (or-none (not32 c) (not (eqb k 160)) (p7 .0) .0); log = leb-false (length (b .logs)) g (p2 .0); held = p2 .1 }
+    record { nonce = is32 c (or-none (not32 c) (not (eqb k 160)) (p7 .0) .0); log = leb-false (length (b .logs)) g (p2 .0) }
 
 -- the model's answer is a refusal, or what an accepted call gives
 pub data Stepped (ru : Rules) (b : Model) (call : Call) : Type 0 where

@@ -8,10 +8,10 @@ use borrow.Author.Tests.{leb-true, leb-false, ltb-true, ltb-false, le-leb, lt-le
 use Rattle.refusal.specs.Order.{firstFault}
 use Rattle.layout.specs.Image.{Image}
 use Rattle.a2m.specs.Call.{Call, append, advance, truncate, lookup, end}
-use Rattle.a2m.specs.ImageCalls.{wrongLength, misplaced, spent, nothingHeld, full, withheld, promised, faults, imageRefusal}
+use Rattle.a2m.specs.ImageCalls.{wrongLength, misplaced, spent, full, withheld, promised, faults, imageRefusal}
 use Rattle.model.specs.Model.{Model, slotRule, rules01, rules, modelRefusal}
 use Rattle.model.proofs.Represents.{Rep, Sound}
-use Rattle.model.proofs.Reading.{empty-is, full-is}
+use Rattle.model.proofs.Reading.{full-is}
 use Rattle.model.proofs.Backed.{Backed}
 use Rattle.model.proofs.Lacking.{held-is, lack-but-is, free-is}
 use Rattle.model.proofs.WholeOf.{whole-of}
@@ -35,10 +35,15 @@ slot-is : (m : Image) (b : Model) → Rep m b → (g : ℕ) → cond {A = Option
 unfolding slotRule withheld
 slot-is m b R g = rw (full-is m b R, held-is m b R g, R .rows g .reserve, free-is m b R, lack-but-is m b R g, unless-below)
 
+-- an end of an empty list has no number, as any other
+either-way : (t : Bool) → _≡_ {A = Option ℕ} (cond t none none) none
+either-way true = refl
+either-way false = refl
+
 pub refusal-is : (m : Image) (b : Model) → Rep m b → Sound b → Backed b → (call : Call) → imageRefusal m call ≡ modelRefusal rules b call
-unfolding imageRefusal faults firstFault wrongLength misplaced spent nothingHeld full promised modelRefusal rules rules01
+unfolding imageRefusal faults firstFault wrongLength misplaced spent full promised modelRefusal rules rules01
 refusal-is m b R ok k (append g x) = rw (whole-of m b R ok k, R .count, R .rows g .high, slot-is m b R g)
 refusal-is m b R ok k (advance g n d x) = rw (whole-of m b R ok k, R .count, R .rows g .high, slot-is m b R g)
 refusal-is m b R ok k (truncate g n) = rw (whole-of m b R ok k, R .count, R .rows g .low, R .rows g .high, outside)
 refusal-is m b R ok k (lookup g n c r) = rw (whole-of m b R ok k, R .count)
-refusal-is m b R ok k (end g c r) = rw (whole-of m b R ok k, R .count, empty-is m b R g)
+refusal-is m b R ok k (end g c r) = rw (whole-of m b R ok k, R .count, either-way)

@@ -4,7 +4,7 @@ use native.Mathlib.Numerals.{add-one}
 use mathlib.Core.Path.{_≡_, refl, sym, ap, ap₂, subst, _∙_}
 use mathlib.Core.Logic.{_≢_}
 use mathlib.Core.List.{List}
-use mathlib.Core.Bool.{false, cond}
+use mathlib.Core.Bool.{false}
 use mathlib.Core.Option.{Option, none, some}
 use native.Mathlib.Omega.{arith}
 use lib.ListN.{length, set}
@@ -15,11 +15,11 @@ use Rattle.layout.specs.Image.{Entry, Image, entryOf, slotAt}
 use Rattle.a2m.specs.Call.{Call, append, advance, truncate, lookup, end, Reply, done, found, ended, Effect}
 use Rattle.a2m.specs.NewEntry.{newEntry}
 use Rattle.a2m.specs.Search.{lookedUp}
-use Rattle.a2m.specs.ImageCalls.{rowIn, entriesIn, put, previousIn, lookupAttested, endAttested, imageDone, imageAccept, imageStep}
+use Rattle.a2m.specs.ImageCalls.{rowIn, entriesIn, put, previousIn, lookupAttested, endKind, endAttested, imageDone, imageAccept, imageStep}
 use Rattle.model.specs.Log.{Log, freshLog, lastEntry, entered, standing, examinedFor}
-use Rattle.model.specs.Model.{rules01, slotRule, rules, Model, logAt, total, withLog, isNil, modelRefusal, modelReceipt, modelLookup, modelEnd, modelDone, modelAccept, modelStep}
+use Rattle.model.specs.Model.{rules01, slotRule, rules, Model, logAt, total, withLog, modelRefusal, modelReceipt, modelLookup, modelEnd, modelDone, modelAccept, modelStep}
 use Rattle.model.proofs.Represents.{Rep, Sound}
-use Rattle.model.proofs.Reading.{entries-are, full-is, last-is}
+use Rattle.model.proofs.Reading.{entries-are, empty-is, full-is, last-is}
 use Rattle.model.proofs.Backed.{Backed}
 use Rattle.model.proofs.Put.{put-keeps}
 use Rattle.model.proofs.Truncate.{truncate-keeps}
@@ -45,10 +45,6 @@ module _ (m : Image) (b : Model) (R : Rep m b) (ok : Sound b) (k : Backed b) whe
   unfolding rules slotRule
   free-slot g h = full-is m b R ∙ peel (eqb (total (b .logs)) (b .size)) 5 _ h .0
 
-  some-held : (g : ℕ) → cond (isNil (logAt (b .logs) g .entries)) (rules .emptyEnd) none ≡ none → isNil (logAt (b .logs) g .entries) ≡ false
-  unfolding rules rules01
-  some-held g h = peel (isNil (logAt (b .logs) g .entries)) 6 none h .0
-
   lookup-agrees : (g n : ℕ) (c : List ℕ) → n ≢ 0
       → _≡_ {A = Reply} (found (receiptBytes (m .key) (lookupAttested m g n c (lookedUp (rowIn m g) (entriesIn m g) n))) (lookedUp (rowIn m g) (entriesIn m g) n .examined)) (modelLookup rules b g n c (logAt (b .logs) g) (standing (logAt (b .logs) g) n))
   unfolding lookupAttested modelLookup modelReceipt foundAs
@@ -57,14 +53,14 @@ module _ (m : Image) (b : Model) (R : Rep m b) (ok : Sound b) (k : Backed b) whe
       let f : lookedUp (rowIn m g) (entriesIn m g) n ≡ foundAs l (standing l n) (examinedFor l n (standing l n)) = ap (λ (es : List Entry). lookedUp (rowIn m g) es n) (entries-are m b R g) ∙ lookup-is l (ok g) (rowIn m g) (R .rows g .low) (R .rows g .high) n (omega arith) in
       rw (f, R .key, R .keeper)
 
-  end-agrees : (g : ℕ) (c : List ℕ) → isNil (logAt (b .logs) g .entries) ≡ false → _≡_ {A = Reply} (ended (receiptBytes (m .key) (endAttested m g c))) (modelEnd b g c (logAt (b .logs) g .entries))
-  unfolding endAttested modelEnd modelReceipt
-  end-agrees g c held =
+  end-agrees : (g : ℕ) (c : List ℕ) → _≡_ {A = Reply} (ended (receiptBytes (m .key) (endAttested m g c))) (modelEnd b g c (logAt (b .logs) g .entries))
+  unfolding endKind endAttested modelEnd modelReceipt
+  end-agrees g c =
       let e : entryOf (slotAt (m .slots) (rowIn m g .last)) ≡ lastEntry (logAt (b .logs) g .entries) = last-is m b R g in
       let p : rowIn m g .high ≡ lastEntry (logAt (b .logs) g .entries) .position = R .rows g .high ∙ sym (ok g .top) in
       let v : slotAt (m .slots) (rowIn m g .last) .value ≡ lastEntry (logAt (b .logs) g .entries) .value = ap (λ (x : Entry). x .value) e in
       let d : slotAt (m .slots) (rowIn m g .last) .digest ≡ lastEntry (logAt (b .logs) g .entries) .digest = ap (λ (x : Entry). x .digest) e in
-      rw (held, R .key, R .keeper, p, v, d)
+      rw (empty-is m b R g, R .key, R .keeper, p, v, d)
 
   accept-agrees : (call : Call) → Passed rules b call → Agree (imageAccept m call) (modelAccept rules b call)
   unfolding imageAccept modelAccept
@@ -77,7 +73,7 @@ module _ (m : Image) (b : Model) (R : Rep m b) (ok : Sound b) (k : Backed b) whe
   accept-agrees (advance g n d x) a = done-agree 2 _ b g _ (a .log) (put-keeps m b R g (a .log) _ (free-slot g (a .slot)))
   accept-agrees (truncate g n) a = let lo = a .low in done-agree 0 _ b g _ (a .log) (truncate-keeps m b R g n (a .log) (ok g) (omega arith) (a .high))
   accept-agrees (lookup g n c r) a = record { reply = lookup-agrees g n c (a .position); blocks = refl; state = R }
-  accept-agrees (end g c r) a = record { reply = end-agrees g c (some-held g (a .held)); blocks = refl; state = R }
+  accept-agrees (end g c r) a = record { reply = end-agrees g c; blocks = refl; state = R }
 
   pub step-agrees : (call : Call) → Agree (imageStep m call) (modelStep rules b call)
   unfolding imageStep modelStep

@@ -1,9 +1,9 @@
 -- What the keeper writes, the verifier accepts: of every byte string that a lookup or an end takes for a table, whoever wrote it.
 use Prim.Native.Nat.{ℕ, zero, suc, _≤_}
-use mathlib.Core.Path.{_≡_, refl, sym, ap, subst, _∙_}
+use mathlib.Core.Path.{_≡_, refl, sym, ap, ap₂, subst, _∙_}
 use mathlib.Core.Logic.{_≢_, inl, inr}
 use mathlib.Core.List.{List, [], _∷_, map}
-use mathlib.Core.Bool.{true, false}
+use mathlib.Core.Bool.{Bool, true, false, cond}
 use mathlib.Core.Option.{Option, none, some, Option·none-ne-some}
 use native.Mathlib.Omega.{arith}
 use lib.ListN.{length}
@@ -24,7 +24,7 @@ use Rattle.table.proofs.ReserveLaws.{whole-linked}
 use Rattle.table.proofs.WholeLaws.{whole-formed, whole-range, whole-image}
 use Rattle.a2m.specs.Call.{Call, append, advance, truncate, lookup, end, logOf, Wide, receiptIn}
 use Rattle.a2m.specs.Search.{Found, lookedUp}
-use Rattle.a2m.specs.ImageCalls.{rowIn, entriesIn, misplaced, lookupAttested, endAttested}
+use Rattle.a2m.specs.ImageCalls.{rowIn, entriesIn, misplaced, lookupAttested, endKind, endAttested}
 use Rattle.a2m.specs.TableCalls.{tableRefusal, tableStep}
 use Rattle.a2m.proofs.Clear.{clear}
 use Rattle.a2m.proofs.Lists.{In}
@@ -35,7 +35,8 @@ use Rattle.model.specs.Question.{questionOf, nonceOf, valuesIn, valuesOf
 use Rattle.model.proofs.Represents.{LogOk}
 use Rattle.model.proofs.Lookups.{foundAs, lookup-is}
 use Rattle.model.proofs.Along.{Keeps}
-use Rattle.model.proofs.OfWhole.{log-in, model-sound}
+use Rattle.model.proofs.Reading.{empty-is}
+use Rattle.model.proofs.OfWhole.{log-in, model-says, model-sound}
 use Rattle.model.proofs.OfTable.{table-step}
 use Rattle.model.proofs.Accepted.{attests, step-verified}
 
@@ -79,8 +80,9 @@ module _ (m : Image) (w : wholeImage m ≡ true) where
       ∙ ap (λ (f : Found). m .keeper ∷ g ∷ n ∷ f .kind ∷ f .reference ∷ []) (sym (found-in m g n (subst LogOk (log-in m g) (model-sound m (whole-linked m w) g)) n1))
 
   end-values : (g : ℕ) (c : List ℕ) (k : ℕ) → valuesOf (modelOf m) (end g c k) ≡ valuesIn m (end g c k)
-  unfolding valuesOf valuesIn carried endAttested modelOf logIn
-  end-values g c k = ap (λ (l : Log). m .keeper ∷ g ∷ l .high ∷ 1 ∷ l .high ∷ []) (log-in m g)
+  unfolding valuesOf valuesIn carried endKind endAttested modelOf logIn
+  end-values g c k =
+      ap₂ (λ (n : ℕ) (t : Bool). m .keeper ∷ g ∷ n ∷ cond t 0 1 ∷ n ∷ []) (ap (λ (l : Log). l .high) (log-in m g)) (sym (empty-is m (modelOf m) (model-says m (whole-linked m w)) g))
 
   values-are : (call : Call) → misplaced (rowIn m (logOf call)) call ≡ false → valuesOf (modelOf m) call ≡ valuesIn m call
   unfolding misplaced valuesOf valuesIn

@@ -56,7 +56,7 @@ pub record Rules : Type 0 where
   pub gap : Entry → Entry
   -- the number that an append or advance on a log gets where there is no slot for it
   pub noSlot : Model → ℕ → Option ℕ
-  -- the number that an end of an empty list gets
+  -- the number that an end of an empty list gets, if any
   pub emptyEnd : Option ℕ
 
 -- document 01's, which stay: "Value and digest are the entry's when assigned, otherwise zero bytes"; "6 by an empty list, 5 when all lists together have S
@@ -74,9 +74,9 @@ slotRule b g =
     (cond (leb (b .size - total (b .logs)) (lacksBut g (b .logs))) (some 16) none))
 
 -- the present ones, which the calls on images and tables go by. Document 02, [3]: "A skipped receipt now carries the value and digest of the entry at its
--- reference"
+-- reference"; [6]: "End on a fresh log now gives an END receipt"
 unfoldable pub rules : Rules
-rules = record { gap = λ e. e; noSlot = slotRule; emptyEnd = rules01 .emptyEnd }
+rules = record { gap = λ e. e; noSlot = slotRule; emptyEnd = none }
 
 -- ---- refusals
 
@@ -127,7 +127,7 @@ unfoldable pub modelLookup : Rules → Model → ℕ → ℕ → List ℕ → Lo
 modelLookup ru b g n nonce l s =
     found (modelReceipt b LOOKUP (kindOf s) g n (referenceOf l s) nonce (shownFor ru s)) (examinedFor l n s)
 
--- "End gives the entry at H", the list's last; an empty list has none
+-- "End gives the entry at H", the list's last. An empty list has none; document 02, [6]: "kind unassigned, position 0, reference 0, value and digest zero"
 unfoldable pub modelEnd : Model → ℕ → List ℕ → List Entry → Reply
 modelEnd b g nonce es =
     ended (modelReceipt b END (cond (isNil es) 0 1) g (lastEntry es .position) (lastEntry es .position) nonce (lastEntry es))

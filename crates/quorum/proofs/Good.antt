@@ -9,7 +9,7 @@ use lib.Dec.{eqb}
 use lib.ListN.{length, getD, take, drop}
 use borrow.Author.Tests.{eqb-true, eq-eqb, ne-eqb}
 use Rattle.octets.specs.Octets.{Bytes}
-use Rattle.octets.proofs.Tests.{and-left, and-right, and-both}
+use Rattle.octets.proofs.Tests.{and-left, and-right, and-both, and-false}
 use Rattle.refusal.specs.Number.{numberOf}
 use Rattle.refusal.specs.declared.Refusal.{Refusal}
 use Rattle.refusal.specs.declared.Outcome.the-variants.{Done, Refused as Turned}
@@ -76,6 +76,11 @@ module _ (roster nonce : List ℕ) (log position : ℕ) (r : List ℕ) where
     },
     λ g. and-both (eqb (verdictBy i .number) 0) (eqb (readAttestation r .kind) 1) (eq-eqb (verdictBy i .number) 0 (g .accepted)) (eq-eqb (readAttestation r .kind) 1 (g .assigned)),
   )
+
+  -- no other kind is good
+  pub only-assigned : (readAttestation r .kind ≡ 1 → ⊥) → (i : ℕ) → goodBy roster nonce log position r i ≡ false
+  unfolding goodBy
+  only-assigned h i = simp (ne-eqb (readAttestation r .kind) 1 h, and-false (eqb (verdictBy i .number) 0))
 
   -- it has the member's keeper number
   good-keeper : (i : ℕ) → goodBy roster nonce log position r i ≡ true → readAttestation r .keeper ≡ keeperAt roster i

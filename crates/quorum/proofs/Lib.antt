@@ -1,5 +1,6 @@
 pub mod BlockLaws
 pub mod Certificates
+pub mod FreshEnds
 pub mod Good
 pub mod Masks
 pub mod RosterLaws

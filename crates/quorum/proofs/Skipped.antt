@@ -12,7 +12,7 @@ use Rattle.receipt.specs.Attestation.{readAttestation}
 use Rattle.quorum.specs.Bits.{countBelow}
 use Rattle.quorum.specs.Roster.{size}
 use Rattle.quorum.specs.Certificate.{receiptCount, receiptAt, pairAt, goodBy, showsIn, shows, certified, certificate, GoodBy}
-use Rattle.quorum.proofs.Good.{good-by}
+use Rattle.quorum.proofs.Good.{only-assigned}
 use Rattle.quorum.proofs.Certificates.{some-member, adds-none, shows-exactly, named-exactly}
 
 module _ (roster nonce : List ℕ) (log position : ℕ) where
@@ -21,11 +21,7 @@ module _ (roster nonce : List ℕ) (log position : ℕ) where
   good-not-skipped r i g h = let a = g .assigned in omega arith
 
   pub skipped-not-good : (r : List ℕ) → readAttestation r .kind ≡ 2 → (i : ℕ) → goodBy roster nonce log position r i ≡ false
-  skipped-not-good r h i = by (goodBy roster nonce log position r i) refl
-    where
-      by : (b : Bool) → goodBy roster nonce log position r i ≡ b → goodBy roster nonce log position r i ≡ false
-      by true e = absurd (good-not-skipped r i (good-by roster nonce log position r i .0 e) h)
-      by false e = e
+  skipped-not-good r h i = only-assigned roster nonce log position r (λ (e : readAttestation r .kind ≡ 1). omega arith) i
 
   module _ (cert : List ℕ) where
     -- one receipt more that is skipped: whoever showed a pair shows it, and nobody else

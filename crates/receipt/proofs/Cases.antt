@@ -1,17 +1,20 @@
 -- The tests of a receipt, case by case: one law for each `return` of the code.
 use mathlib.Core.Path.{_≡_, refl}
+use mathlib.Core.Logic.{_≢_}
 use Prim.Native.Nat.{ℕ, _≤_, _<_}
-use mathlib.Core.Bool.{Bool, true, false, not, cond}
+use native.Mathlib.Omega.{arith}
+use mathlib.Core.Bool.{Bool, true, false, not, cond, _&&_, _||_}
 use mathlib.Core.List.{List, []}
 use mathlib.Core.Option.{none, some}
 use lib.ListN.{length}
-use lib.Dec.{eqb, ltb}
+use lib.Dec.{eqb, ltb, leb}
 use borrow.Author.Tests.{eq-eqb, ne-eqb, le-leb, lt-leb}
 use Rattle.octets.specs.Octets.{same, zeros}
+use Rattle.octets.proofs.Tests.{and-false}
 use Rattle.refusal.specs.Order.{firstFault, afterwards}
 use Rattle.refusal.specs.Answer.{Answer, answer, answerWith}
 use Rattle.receipt.specs.Attestation.{Attestation, LOOKUP, END, readAttestation}
-use Rattle.receipt.specs.Possible.{isName, referenceFits, isBlank, blankFits, possible}
+use Rattle.receipt.specs.Possible.{isName, referenceFits, isBlank, blankFits, freshEnd, possible}
 use Rattle.receipt.specs.Verdict.{carried, answers, asks, isTagged, unread, verifyRefusal, verifyBlocks, verdict}
 use Rattle.receipt.specs.declared.Ask.the-variants.{Lookup, End}
 use Rattle.receipt.specs.declared.Question.{Question}
@@ -66,25 +69,59 @@ module _ (a : Attestation) where
   unfolding blankFits
   by-blank o h s = simp (ne-eqb (a .kind) 1 o, h, ne-eqb (a .kind) 2 s)
 
-  pub no-name : isName (a .name) ≡ false → false ≡ possible a
-  unfolding possible
-  no-name h = simp h
+  pub not-end : same (a .name) END ≡ false → false ≡ freshEnd a
+  unfolding freshEnd
+  not-end h = simp h
 
-  pub no-log : isName (a .name) ≡ true → 15 < a .log → false ≡ possible a
-  unfolding possible
-  no-log h l = simp (h, lt-leb (a .log) 15 l)
+  pub not-unassigned : same (a .name) END ≡ true → (a .kind ≡ 0 → ⊥) → false ≡ freshEnd a
+  unfolding freshEnd
+  not-unassigned h k = simp (h, ne-eqb (a .kind) 0 k)
 
-  pub no-position : isName (a .name) ≡ true → a .log ≤ 15 → a .position < 1 → false ≡ possible a
-  unfolding possible
-  no-position h l p = simp (h, le-leb (a .log) 15 l, lt-leb 1 (a .position) p)
+  pub end-log : same (a .name) END ≡ true → a .kind ≡ 0 → 15 < a .log → false ≡ freshEnd a
+  unfolding freshEnd
+  end-log h k l = simp (h, eq-eqb (a .kind) 0 k, lt-leb (a .log) 15 l)
 
-  pub no-reference : isName (a .name) ≡ true → a .log ≤ 15 → 1 ≤ a .position → referenceFits (a .kind) (a .position) (a .reference) ≡ false → false ≡ possible a
-  unfolding possible
-  no-reference h l p r = simp (h, le-leb (a .log) 15 l, le-leb 1 (a .position) p, r)
+  pub end-reference : same (a .name) END ≡ true → a .kind ≡ 0 → a .log ≤ 15 → a .position ≡ 0 → (a .reference ≡ 0 → ⊥) → false ≡ freshEnd a
+  unfolding freshEnd
+  end-reference h k l p r = simp (h, eq-eqb (a .kind) 0 k, le-leb (a .log) 15 l, eq-eqb (a .position) 0 p, ne-eqb (a .reference) 0 r)
 
-  pub by-kind : isName (a .name) ≡ true → a .log ≤ 15 → 1 ≤ a .position → referenceFits (a .kind) (a .position) (a .reference) ≡ true → blankFits a ≡ possible a
+  pub end-blank : same (a .name) END ≡ true → a .kind ≡ 0 → a .log ≤ 15 → a .position ≡ 0 → a .reference ≡ 0 → isBlank a ≡ freshEnd a
+  unfolding freshEnd
+  end-blank h k l p r = simp (h, eq-eqb (a .kind) 0 k, le-leb (a .log) 15 l, eq-eqb (a .position) 0 p, eq-eqb (a .reference) 0 r)
+
+  -- position 0: nothing but the fresh end
+  pub at-zero : a .position ≡ 0 → freshEnd a ≡ possible a
   unfolding possible
-  by-kind h l p r = simp (h, le-leb (a .log) 15 l, le-leb 1 (a .position) p, r)
+  at-zero p = go (freshEnd a)
+    where
+      go : (t : Bool) → t ≡ t || (isName (a .name) && (leb (a .log) 15 && (leb 1 (a .position) && (referenceFits (a .kind) (a .position) (a .reference) && blankFits a))))
+      go true = refl
+      go false = simp (lt-leb 1 (a .position) (omega arith), and-false (leb (a .log) 15), and-false (isName (a .name)))
+
+  -- another: no fresh end
+  module _ (p : a .position ≢ 0) where
+    not-fresh : freshEnd a ≡ false
+    unfolding freshEnd
+    not-fresh = simp (ne-eqb (a .position) 0 p, and-false (leb (a .log) 15), and-false (eqb (a .kind) 0), and-false (same (a .name) END))
+
+    from-1 : leb 1 (a .position) ≡ true
+    from-1 = le-leb 1 (a .position) (omega arith)
+
+    pub no-name : isName (a .name) ≡ false → false ≡ possible a
+    unfolding possible
+    no-name h = simp (not-fresh, h)
+
+    pub no-log : isName (a .name) ≡ true → 15 < a .log → false ≡ possible a
+    unfolding possible
+    no-log h l = simp (not-fresh, h, lt-leb (a .log) 15 l)
+
+    pub no-reference : isName (a .name) ≡ true → a .log ≤ 15 → referenceFits (a .kind) (a .position) (a .reference) ≡ false → false ≡ possible a
+    unfolding possible
+    no-reference h l r = simp (not-fresh, h, le-leb (a .log) 15 l, from-1, r)
+
+    pub by-kind : isName (a .name) ≡ true → a .log ≤ 15 → referenceFits (a .kind) (a .position) (a .reference) ≡ true → blankFits a ≡ possible a
+    unfolding possible
+    by-kind h l r = simp (not-fresh, h, le-leb (a .log) 15 l, from-1, r)
 
   module _ (q : Question) (nonce : List ℕ) where
     pub other-keeper : (a .keeper ≡ q .keeper → ⊥) → false ≡ answers a q nonce

@@ -13,11 +13,11 @@ use Rattle.octets.specs.Octets.{same, zeros}
 use Rattle.octets.proofs.Tests.{and-left, and-right, and-both, or-right, or-cases, equal-or-not}
 use Rattle.octets.proofs.Same.{same-eq, eq-same}
 use Rattle.receipt.specs.Attestation.{Attestation, LOOKUP, END}
-use Rattle.receipt.specs.Possible.{isName, referenceFits, isBlank, blankFits, possible, Possible}
+use Rattle.receipt.specs.Possible.{isName, referenceFits, isBlank, blankFits, freshEnd, possible, Possible, FreshEnd, Admissible}
 use Rattle.receipt.specs.Verdict.{asks, Asks}
 use Rattle.receipt.specs.declared.Ask.{Ask}
 use Rattle.receipt.specs.declared.Ask.the-variants.{Lookup, End}
-use Rattle.receipt.proofs.Cases.{reference-at, reference-below, reference-above, assigned-fits, skipped-fits, by-blank, by-kind}
+use Rattle.receipt.proofs.Cases.{reference-at, reference-below, reference-above, assigned-fits, skipped-fits, by-blank, end-blank, at-zero, by-kind}
 
 lookup-is-not-end : LOOKUP ≡ END → ⊥
 unfolding LOOKUP END
@@ -56,15 +56,43 @@ module _ (a : Attestation) where
       let t : same (a .name) LOOKUP && (eqb (a .kind) 2 || isBlank a) ≡ true = simp (ne-eqb (a .kind) 1 o) at h in
       same-eq (a .name) LOOKUP (and-left (same (a .name) LOOKUP) _ t)
 
-  not-skipped : blankFits a ≡ true → (a .kind ≡ 1 → ⊥) → (a .kind ≡ 2 → ⊥) → (a .value ≡ zeros 32) × (a .digest ≡ zeros 32)
+  blank-sound : isBlank a ≡ true → (a .value ≡ zeros 32) × (a .digest ≡ zeros 32)
   unfolding isBlank
-  not-skipped h o s =
-      let t : isBlank a ≡ true = by-blank a o (eq-same (a .name) LOOKUP (not-assigned h o)) s ∙ h in
+  blank-sound t =
       (same-eq (a .value) (zeros 32) (and-left (same (a .value) (zeros 32)) _ t), same-eq (a .digest) (zeros 32) (and-right (same (a .value) (zeros 32)) _ t))
 
-  pub possible-sound : possible a ≡ true → Possible a
-  unfolding possible
-  possible-sound h =
+  zero-blank : a .value ≡ zeros 32 → a .digest ≡ zeros 32 → isBlank a ≡ true
+  unfolding isBlank
+  zero-blank v d = and-both (same (a .value) (zeros 32)) (same (a .digest) (zeros 32)) (eq-same (a .value) (zeros 32) v) (eq-same (a .digest) (zeros 32) d)
+
+  not-skipped : blankFits a ≡ true → (a .kind ≡ 1 → ⊥) → (a .kind ≡ 2 → ⊥) → (a .value ≡ zeros 32) × (a .digest ≡ zeros 32)
+  not-skipped h o s = blank-sound (by-blank a o (eq-same (a .name) LOOKUP (not-assigned h o)) s ∙ h)
+
+  -- the end of a fresh log
+  fresh-sound : freshEnd a ≡ true → FreshEnd a
+  unfolding freshEnd
+  fresh-sound h =
+      let t1 = and-right (same (a .name) END) (eqb (a .kind) 0 && (leb (a .log) 15 && (eqb (a .position) 0 && (eqb (a .reference) 0 && isBlank a)))) h in
+      let t2 = and-right (eqb (a .kind) 0) (leb (a .log) 15 && (eqb (a .position) 0 && (eqb (a .reference) 0 && isBlank a))) t1 in
+      let t3 = and-right (leb (a .log) 15) (eqb (a .position) 0 && (eqb (a .reference) 0 && isBlank a)) t2 in
+      let t4 = and-right (eqb (a .position) 0) (eqb (a .reference) 0 && isBlank a) t3 in
+      let z = blank-sound (and-right (eqb (a .reference) 0) (isBlank a) t4) in
+      record {
+        named = same-eq (a .name) END (and-left (same (a .name) END) _ h);
+        unassigned = eqb-true (a .kind) 0 (and-left (eqb (a .kind) 0) _ t1);
+        log = leb-true (a .log) 15 (and-left (leb (a .log) 15) _ t2);
+        position = eqb-true (a .position) 0 (and-left (eqb (a .position) 0) _ t3);
+        reference = eqb-true (a .reference) 0 (and-left (eqb (a .reference) 0) _ t4);
+        value = z .0;
+        digest = z .1;
+      }
+
+  fresh-complete : FreshEnd a → freshEnd a ≡ true
+  fresh-complete f = sym (end-blank a (eq-same (a .name) END (f .named)) (f .unassigned) (f .log) (f .position) (f .reference)) ∙ zero-blank (f .value) (f .digest)
+
+  -- the other entries
+  positive-sound : isName (a .name) && (leb (a .log) 15 && (leb 1 (a .position) && (reference-test && blankFits a))) ≡ true → Possible a
+  positive-sound h =
       let t1 = and-right (isName (a .name)) (leb (a .log) 15 && (leb 1 (a .position) && (reference-test && blankFits a))) h in
       let t2 = and-right (leb (a .log) 15) (leb 1 (a .position) && (reference-test && blankFits a)) t1 in
       let t3 = and-right (leb 1 (a .position)) (reference-test && blankFits a) t2 in
@@ -92,23 +120,30 @@ module _ (a : Attestation) where
       two o z = omega arith
 
   blank-complete : Possible a → blankFits a ≡ true
-  unfolding isBlank
   blank-complete p =
       ⊎-elim (λ o. sym (assigned-fits a o))
-      (λ o. ⊎-elim (λ s. sym (skipped-fits a o (looks o) s)) (λ s. sym (by-blank a o (looks o) s) ∙ zero (p .blank o s .0) (p .blank o s .1)) (equal-or-not (a .kind) 2)) (equal-or-not (a .kind) 1)
+      (λ o. ⊎-elim (λ s. sym (skipped-fits a o (looks o) s)) (λ s. sym (by-blank a o (looks o) s) ∙ zero-blank (p .blank o s .0) (p .blank o s .1)) (equal-or-not (a .kind) 2)) (equal-or-not (a .kind) 1)
     where
       looks : (a .kind ≡ 1 → ⊥) → same (a .name) LOOKUP ≡ true
       looks o = eq-same (a .name) LOOKUP (⊎-elim (λ l. l) (λ n. absurd (o (p .end n))) (p .named))
 
-      zero : a .value ≡ zeros 32 → a .digest ≡ zeros 32 → isBlank a ≡ true
-      zero v d = and-both (same (a .value) (zeros 32)) (same (a .digest) (zeros 32)) (eq-same (a .value) (zeros 32) v) (eq-same (a .digest) (zeros 32) d)
+  pub possible-sound : possible a ≡ true → Admissible a
+  unfolding possible
+  possible-sound h = ⊎-elim (λ t. inr (fresh-sound t)) (λ t. inl (positive-sound t)) (or-cases (freshEnd a) _ h)
 
-  pub possible-complete : Possible a → possible a ≡ true
-  possible-complete p = sym (by-kind a (name-complete (a .name) (p .named)) (p .log) (p .position) (reference-complete p)) ∙ blank-complete p
+  pub possible-complete : Admissible a → possible a ≡ true
+  possible-complete (inl p) =
+      let n = p .position in
+      sym (by-kind a (λ (z : a .position ≡ 0). omega arith) (name-complete (a .name) (p .named)) (p .log) (reference-complete p)) ∙ blank-complete p
+  possible-complete (inr f) = sym (at-zero a (f .position)) ∙ fresh-complete f
 
   -- the test and the conditions agree
-  pub possible-exactly : possible a ≡ true ↔ Possible a
+  pub possible-exactly : possible a ≡ true ↔ Admissible a
   possible-exactly = (possible-sound, possible-complete)
+
+  -- document 02, [6]: "The verifier admits exactly this one entry with position 0."
+  pub zero-exactly : a .position ≡ 0 → possible a ≡ true ↔ FreshEnd a
+  zero-exactly z = (λ h. fresh-sound (at-zero a z ∙ h), λ f. possible-complete (inr f))
 
   pub asks-sound : (k : Ask) → asks k a ≡ true → Asks k a
   unfolding asks

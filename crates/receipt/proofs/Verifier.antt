@@ -1,4 +1,4 @@
--- The verifier accepts exactly the bytes of a possible entry under the key that answers the question.
+-- The verifier accepts exactly the bytes of a possible entry, the end of a fresh log among them, under the key that answers the question.
 use mathlib.Core.Path.{_≡_, refl, sym, ap, ap₂, _∙_, subst}
 use Prim.Native.Nat.{ℕ}
 use native.Mathlib.Omega.{arith}

@@ -22,6 +22,20 @@ pub record Possible (a : Attestation) : Type 0 where
   pub blank : (a .kind ≡ 1 → ⊥) → (a .kind ≡ 2 → ⊥) → (a .value ≡ zeros 32) × (a .digest ≡ zeros 32)
   pub end : a .name ≡ END → a .kind ≡ 1
 
+-- document 02, [6], the end of a fresh log: "an END receipt, kind unassigned, position 0, reference 0, value and digest zero"
+pub record FreshEnd (a : Attestation) : Type 0 where
+  pub named : a .name ≡ END
+  pub unassigned : a .kind ≡ 0
+  pub log : a .log ≤ 15
+  pub position : a .position ≡ 0
+  pub reference : a .reference ≡ 0
+  pub value : a .value ≡ zeros 32
+  pub digest : a .digest ≡ zeros 32
+
+-- what the verifier admits: "exactly this one entry with position 0" beside those
+abbrev pub Admissible : Attestation → Type 0
+Admissible a = Possible a ⊎ FreshEnd a
+
 -- "bytes 0–5 the ASCII name LOOKUP, or END and three zero bytes"
 unfoldable pub isName : List ℕ → Bool
 isName n = same n LOOKUP || same n END
@@ -39,7 +53,11 @@ isBlank a = same (a .value) (zeros 32) && same (a .digest) (zeros 32)
 unfoldable pub blankFits : Attestation → Bool
 blankFits a = cond (eqb (a .kind) 1) true (same (a .name) LOOKUP && (eqb (a .kind) 2 || isBlank a))
 
+unfoldable pub freshEnd : Attestation → Bool
+freshEnd a = same (a .name) END && (eqb (a .kind) 0 && (leb (a .log) 15 && (eqb (a .position) 0 && (eqb (a .reference) 0 && isBlank a))))
+
 -- the test
 unfoldable pub possible : Attestation → Bool
 possible a =
-    isName (a .name) && (leb (a .log) 15 && (leb 1 (a .position) && (referenceFits (a .kind) (a .position) (a .reference) && blankFits a)))
+    freshEnd a
+    || (isName (a .name) && (leb (a .log) 15 && (leb 1 (a .position) && (referenceFits (a .kind) (a .position) (a .reference) && blankFits a))))

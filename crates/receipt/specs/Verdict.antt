@@ -13,7 +13,7 @@ use Rattle.refusal.specs.Order.{Fault, fault, firstFault, afterwards}
 use Rattle.hmac.specs.Hmac.{hmac}
 use Rattle.refusal.specs.Answer.{Answer, answer, answerWith}
 use Rattle.receipt.specs.Attestation.{receiptSize, Attestation, LOOKUP, END, readAttestation, attestedIn, tagIn, receiptBytes, Sized}
-use Rattle.receipt.specs.Possible.{Possible, possible}
+use Rattle.receipt.specs.Possible.{Admissible, possible}
 use Rattle.receipt.specs.declared.Ask.{Ask}
 use Rattle.receipt.specs.declared.Ask.the-variants.{Lookup, End}
 use Rattle.receipt.specs.declared.Question.{Question}
@@ -88,7 +88,7 @@ Asks End a = a .name ≡ END
 pub record Genuine (k r b : List ℕ) (q : Question) (a : Attestation) : Type 0 where
   pub key : length k ≡ 32
   pub sized : Sized a
-  pub possible : Possible a
+  pub possible : Admissible a
   pub bytes : r ≡ receiptBytes k a
   pub keeper : a .keeper ≡ q .keeper
   pub log : a .log ≡ q .log

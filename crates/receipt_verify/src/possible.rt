@@ -2,7 +2,7 @@
 ghost use mathlib.Core.Path.{_≡_};
 ghost use lib.ListN.{length};
 ghost use Rattle.receipt.specs.Attestation.{receiptSize, readAttestation};
-ghost use Rattle.receipt.specs.Possible.{isName, referenceFits, isBlank, blankFits, possible};
+ghost use Rattle.receipt.specs.Possible.{isName, referenceFits, isBlank, blankFits, freshEnd, possible};
 use octets::equal;
 use receipt_fields::digest_of;
 use receipt_fields::is_end;
@@ -71,18 +71,39 @@ fn blank_fits(r: &[u8]) -> bool
     is_blank(r)
 }
 
-pub fn is_possible(r: &[u8]) -> bool
-    requires { ⌜ length (now r) ≡ receiptSize ⌝ }
-    ensures { λ b. ⌜ b ≡ possible (readAttestation (now (r .entry))) ⌝ }
+// Whether an entry with position 0 is the end of a fresh log: END, unassigned, with reference 0 and zero value and digest.
+fn is_fresh_end(r: &[u8]) -> bool
+    requires { ⌜ (length (now r) ≡ receiptSize) × (readAttestation (now r) .position ≡ 0) ⌝ }
+    ensures { λ b. ⌜ b ≡ freshEnd (readAttestation (now (r .entry))) ⌝ }
 {
-    if !is_name(r) {
+    if !is_end(r) {
+        return false;
+    }
+    if kind_of(r) != 0 {
         return false;
     }
     if 15 < log_of(r) {
         return false;
     }
+    if reference_of(r) != 0 {
+        return false;
+    }
+    is_blank(r)
+}
+
+// The end of a fresh log is the one possible entry with position 0.
+pub fn is_possible(r: &[u8]) -> bool
+    requires { ⌜ length (now r) ≡ receiptSize ⌝ }
+    ensures { λ b. ⌜ b ≡ possible (readAttestation (now (r .entry))) ⌝ }
+{
     let position = position_of(r);
-    if position < 1 {
+    if position == 0 {
+        return is_fresh_end(r);
+    }
+    if !is_name(r) {
+        return false;
+    }
+    if 15 < log_of(r) {
         return false;
     }
     let reference = reference_of(r);

@@ -1,19 +1,20 @@
--- No two refusals have one number, and no refusal has 0, the number of "done".
+-- No two refusals have one number, and no refusal has 0, the number of "done", or 6, that of document 01's "nothing held".
 use Prim.Native.Nat.{ℕ, zero, suc, _≤_}
 use native.Mathlib.Omega.{arith}
 use mathlib.Core.Path.{_≡_, refl, sym, ap, _∙_}
+use mathlib.Core.Logic.{_≢_}
 use mathlib.Core.List.{List, [], _∷_}
 use lib.ListN.{getD}
 use Rattle.refusal.specs.Number.{numberOf, outcomeNumber}
 use Rattle.refusal.specs.declared.Refusal.{Refusal}
-use Rattle.refusal.specs.declared.Refusal.the-variants.{Torn, NoLog, Position, Spent, Full, NothingHeld, Length, Counts, NoReceipt, Tag, OtherQuestion, Roster, TooFew, NoRun, Line, Promised}
+use Rattle.refusal.specs.declared.Refusal.the-variants.{Torn, NoLog, Position, Spent, Full, Length, Counts, NoReceipt, Tag, OtherQuestion, Roster, TooFew, NoRun, Line, Promised}
 use Rattle.refusal.specs.declared.Outcome.{Outcome}
 use Rattle.refusal.specs.declared.Outcome.the-variants.{Done, Refused}
 
--- the words in the order of their numbers, the first of number 1
+-- the words in the order of their numbers, the first of number 1; nobody has 6, so any word may stand in its place
 abbrev words : List Refusal
 words =
-    Torn ∷ NoLog ∷ Position ∷ Spent ∷ Full ∷ NothingHeld ∷ Length ∷ Counts ∷ NoReceipt ∷ Tag ∷
+    Torn ∷ NoLog ∷ Position ∷ Spent ∷ Full ∷ Torn ∷ Length ∷ Counts ∷ NoReceipt ∷ Tag ∷
     OtherQuestion ∷ Roster ∷ TooFew ∷ NoRun ∷ Line ∷ Promised ∷ []
 
 -- the outcome of a number
@@ -27,7 +28,6 @@ refused-back NoLog = refl
 refused-back Position = refl
 refused-back Spent = refl
 refused-back Full = refl
-refused-back NothingHeld = refl
 refused-back Length = refl
 refused-back Counts = refl
 refused-back NoReceipt = refl
@@ -59,3 +59,11 @@ numberOf-positive r = go (numberOf r) refl
     go : (n : ℕ) → numberOf r ≡ n → 1 ≤ n
     go zero e = let h : isRefused Done ≡ isRefused (Refused r) = ap isRefused (sym (ap outcomeOf e) ∙ refused-back r) in omega arith
     go (suc n) e = omega arith
+
+-- document 02 [6]: "Refusal 6 is shown never to occur and its number is not used again."
+pub never-six : (r : Refusal) → numberOf r ≢ 6
+never-six r e =
+    let h : Refused r ≡ Refused Torn = sym (refused-back r) ∙ ap outcomeOf e in
+    let q : r ≡ Torn = cc in
+    let n : numberOf r ≡ 1 = ap numberOf q in
+    omega arith

@@ -1,7 +1,8 @@
--- Document 01, "Numbers returned": the number of each word. Every contract that speaks of a refusal cites `numberOf`.
+-- Document 01, "Numbers returned": the number of each word. Every contract that speaks of a refusal cites `numberOf`. Document 02 [6], of 6, "nothing
+-- held": "its number is not used again".
 use Prim.Native.Nat.{ℕ}
 use Rattle.refusal.specs.declared.Refusal.{Refusal}
-use Rattle.refusal.specs.declared.Refusal.the-variants.{Torn, NoLog, Position, Spent, Full, NothingHeld, Length, Counts, NoReceipt, Tag, OtherQuestion, Roster, TooFew, NoRun, Line, Promised}
+use Rattle.refusal.specs.declared.Refusal.the-variants.{Torn, NoLog, Position, Spent, Full, Length, Counts, NoReceipt, Tag, OtherQuestion, Roster, TooFew, NoRun, Line, Promised}
 use Rattle.refusal.specs.declared.Outcome.{Outcome}
 use Rattle.refusal.specs.declared.Outcome.the-variants.{Done, Refused}
 
@@ -11,7 +12,6 @@ numberOf NoLog = 2
 numberOf Position = 3
 numberOf Spent = 4
 numberOf Full = 5
-numberOf NothingHeld = 6
 numberOf Length = 7
 numberOf Counts = 8
 numberOf NoReceipt = 9

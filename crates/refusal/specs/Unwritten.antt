@@ -16,7 +16,7 @@ abbrev pub among : List ℕ → ℕ → Bool
 among [] n = false
 among (k ∷ ks) n = eqb k n || among ks n
 
--- the width of a u64, which a count is. A usize has it too; a byte and the tag of an enum (that of `Length` is 6) have not
+-- the width of a u64, which a count is. A usize has it too; a byte and the tag of an enum (that of `Length` is 5) have not
 abbrev pub countWide : Width → Bool
 countWide w8 = false
 countWide w16 = false

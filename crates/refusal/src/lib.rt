@@ -1,4 +1,5 @@
-// Why a call is refused: document 01's "Numbers returned" and those of document 02, a variant for each of their words.
+// Why a call is refused: document 01's "Numbers returned" and those of document 02, a variant for each of their words but "nothing
+// held", which no call answers any more (document 02 [6]). Its number, 6, "is not used again".
 ghost use mathlib.Core.Path.{_≡_};
 ghost use Rattle.refusal.specs.Number.{numberOf, outcomeNumber};
 ghost use Rattle.refusal.specs.Work.{workedNumber, workedBlocks};
@@ -9,7 +10,6 @@ pub enum Refusal {
     Position,
     Spent,
     Full,
-    NothingHeld,
     Length,
     Counts,
     NoReceipt,
@@ -46,7 +46,6 @@ impl Refusal {
             Refusal::Position => 3,
             Refusal::Spent => 4,
             Refusal::Full => 5,
-            Refusal::NothingHeld => 6,
             Refusal::Length => 7,
             Refusal::Counts => 8,
             Refusal::NoReceipt => 9,

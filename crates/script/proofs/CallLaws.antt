@@ -17,7 +17,7 @@ use Rattle.layout.specs.Fits.{Fits}
 use Rattle.layout.proofs.TableLaws.{length-rows, fits-read}
 use Rattle.table.specs.Whole.{whole}
 use Rattle.a2m.specs.Call.{Call, append, advance, truncate, logOf, Wide, refused, done, found}
-use Rattle.a2m.specs.ImageCalls.{rowIn, wrongLength, misplaced, spent, nothingHeld, full, promised, faults, imageDone, imageAccept, imageRefusal, imageStep}
+use Rattle.a2m.specs.ImageCalls.{rowIn, wrongLength, misplaced, spent, full, promised, faults, imageDone, imageAccept, imageRefusal, imageStep}
 use Rattle.a2m.specs.TableCalls.{tableRefusal, tableStep}
 use Rattle.a2m.proofs.Clear.{clear}
 use Rattle.a2m.proofs.FitsAfter.{step-fits}
@@ -46,7 +46,7 @@ unfolding tableRefusal faults firstFault
 refused-named b call k s h n m =
     let m0 : Image = readTable b in
     let r = rowIn m0 (logOf call) in
-    let rest : List Fault = fault 3 (misplaced r call) ∷ fault 4 (spent r call) ∷ fault 6 (nothingHeld r call) ∷ fault 5 (full m0 call) ∷ fault 16 (promised m0 call) ∷ [] in
+    let rest : List Fault = fault 3 (misplaced r call) ∷ fault 4 (spent r call) ∷ fault 5 (full m0 call) ∷ fault 16 (promised m0 call) ∷ [] in
     let l : Bool = leb (length (m0 .rows)) (logOf call) in
     let e : firstFault (fault 7 (wrongLength call) ∷ fault 1 (not (whole b)) ∷ fault 2 l ∷ rest) ≡ some k = refused-unchanged b call k h .1 in
     let e7 : firstFault (fault 1 (not (whole b)) ∷ fault 2 l ∷ rest) ≡ some k = ap (λ (t : Bool). cond t (some 7) (firstFault (fault 1 (not (whole b)) ∷ fault 2 l ∷ rest))) (sym s) ∙ e in

@@ -2,6 +2,7 @@ pub mod AnswerLaws
 pub mod BeforeFormat
 pub mod CallLaws
 pub mod CellLaws
+pub mod NeverSix
 pub mod NewlineLaws
 pub mod Reading
 pub mod ReserveLaws

@@ -35,6 +35,12 @@ boundedAnswer k r = cond (eqb k 1 || eqb k 2) (Plain k) (Bounded k (r .low) (r .
 abbrev pub replyAnswer : Reply → Row → Answer
 replyAnswer reply r = elim (receiptIn reply) [ none ↦ boundedAnswer (numbered reply .number) r | some receipt ↦ attestedAnswer (readAttestation receipt) r ]
 
+-- the number in the second column
+abbrev pub answerNumber : Answer → ℕ
+answerNumber (Plain k) = k
+answerNumber (Bounded k low high) = k
+answerNumber (Attested kind position reference value low high) = 0
+
 -- the answer to a call, with the row of its log after the call
 unfoldable pub callAnswer : List ℕ → Call → Answer
 callAnswer b call = replyAnswer (tableStep b call .reply) (rowIn (readTable (tableStep b call .state)) (logOf call))

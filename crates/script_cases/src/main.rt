@@ -73,6 +73,14 @@ fn refusals() {
     );
 }
 
+// The end of a fresh log is unassigned, with position and reference 0, also where no slot is free; a lookup of 0 stays 3, and an
+// end of no log 2.
+fn fresh_ends() {
+    io::write_all(STDOUT_FILENO, b"-- the end of a fresh log\n");
+    show(b"format,1,1,9,0\nend,0\nlookup,0,0\nend,1\nappend,0,5\nend,0\n");
+    show(b"format,2,1,9,0,0\nappend,0,5\nend,1\nend,0\nappend,1,6\nend,1\nlookup,1,1\n");
+}
+
 // Counts out of range give 8, wide ones too, where the reserves are as many as the logs; a refused format leaves the old table, an
 // accepted one writes a new one.
 fn formats() {
@@ -177,6 +185,7 @@ fn main() {
     truncates();
     last_position();
     refusals();
+    fresh_ends();
     formats();
     reserves();
     promised();
