@@ -22,7 +22,7 @@ const CERTIFY: usize = 12;
 const COMPARE: usize = 13;
 
 /// The numbers that calls return: 15 is for lines of a script.
-const NUMBERS: [usize; 15] = [0, 1, 2, 3, 4, 5, 7, 8, 9, 10, 11, 12, 13, 14, 16];
+const NUMBERS: [usize; 16] = [0, 1, 2, 3, 4, 5, 7, 8, 9, 10, 11, 12, 13, 14, 16, 17];
 
 /// What is spoiled of plain C's first accepted answer to a call, to see that the check finds it. A promise is its first
 /// answer 16.
@@ -106,7 +106,7 @@ struct Answer {
 pub struct Check {
     random: Random,
     /// Answers by call and number.
-    pub counts: [[u64; 17]; CALLS.len()],
+    pub counts: [[u64; 18]; CALLS.len()],
     /// Accepted comparisons of runs by verdict, accepted lookups by kind, and accepted ends, of fresh logs and of others.
     pub verdicts: [u64; 3],
     pub kinds: [u64; 4],
@@ -149,7 +149,7 @@ impl Check {
     pub fn new(seed: u64, spoil: Option<(usize, Part)>) -> Check {
         Check {
             random: Random(seed),
-            counts: [[0; 17]; CALLS.len()],
+            counts: [[0; 18]; CALLS.len()],
             verdicts: [0; 3],
             kinds: [0; 4],
             ends: [0; 2],
@@ -370,14 +370,16 @@ impl Check {
         reports(call, answer, due)
     }
 
-    fn certify(&mut self, roster: &[u8], nonce: &[u8], log: u64, n: u64, certificate: &[u8]) -> Checked<Answer> {
+    fn certify(
+        &mut self, profile: (u64, u64), roster: &[u8], nonce: &[u8], log: u64, n: u64, certificate: &[u8],
+    ) -> Checked<Answer> {
         let run = |side: &Side, b: &mut [Lent], r: &mut [u64; 5]| {
             let mut mask = r[1] as u32;
-            let returned = side.certify(b[0].get(), b[1].get(), log, n, b[2].get(), &mut r[0], &mut mask);
+            let returned = side.certify(profile, b[0].get(), b[1].get(), log, n, b[2].get(), &mut r[0], &mut mask);
             r[1] = r[1] >> 32 << 32 | mask as u64;
             returned
         };
-        let says = || format!("roster, nonce, certificate; log {log}, position {n}");
+        let says = || format!("roster, nonce, certificate; profile {profile:?}, log {log}, position {n}");
         self.case(CERTIFY, &[roster, nonce, certificate], run, says)
     }
 
@@ -1253,7 +1255,7 @@ impl Check {
         for (receipt, m) in [(good(5), 0), (impossible, 1), (good(8), 1), (end, 2), (fresh, 1)] {
             certificate.extend(receipt.write(key(m)));
         }
-        let answer = self.certify(&roster, &nonce, 0, 9, &certificate)?;
+        let answer = self.certify((3, 2), &roster, &nonce, 0, 9, &certificate)?;
         if answer.number != 13 {
             return Err(format!("certify: one good receipt of three members gives {}", answer.number));
         }
@@ -1266,9 +1268,20 @@ impl Check {
         for _ in 0..120 * times {
             let members = match self.random.below(8) {
                 0 => self.random.below(34),
-                1 => 31,
-                _ => 1 + 2 * self.random.below(6),
-            } as usize;
+                1 => 32,
+                _ => 1 + self.random.below(11),
+            };
+            // Mostly a profile that is permitted: a majority, or any number above half.
+            let profile = match self.random.below(24) {
+                0 => (members, members / 2),
+                1 => (members, members + 1),
+                2 => (self.random.below(34), self.random.below(34)),
+                3 => (members, members / 2 + 1 + (1 << 63)),
+                4 => (members + (1 << 32), members / 2 + 1),
+                5..=14 => (members, members / 2 + 1 + self.random.below((members - members / 2).max(1))),
+                _ => (members, members / 2 + 1),
+            };
+            let members = members as usize;
             let mut roster: Vec<(u64, Vec<u8>)> = Vec::new();
             for _ in 0..members {
                 let number = if self.random.once_in(2) { self.random.next() } else { self.random.below(4000) };
@@ -1287,7 +1300,7 @@ impl Check {
                 1 => 32,
                 _ => (members + self.random.below(3) as usize).min(32),
             };
-            // How often a receipt is a stray one; with none the majority comes about.
+            // How often a receipt is a stray one; with none as many as are needed agree.
             let stray = self.random.pick(&[1000, 8, 3]);
             let two_stories = self.random.once_in(3);
             let mut certificate = Vec::new();
@@ -1353,7 +1366,7 @@ impl Check {
                 2 => (log as u64, position ^ 1),
                 _ => (log as u64, position),
             };
-            self.certify(&list, &nonce, log, position, &certificate)?;
+            self.certify(profile, &list, &nonce, log, position, &certificate)?;
         }
         Ok(())
     }
@@ -1569,11 +1582,10 @@ pub fn run(seed: u64, times: u64) -> bool {
     println!();
     for (call, counts) in CALLS.iter().zip(&check.counts) {
         print!("  {call:<11}{:>9}", counts[0]);
-        for count in NUMBERS[1..].iter().map(|number| counts[*number]) {
-            if count == 0 {
-                print!("{:>7}", "-");
-            } else {
-                print!("{count:>7}");
+        for number in &NUMBERS[1..] {
+            match counts[*number] {
+                0 => print!("{:>7}", "-"),
+                count => print!("{count:>7}"),
             }
         }
         println!();
@@ -1587,7 +1599,7 @@ pub fn run(seed: u64, times: u64) -> bool {
     );
     println!("  longest message hashed: {} bytes", check.longest);
     let mut full = true;
-    for number in 0..17 {
+    for number in 0..18 {
         let came = check.counts.iter().any(|c| c[number] != 0);
         if number == 6 && came {
             println!("  number 6 came up, which no call answers any more");

@@ -665,16 +665,18 @@ keeper_result plain_verify_end(const uint8_t *key, size_t key_bytes, const uint8
 
 /* ---- certificates ---- */
 
-enum { MEMBER = 40, MAX_MEMBERS = 31, MAX_RECEIPTS = 32 };
+enum { MEMBER = 40, MAX_MEMBERS = 32, MAX_RECEIPTS = 32 };
 
-keeper_result plain_certify(const uint8_t *roster, size_t roster_bytes, const uint8_t *nonce, size_t nonce_bytes,
-                            uint64_t log, uint64_t position, const uint8_t *certificate, size_t certificate_bytes,
-                            uint64_t *place, uint32_t *mask)
+keeper_result plain_certify(uint64_t members, uint64_t needed, const uint8_t *roster, size_t roster_bytes,
+                            const uint8_t *nonce, size_t nonce_bytes, uint64_t log, uint64_t position,
+                            const uint8_t *certificate, size_t certificate_bytes, uint64_t *place, uint32_t *mask)
 {
     if (nonce_bytes != 32)
         return refused(KEEPER_LENGTH);
-    size_t members = roster_bytes / MEMBER, receipts = certificate_bytes / 160;
-    if (roster_bytes % MEMBER != 0 || members > MAX_MEMBERS || members % 2 == 0)
+    size_t receipts = certificate_bytes / 160;
+    if (members < 1 || members > MAX_MEMBERS || needed > members || needed <= members / 2)
+        return refused(KEEPER_PROFILE);
+    if (roster_bytes != MEMBER * members)
         return refused(KEEPER_ROSTER);
     uint64_t number[MAX_MEMBERS];
     for (size_t i = 0; i < members; i++) {
@@ -719,7 +721,7 @@ keeper_result plain_certify(const uint8_t *roster, size_t roster_bytes, const ui
         shown[k].mask |= UINT32_C(1) << m;
     }
     for (size_t k = 0; k < pairs; k++) {
-        if ((size_t)__builtin_popcount(shown[k].mask) >= (members + 1) / 2) {
+        if ((uint64_t)__builtin_popcount(shown[k].mask) >= needed) {
             *place = shown[k].place;
             *mask = shown[k].mask;
             return done(blocks);

@@ -44,9 +44,9 @@ keeper_result plain_verify_end(const uint8_t *key, size_t key_bytes, const uint8
                                const uint8_t *nonce, size_t nonce_bytes, uint64_t keeper, uint64_t log,
                                keeper_verdict *verdict);
 
-keeper_result plain_certify(const uint8_t *roster, size_t roster_bytes, const uint8_t *nonce, size_t nonce_bytes,
-                            uint64_t log, uint64_t position, const uint8_t *certificate, size_t certificate_bytes,
-                            uint64_t *place, uint32_t *mask);
+keeper_result plain_certify(uint64_t members, uint64_t needed, const uint8_t *roster, size_t roster_bytes,
+                            const uint8_t *nonce, size_t nonce_bytes, uint64_t log, uint64_t position,
+                            const uint8_t *certificate, size_t certificate_bytes, uint64_t *place, uint32_t *mask);
 
 keeper_result plain_compare(const uint8_t *start1, size_t start1_bytes, uint64_t first1, const uint8_t *values1,
                             size_t values1_bytes, const uint8_t *start2, size_t start2_bytes, uint64_t first2,

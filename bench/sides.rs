@@ -24,7 +24,8 @@ type Out = *mut u8;
 type Num = *mut u64;
 type Verify = unsafe extern "C" fn(In, usize, In, usize, In, usize, u64, u64, u64, *mut Verdict) -> KeeperResult;
 type VerifyEnd = unsafe extern "C" fn(In, usize, In, usize, In, usize, u64, u64, *mut Verdict) -> KeeperResult;
-type Certify = unsafe extern "C" fn(In, usize, In, usize, u64, u64, In, usize, Num, *mut u32) -> KeeperResult;
+type Certify =
+    unsafe extern "C" fn(u64, u64, In, usize, In, usize, u64, u64, In, usize, Num, *mut u32) -> KeeperResult;
 type Compare =
     unsafe extern "C" fn(In, usize, u64, In, usize, In, usize, u64, In, usize, Out, usize, *mut u8) -> KeeperResult;
 
@@ -83,8 +84,8 @@ macro_rules! side {
                 keeper: u64, log: u64, verdict: *mut Verdict,
             ) -> KeeperResult;
             fn $certify(
-                roster: In, roster_bytes: usize, nonce: In, nonce_bytes: usize, log: u64, position: u64,
-                certificate: In, certificate_bytes: usize, place: Num, mask: *mut u32,
+                members: u64, needed: u64, roster: In, roster_bytes: usize, nonce: In, nonce_bytes: usize, log: u64,
+                position: u64, certificate: In, certificate_bytes: usize, place: Num, mask: *mut u32,
             ) -> KeeperResult;
             fn $compare(
                 start1: In, start1_bytes: usize, first1: u64, values1: In, values1_bytes: usize, start2: In,
@@ -211,13 +212,13 @@ impl Side {
     }
 
     pub fn certify(
-        &self, roster: &[u8], nonce: &[u8], log: u64, position: u64, certificate: &[u8], place: &mut u64,
-        mask: &mut u32,
+        &self, profile: (u64, u64), roster: &[u8], nonce: &[u8], log: u64, position: u64, certificate: &[u8],
+        place: &mut u64, mask: &mut u32,
     ) -> KeeperResult {
         unsafe {
             (self.certify)(
-                roster.as_ptr(), roster.len(), nonce.as_ptr(), nonce.len(), log, position, certificate.as_ptr(),
-                certificate.len(), place, mask,
+                profile.0, profile.1, roster.as_ptr(), roster.len(), nonce.as_ptr(), nonce.len(), log, position,
+                certificate.as_ptr(), certificate.len(), place, mask,
             )
         }
     }

@@ -41,7 +41,7 @@ CALL(keeper_end, table, sizeof table, 0, nonce, 32, end, 160)
 CALL(keeper_truncate, table, sizeof table, 0, 9, &low, &high)
 CALL(keeper_verify_lookup, key, 32, receipt, 160, nonce, 32, 7, 0, 9, &verdict)
 CALL(keeper_verify_end, key, 32, end, 160, nonce, 32, 7, 0, &verdict)
-CALL(keeper_certify, roster, sizeof roster, nonce, 32, 0, 9, certificate, sizeof certificate, &place, &mask)
+CALL(keeper_certify, 3, 2, roster, sizeof roster, nonce, 32, 0, 9, certificate, sizeof certificate, &place, &mask)
 CALL(keeper_compare, nonce, 32, 1, values, sizeof values, nonce, 32, 1, values, sizeof values, collision, 144, &found)
 
 static void measure(const char *name, void (*run)(void))
@@ -83,7 +83,7 @@ int main(void)
     MEASURE(keeper_truncate);
     MEASURE(keeper_verify_lookup);
     MEASURE(keeper_verify_end);
-    /* A majority of two: keepers 6 and 7, whose receipts are made here with the keys of the roster. */
+    /* Two of three: keepers 6 and 7, whose receipts are made here with the keys of the roster. */
     memcpy(certificate, receipt, 160);
     memcpy(certificate + 160, receipt, 160);
     certificate[160 + KEEPER_AT_KEEPER + 7] = 6;

@@ -383,6 +383,7 @@ impl Table {
         let mut random = Random(7);
         let (nonce, pair) = (random.bytes(32), random.bytes(64));
         for (members, receipts) in [(1, 1), (31, 16), (31, 31)] {
+            let profile = (members, (members + 1) / 2);
             let (mut roster, mut pile) = (Vec::new(), Vec::new());
             for m in 0..members {
                 let key = random.bytes(32);
@@ -394,8 +395,14 @@ impl Table {
             }
             let (mut p1, mut p2, mut m1, mut m2) = (0, 0, 0, 0);
             let times = self.timer.pair(
-                || assert_eq!(KEEPER.certify(&roster, &nonce, 3, 99, black_box(&pile), &mut p1, &mut m1).number, 0),
-                || assert_eq!(PLAIN.certify(&roster, &nonce, 3, 99, black_box(&pile), &mut p2, &mut m2).number, 0),
+                || {
+                    let answer = KEEPER.certify(profile, &roster, &nonce, 3, 99, black_box(&pile), &mut p1, &mut m1);
+                    assert_eq!(answer.number, 0)
+                },
+                || {
+                    let answer = PLAIN.certify(profile, &roster, &nonce, 3, 99, black_box(&pile), &mut p2, &mut m2);
+                    assert_eq!(answer.number, 0)
+                },
             );
             self.row(&format!("{receipts} receipts, roster of {members}"), &times, None, "");
         }

@@ -35,7 +35,7 @@ extern "C" {
 #endif
 
 /* One more with each change of a prototype, a constant, a rule, or the bytes of a table or receipt. */
-#define KEEPER_VERSION 7
+#define KEEPER_VERSION 8
 
 /* Numbers returned. */
 enum {
@@ -52,10 +52,11 @@ enum {
     KEEPER_NO_RECEIPT = 9,      /* not 160 bytes or no possible entry; a certificate that is not 0 to 32 whole receipts */
     KEEPER_TAG = 10,            /* the tag is wrong */
     KEEPER_OTHER_QUESTION = 11, /* the receipt answers another question */
-    KEEPER_ROSTER = 12,         /* no roster */
+    KEEPER_ROSTER = 12,         /* no roster of the profile's number of members */
     KEEPER_TOO_FEW = 13,        /* no pair of value and digest is certified */
     KEEPER_NO_RUN = 14,         /* no values, not a multiple of 32 bytes, first position 0, or last beyond 2^64 - 1 */
-    KEEPER_PROMISED = 16        /* append or advance, and slots are free, but other logs lack as many of their reserves */
+    KEEPER_PROMISED = 16,       /* append or advance, and slots are free, but other logs lack as many of their reserves */
+    KEEPER_PROFILE = 17         /* other than 1 to 32 members, half of them needed or fewer, or more than all */
 };
 
 /* Lengths of buffers, in bytes. */
@@ -70,7 +71,7 @@ enum {
 };
 
 /* The most of each. */
-enum { KEEPER_MAX_LOGS = 16, KEEPER_MAX_SLOTS = 800, KEEPER_MAX_MEMBERS = 31, KEEPER_MAX_RECEIPTS = 32 };
+enum { KEEPER_MAX_LOGS = 16, KEEPER_MAX_SLOTS = 800, KEEPER_MAX_MEMBERS = 32, KEEPER_MAX_RECEIPTS = 32 };
 
 /* The bytes of a table of so many logs (1 to 16) and slots (1 to 800), and of the largest one: 61,206. */
 #define KEEPER_TABLE_BYTES(logs, slots) ((size_t)54 + (size_t)22 * (logs) + (size_t)76 * (slots))
@@ -191,21 +192,22 @@ keeper_result keeper_verify_end(const uint8_t *key, size_t key_bytes, const uint
                                 const uint8_t *nonce, size_t nonce_bytes, uint64_t keeper, uint64_t log,
                                 keeper_verdict *verdict);
 
-/* Whether a certificate, 0 to 32 receipts on end, certifies a value and digest at a position of a log, for a roster: 1 to 31
- * members of KEEPER_MEMBER_BYTES, an odd number N of them with different keeper numbers. A receipt is good if it answers the
- * lookup of a member, as keeper_verify_lookup finds under that member's key, and is assigned; others are passed over, a
- * skipped one with what it shows. A value and digest are certified when good receipts of (N + 1) / 2 different members show
- * both.
+/* Whether a certificate, 0 to 32 receipts on end, certifies a value and digest at a position of a log, for a station of
+ * 1 to 32 members, more than half of which are needed, and its roster: an item of KEEPER_MEMBER_BYTES for each member, all with
+ * different keeper numbers. A receipt is good if it answers the lookup of a member, as keeper_verify_lookup finds under that
+ * member's key, and is assigned; others are passed over, a skipped one with what it shows. A value and digest are certified
+ * when good receipts of as many different members as are needed show both.
  *
  * place becomes the place, from 0, of the first good receipt that shows the certified pair, and mask the members whose good
  * receipts show it, the lowest bit for the roster's first. The certified value stands at
  * certificate + place * KEEPER_RECEIPT_BYTES + KEEPER_AT_VALUE, the digest at KEEPER_AT_DIGEST of the same receipt.
  *
  * Blocks: 6 for each receipt that is a possible entry with the keeper number of a member, good or not, with 13 too;
- * with 7, 12 and 9 none. Refused, in this order: 7 the nonce's length; 12; 9; 13. */
-keeper_result keeper_certify(const uint8_t *roster, size_t roster_bytes, const uint8_t *nonce, size_t nonce_bytes,
-                             uint64_t log, uint64_t position, const uint8_t *certificate, size_t certificate_bytes,
-                             uint64_t *place, uint32_t *mask);
+ * with 7, 17, 12 and 9 none. Refused, in this order: 7 the nonce's length; 17 unless 1 <= members <= 32, 2 * needed > members
+ * and needed <= members; 12 also for a roster of another number of items than members; 9; 13. */
+keeper_result keeper_certify(uint64_t members, uint64_t needed, const uint8_t *roster, size_t roster_bytes,
+                             const uint8_t *nonce, size_t nonce_bytes, uint64_t log, uint64_t position,
+                             const uint8_t *certificate, size_t certificate_bytes, uint64_t *place, uint32_t *mask);
 
 /* Compares two runs, each a start digest, a first position and values of 32 bytes at consecutive positions. A value's block
  * is its position, the value and the digest before it, 72 bytes, and its digest SHA-256 of the block, as an append makes it.

@@ -1,6 +1,6 @@
-/* Three forecast offices along a river. A station of three keepers records the crest; every office has the station's roster
- * and asks with a nonce of its own. The first office's certificate stands though a keeper shows another value, the second's
- * falls short, and the third compares two runs of readings. */
+/* Three forecast offices along a river. A station of three keepers records the crest; every office has the station's roster,
+ * wants two of the keepers to agree, and asks with a nonce of its own. The first office's certificate stands though a keeper
+ * shows another value, the second's falls short, and the third compares two runs of readings. */
 #include "keeper.h"
 #include <inttypes.h>
 #include <stdio.h>
@@ -8,7 +8,7 @@
 
 _Static_assert(sizeof(keeper_result) == 16, "the library returns two numbers of 8 bytes");
 
-enum { KEEPERS = 3, STAGE = 0, CREST = 3 };
+enum { KEEPERS = 3, NEEDED = 2, STAGE = 0, CREST = 3 };
 
 static uint8_t tables[KEEPERS][KEEPER_TABLE_BYTES(1, 8)];
 static uint8_t roster[KEEPERS * KEEPER_MEMBER_BYTES];
@@ -61,8 +61,8 @@ static void certify(const char *office, const uint8_t *nonce, const uint8_t *rec
 {
     uint64_t place;
     uint32_t mask;
-    keeper_result answer = keeper_certify(roster, sizeof roster, nonce, KEEPER_NONCE_BYTES, STAGE, CREST, receipts,
-                                          count * KEEPER_RECEIPT_BYTES, &place, &mask);
+    keeper_result answer = keeper_certify(KEEPERS, NEEDED, roster, sizeof roster, nonce, KEEPER_NONCE_BYTES, STAGE, CREST,
+                                          receipts, count * KEEPER_RECEIPT_BYTES, &place, &mask);
     printf("%s: %zu receipts, %" PRIu64 " blocks hashed, answer %" PRIu64, office, count, answer.blocks, answer.number);
     if (answer.number == KEEPER_DONE) {
         const uint8_t *receipt = receipts + place * KEEPER_RECEIPT_BYTES;

@@ -93,14 +93,14 @@ pub verify-number : (key r nonce : List ℕ) (q : Question) → verdict key r no
 unfolding verdict
 verify-number key r nonce q = never-numbered 6 not-done (verifyRefusal key r nonce q) (carried (readAttestation r)) (verify-refusal key r nonce q)
 
-module _ (roster nonce : List ℕ) (log position : ℕ) (cert : List ℕ) where
-  certify-refusal : certificateRefusal roster nonce log position cert ≢ some 6
+module _ (n k : ℕ) (roster nonce : List ℕ) (log position : ℕ) (cert : List ℕ) where
+  certify-refusal : certificateRefusal n k roster nonce log position cert ≢ some 6
   unfolding certificateRefusal unreadPile
   certify-refusal = never 6 _ refl
 
-  pub certify-number : certificate roster nonce log position cert .number ≢ 6
+  pub certify-number : certificate n k roster nonce log position cert .number ≢ 6
   unfolding certificate
-  certify-number = never-numbered 6 not-done (certificateRefusal roster nonce log position cert) (named roster nonce log position cert (firstPlace roster nonce log position cert)) certify-refusal
+  certify-number = never-numbered 6 not-done (certificateRefusal n k roster nonce log position cert) (named roster nonce log position cert (firstPlace roster nonce log position cert k)) certify-refusal
 
 -- ---- runs
 

@@ -57,6 +57,8 @@ pub extern "C" fn keeper_verify_end(
 
 #[no_mangle]
 pub extern "C" fn keeper_certify(
+    members: u64,
+    needed: u64,
     roster: &[u8],
     nonce: &[u8],
     log: u64,
@@ -65,12 +67,12 @@ pub extern "C" fn keeper_certify(
     place: &mut u64,
     mask: &mut u32,
 ) -> KeeperResult
-    ensures answer { λ r. ⌜ r .number ≡ certificateFor (now (roster .entry)) (now (nonce .entry)) log position (now (certificate .entry)) .number ⌝ }
-    ensures blocks { λ r. ⌜ r .blocks ≡ certificateBlocks (now (roster .entry)) (now (nonce .entry)) (now (certificate .entry)) ⌝ }
-    ensures place { λ _. ⌜ now (place .exit) ≡ placeAfter (certificateFor (now (roster .entry)) (now (nonce .entry)) log position (now (certificate .entry))) (now (place .entry)) ⌝ }
-    ensures mask { λ _. ⌜ now (mask .exit) ≡ maskAfter (certificateFor (now (roster .entry)) (now (nonce .entry)) log position (now (certificate .entry))) (now (mask .entry)) ⌝ }
+    ensures answer { λ r. ⌜ r .number ≡ certificateFor members needed (now (roster .entry)) (now (nonce .entry)) log position (now (certificate .entry)) .number ⌝ }
+    ensures blocks { λ r. ⌜ r .blocks ≡ certificateBlocks members needed (now (roster .entry)) (now (nonce .entry)) (now (certificate .entry)) ⌝ }
+    ensures place { λ _. ⌜ now (place .exit) ≡ placeAfter (certificateFor members needed (now (roster .entry)) (now (nonce .entry)) log position (now (certificate .entry))) (now (place .entry)) ⌝ }
+    ensures mask { λ _. ⌜ now (mask .exit) ≡ maskAfter (certificateFor members needed (now (roster .entry)) (now (nonce .entry)) log position (now (certificate .entry))) (now (mask .entry)) ⌝ }
 {
-    match quorum::certify(roster, nonce, log, position, certificate) {
+    match quorum::certify(members, needed, roster, nonce, log, position, certificate) {
         Station::Certified {
             place: p,
             mask: m,

@@ -28,8 +28,9 @@
 // tag SLOT KEY                             writes the tag of a receipt anew
 // verify SLOT SIZE KEY NONCE KEEPER LOG POSITION
 // verify SLOT SIZE KEY NONCE KEEPER LOG    the verdict on the first SIZE bytes of a slot: a lookup's, or an end's
-// certify SLOT SIZE NONCE LOG POSITION RECEIPTS SIZE
-//                                          a roster, from a slot on; a byte for each receipt, its slot; the bytes of the certificate
+// certify MEMBERS NEEDED SLOT SIZE NONCE LOG POSITION RECEIPTS SIZE
+//                                          a profile; a roster, from a slot on; a byte for each receipt, its slot; the bytes of the
+//                                          certificate
 // compare START FIRST VALUES START FIRST VALUES SLOT SIZE
 //                                          two runs, and the slot whose first bytes are lent
 mod comparing;
@@ -115,7 +116,7 @@ flip n n
 tag n x
 verify n n x x n n n
 verify n n x x n n
-certify n n x n n x n
+certify n n n n x n n x n
 compare x n x x n x n n
 ",
     ) {

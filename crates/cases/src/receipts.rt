@@ -100,13 +100,15 @@ fn gather(pile: &[u8], places: &[u8], certificate: &mut [u8]) {
 
 pub fn certified(v: Values, store: &[u8], pile: &[u8]) {
     let mut certificate = [0u8; 5280];
-    gather(pile, slot(store, 6, v.f), &mut certificate);
+    gather(pile, slot(store, 8, v.h), &mut certificate);
     match certify(
-        slot(pile, v.a, v.b),
-        slot(store, 3, v.c),
-        v.d,
-        v.e,
-        slot(&certificate, 0, v.g),
+        v.a,
+        v.b,
+        slot(pile, v.c, v.d),
+        slot(store, 5, v.e),
+        v.f,
+        v.g,
+        slot(&certificate, 0, v.i),
     ) {
         Station::Certified {
             place,

@@ -13,12 +13,12 @@ use Rattle.receipt.specs.Possible.{possible}
 use Rattle.receipt.specs.Verdict.{verifyBlocks}
 use Rattle.receipt.proofs.Cases.{blocks-by}
 use Rattle.quorum.specs.Bits.{sumBelow}
-use Rattle.quorum.specs.Roster.{size, isMember}
+use Rattle.roster.specs.Roster.{size, isMember, member}
 use Rattle.quorum.specs.Certificate.{receiptAt, receiptBlocks}
-use Rattle.quorum.specs.Tally.{member, blocksBelow}
-use Rattle.quorum.specs.declared.Found.{Found}
-use Rattle.quorum.specs.declared.Found.the-variants.{At, Nothing}
-use Rattle.quorum.proofs.RosterLaws.{isNothing, absent-is, member-below}
+use Rattle.quorum.specs.Tally.{blocksBelow}
+use Rattle.roster.specs.declared.Found.{Found}
+use Rattle.roster.specs.declared.Found.the-variants.{At, Nothing}
+use Rattle.roster.proofs.RosterLaws.{isNothing, absent-is, member-below}
 
 pub receipt-few : (roster r : List ℕ) → receiptBlocks roster r ≤ 6
 unfolding receiptBlocks

@@ -1,6 +1,5 @@
--- A certificate stands exactly when (N + 1)/2 distinct members have good receipts showing one pair; the verdict names the
--- first such receipt and exactly those members; a member's receipts count once; if no member has good receipts with different
--- pairs, at most one pair is certified.
+-- Under a profile of n members of which k are needed, a certificate stands exactly when k distinct members have good receipts showing one
+-- pair; the verdict names the first such receipt and exactly those members; a member's receipts count once.
 use mathlib.Core.Path.{_≡_, refl, sym, ap, _∙_, subst}
 use mathlib.Core.Logic.{_≢_, ⊎-elim, _↔_}
 use Prim.Native.Nat.{ℕ, zero, suc, _+_, _*_, _/_, _%_, _^_, _≤_, _<_}
@@ -16,14 +15,16 @@ use borrow.Author.Tests.{eqb-true, leb-true, le-leb, not-false}
 use Rattle.octets.specs.Octets.{Bytes, same}
 use Rattle.octets.proofs.Tests.{and-left, and-right, and-both, or-left, or-right, or-cases, equal-or-not}
 use Rattle.octets.proofs.Parts.{bytes-part}
-use Rattle.octets.proofs.Same.{same-eq, eq-same, same-not}
+use Rattle.octets.proofs.Same.{same-eq, eq-same}
 use Rattle.refusal.specs.Answer.{Answer, answer}
 use Rattle.receipt.specs.Attestation.{receiptSize}
 use Rattle.refusal.proofs.AnswerLaws.{no-fault}
 use Rattle.quorum.specs.Bits.{countBelow, maskBelow}
-use Rattle.quorum.specs.Roster.{size, isRoster, IsRoster, distinct, majority}
-use Rattle.quorum.specs.Certificate.{receiptCount, isCertificate, receiptAt, pairAt, isNone, goodBy, showsIn, shows, certified, goodAt, firstOf, firstPlace, named, unread, certificateBlocks, certificateRefusal, certificate, Admitted, GoodBy, GenuineBy, GoodAt, Shows, Members, Certified, Named, NamesExactly, Consistent}
-use Rattle.quorum.proofs.RosterLaws.{roster-exactly, majority-most, majority-some}
+use Rattle.roster.specs.Profile.{permitted}
+use Rattle.roster.specs.Roster.{size, isRoster, distinct}
+use Rattle.quorum.specs.Certificate.{receiptCount, isCertificate, receiptAt, pairAt, isNone, goodBy, showsIn, shows, certified, goodAt, firstOf, firstPlace, named, unread, certificateBlocks, certificateRefusal, certificate, Admitted, GoodBy, GenuineBy, GoodAt, Shows, Members, Certified, Named, NamesExactly}
+use Rattle.roster.proofs.Profiles.{permitted-exactly}
+use Rattle.roster.proofs.RosterLaws.{roster-exactly}
 use Rattle.quorum.proofs.Masks.{mask-lt, mask-bit, mask-by-bits, ones-mask, count-eq, any-at, any-some}
 use Rattle.quorum.proofs.Good.{good-by, good-exactly, good-once}
 use Rattle.quorum.proofs.Tallies.{placed, Judged, by-first, receipts-exactly}
@@ -38,20 +39,8 @@ some-member (suc n) f h = by (f n) refl h (λ k. some-member n f k)
     by true e k r = (n, omega arith, e)
     by false e k r = let s = r (omega arith) in (s .0, omega (arith, s .1), s .2)
 
--- two sets with no common member
-disjoint : (n : ℕ) (f g : ℕ → Bool) → ((i : ℕ) → i < n → f i ≡ true → g i ≡ true → ⊥) → countBelow n f + countBelow n g ≤ n
-unfolding countBelow
-disjoint zero f g h = omega arith
-disjoint (suc n) f g h = by (f n) (g n) refl refl (disjoint n f g (λ i k. h i (omega arith)))
-  where
-    by : (a b : Bool) → f n ≡ a → g n ≡ b → countBelow n f + countBelow n g ≤ n → cond a 1 0 + countBelow n f + (cond b 1 0 + countBelow n g) ≤ suc n
-    by true true p q r = absurd (h n (omega arith) p q)
-    by true false p q r = omega arith
-    by false true p q r = omega arith
-    by false false p q r = omega arith
-
 -- a bit that says whether b holds
-of-bit : (b : Bool) (m : ℕ) → m < 2 → m ≡ 1 ↔ (b ≡ true) → m ≡ cond b 1 0
+pub of-bit : (b : Bool) (m : ℕ) → m < 2 → m ≡ 1 ↔ (b ≡ true) → m ≡ cond b 1 0
 of-bit true m l h = h .1 refl
 of-bit false m l h = ⊎-elim (λ (e : m ≡ 1). let f = h .0 e in let z : _≡_ {A = ℕ} 0 1 = cc in absurd (omega arith)) (λ (e : m ≡ 1 → ⊥). let n : m ≢ 1 = e in omega arith) (equal-or-not m 1)
 
@@ -246,126 +235,107 @@ module _ (roster nonce : List ℕ) (log position : ℕ) (cert : List ℕ) where
         let q = s .0 in
         (q, s .1 .place, test-exactly q .1 ((m .0, m .1, s .1 .good), subst (Certified roster cert Good k) (sym (s .1 .pair)) c))
 
-    -- "at most one pair can be certified", with k members needed of fewer than 2k
-    pub at-most-one : size roster < 2 * k → Consistent roster cert Good
-        → (v w : List ℕ) → Certified roster cert Good k v → Certified roster cert Good k w → v ≡ w
-    at-most-one n c v w hv hw = by (same v w) refl
-      where
-        apart : (v ≡ w → ⊥) → (i : ℕ) → i < size roster → showing v i ≡ true → showing w i ≡ true → ⊥
-        apart d i l a b =
-            let s = shows-exactly v i .0 a in
-            let t = shows-exactly w i .0 b in
-            d (sym (s .1 .pair) ∙ c i (s .0) (t .0) l (s .1 .place) (t .1 .place) (s .1 .good) (t .1 .good) ∙ t .1 .pair)
+  module _ (n k : ℕ) where
+    abbrev verdict : Answer
+    verdict = certificate n k roster nonce log position cert
 
-        by : (b : Bool) → same v w ≡ b → v ≡ w
-        by true e = same-eq v w e
-        by false e =
-            let p = enough-of v (certified-exactly v .1 hv) in
-            let q = enough-of w (certified-exactly w .1 hw) in
-            let d = disjoint (size roster) (showing v) (showing w) (apart (same-not v w e)) in
-            absurd (omega arith)
+    abbrev first : Option ℕ
+    first = firstPlace roster nonce log position cert k
 
-  -- "If no member has good receipts with different pairs, at most one pair can be certified."
-  pub at-most-one-pair : IsRoster roster → Consistent roster cert Good
-      → (v w : List ℕ) → Certified roster cert Good (majority (size roster)) v → Certified roster cert Good (majority (size roster)) w → v ≡ w
-  at-most-one-pair r = at-most-one (majority (size roster)) (majority-most (size roster) (r .odd))
+    -- the verdict where the receipts are looked at
+    is-first : Admitted n k roster nonce cert → verdict ≡ placed roster nonce log position cert [] first
+    is-first a =
+        sym (by-first n k roster nonce log position cert (a .nonce) (permitted-exactly n k .1 (a .profile)) (roster-exactly roster n .1 (a .roster)) (receipts-exactly cert .1 (a .receipts)))
 
-  -- the verdict where the receipts are looked at
-  is-first : Admitted roster nonce cert → certificate roster nonce log position cert ≡ placed roster nonce log position cert [] (firstPlace roster nonce log position cert)
-  is-first a = sym (by-first roster nonce log position cert (a .nonce) (roster-exactly roster .1 (a .roster)) (receipts-exactly cert .1 (a .receipts)))
+    -- a verdict of number 0: no fault was found
+    admitted : verdict .number ≡ 0 → Admitted n k roster nonce cert × (isNone first ≡ false)
+    unfolding certificate certificateRefusal unread
+    admitted e =
+        let vs = named roster nonce log position cert first in
+        let s1 = no-fault 7 (not (eqb (length nonce) 32)) _ vs (λ z. omega arith) e in
+        let s2 = no-fault 17 (not (permitted n k)) _ vs (λ z. omega arith) (s1 .1) in
+        let s3 = no-fault 12 (not (isRoster n roster)) _ vs (λ z. omega arith) (s2 .1) in
+        let s4 = no-fault 9 (not (isCertificate cert)) _ vs (λ z. omega arith) (s3 .1) in
+        let s5 = no-fault 13 (isNone first) _ vs (λ z. omega arith) (s4 .1) in (
+          record {
+            nonce = eqb-true (length nonce) 32 (not-false _ (s1 .0));
+            profile = permitted-exactly n k .0 (not-false _ (s2 .0));
+            roster = roster-exactly roster n .0 (not-false _ (s3 .0));
+            receipts = receipts-exactly cert .0 (not-false _ (s4 .0));
+          },
+          s5 .0,
+        )
 
-  -- a verdict of number 0: no fault was found
-  admitted : certificate roster nonce log position cert .number ≡ 0 → Admitted roster nonce cert × (isNone (firstPlace roster nonce log position cert) ≡ false)
-  unfolding certificate certificateRefusal unread
-  admitted e =
-      let vs = named roster nonce log position cert (firstPlace roster nonce log position cert) in
-      let s1 = no-fault 7 (not (eqb (length nonce) 32)) _ vs (λ z. omega arith) e in
-      let s2 = no-fault 12 (not (isRoster roster)) _ vs (λ z. omega arith) (s1 .1) in
-      let s3 = no-fault 9 (not (isCertificate cert)) _ vs (λ z. omega arith) (s2 .1) in
-      let s4 = no-fault 13 (isNone (firstPlace roster nonce log position cert)) _ vs (λ z. omega arith) (s3 .1) in (
+    named-from : (place mask : ℕ) (o : Option ℕ) → first ≡ o → placed roster nonce log position cert [] o ≡ answer 0 (place ∷ mask ∷ [])
+        → Named roster cert Good k place mask
+    unfolding firstPlace named
+    named-from place mask none e h = absurd (let z : _≡_ {A = ℕ} 13 0 = ap (λ (a : Answer). a .number) h in omega arith)
+    named-from place mask (some p) e h =
+        let l : _≡_ {A = List ℕ} (p ∷ mask-of (pairAt cert p) ∷ []) (place ∷ mask ∷ []) = ap (λ (a : Answer). a .values) h in
+        let z : p ≡ place = cc in
+        let m : mask-of (pairAt cert p) ≡ mask = cc in
+        let u : mask-of (pairAt cert place) ≡ mask = ap (λ (i : ℕ). mask-of (pairAt cert i)) (sym z) ∙ m in
+        let f = found k (receiptCount cert) 0 place (e ∙ ap some z) in
+        let g = test-exactly k place .0 (f .passes) in
+        let c = enough-of k (pairAt cert place) (certified-exactly k (pairAt cert place) .1 (g .1)) in
         record {
-          nonce = eqb-true (length nonce) 32 (not-false _ (s1 .0));
-          roster = roster-exactly roster .0 (not-false _ (s2 .0));
-          receipts = receipts-exactly cert .0 (not-false _ (s3 .0));
-        },
-        s4 .0,
-      )
+          within = omega (arith, f .high);
+          good = g .0;
+          members = subst (Members roster cert Good (pairAt cert place)) u (members-in (pairAt cert place));
+          enough = subst (λ (x : ℕ). k ≤ x) (sym (counted k (pairAt cert place)) ∙ ap ones u) c;
+          first = λ q l a b. clash (test k q) (test-exactly k q .1 (a, b)) (f .first q (omega arith) l);
+        }
 
-  named-from : (place mask : ℕ) (o : Option ℕ) → firstPlace roster nonce log position cert ≡ o → placed roster nonce log position cert [] o ≡ answer 0 (place ∷ mask ∷ [])
-      → Named roster cert Good place mask
-  unfolding firstPlace named
-  named-from place mask none e h = absurd (let z : _≡_ {A = ℕ} 13 0 = ap (λ (a : Answer). a .number) h in omega arith)
-  named-from place mask (some p) e h =
-      let l : _≡_ {A = List ℕ} (p ∷ mask-of (pairAt cert p) ∷ []) (place ∷ mask ∷ []) = ap (λ (a : Answer). a .values) h in
-      let z : p ≡ place = cc in
-      let m : mask-of (pairAt cert p) ≡ mask = cc in
-      let n : mask-of (pairAt cert place) ≡ mask = ap (λ (i : ℕ). mask-of (pairAt cert i)) (sym z) ∙ m in
-      let k = majority (size roster) in
-      let f = found k (receiptCount cert) 0 place (e ∙ ap some z) in
-      let g = test-exactly k place .0 (f .passes) in
-      let c = enough-of k (pairAt cert place) (certified-exactly k (pairAt cert place) .1 (g .1)) in
-      record {
-        within = omega (arith, f .high);
-        good = g .0;
-        members = subst (Members roster cert Good (pairAt cert place)) n (members-in (pairAt cert place));
-        enough = subst (λ (x : ℕ). k ≤ x) (sym (counted k (pairAt cert place)) ∙ ap ones n) c;
-        first = λ q l a b. clash (test k q) (test-exactly k q .1 (a, b)) (f .first q (omega arith) l);
-      }
+    first-from : (place mask : ℕ) → Named roster cert Good k place mask → first ≡ some place
+    unfolding firstPlace
+    first-from place mask d =
+        let w = d .within in
+        finds-first k (receiptCount cert) 0 place
+        (record {
+          low = omega arith;
+          high = omega (arith, w);
+          passes = test-exactly k place .1 (d .good, (mask, d .members, d .enough));
+          first = λ q a b. not-passing k q (d .first q b);
+        })
 
-  first-from : (place mask : ℕ) → Named roster cert Good place mask → firstPlace roster nonce log position cert ≡ some place
-  unfolding firstPlace
-  first-from place mask n =
-      let k = majority (size roster) in
-      let w = n .within in
-      finds-first k (receiptCount cert) 0 place
-      (record {
-        low = omega arith;
-        high = omega (arith, w);
-        passes = test-exactly k place .1 (n .good, (mask, n .members, n .enough));
-        first = λ q a b. not-passing k q (n .first q b);
-      })
+    placed-as : (place mask : ℕ) → Named roster cert Good k place mask → placed roster nonce log position cert [] (some place) ≡ answer 0 (place ∷ mask ∷ [])
+    unfolding named
+    placed-as place mask d = ap (λ (m : ℕ). answer 0 (place ∷ m ∷ [])) (sym (members-only (pairAt cert place) mask (d .members)))
 
-  placed-as : (place mask : ℕ) → Named roster cert Good place mask → placed roster nonce log position cert [] (some place) ≡ answer 0 (place ∷ mask ∷ [])
-  unfolding named
-  placed-as place mask n = ap (λ (m : ℕ). answer 0 (place ∷ m ∷ [])) (sym (members-only (pairAt cert place) mask (n .members)))
+    -- the verdict's theorem: "The verdict names the first good receipt in order whose pair is certified, and the members whose
+    -- good receipts show that pair", where nonce, profile, roster and receipts are as they must be, and names nothing else
+    pub named-exactly : (place mask : ℕ) → verdict ≡ answer 0 (place ∷ mask ∷ []) ↔ ((Admitted n k roster nonce cert) × (Named roster cert Good k place mask))
+    named-exactly place mask = (
+      λ h. let a = admitted (ap (λ (x : Answer). x .number) h) .0 in (a, named-from place mask first refl (sym (is-first a) ∙ h)),
+      λ u. is-first (u .0) ∙ ap (placed roster nonce log position cert []) (first-from place mask (u .1)) ∙ placed-as place mask (u .1),
+    )
 
-  -- the verdict's theorem: "The verdict names the first good receipt in order whose pair is certified, and the members whose
-  -- good receipts show that pair", where nonce, roster and receipts are as they must be, and names nothing else
-  pub named-exactly : (place mask : ℕ) → certificate roster nonce log position cert ≡ answer 0 (place ∷ mask ∷ []) ↔ ((Admitted roster nonce cert) × (Named roster cert Good place mask))
-  named-exactly place mask = (
-    λ h. let a = admitted (ap (λ (x : Answer). x .number) h) .0 in
-        (a, named-from place mask (firstPlace roster nonce log position cert) refl (sym (is-first a) ∙ h)),
-    λ u. is-first (u .0) ∙ ap (placed roster nonce log position cert []) (first-from place mask (u .1)) ∙ placed-as place mask (u .1),
-  )
+    -- a verdict of number 0 names a place and a mask
+    names-one : Admitted n k roster nonce cert → (o : Option ℕ) → first ≡ o → isNone o ≡ false → (place mask : ℕ) × (verdict ≡ answer 0 (place ∷ mask ∷ []))
+    unfolding named
+    names-one a none e h = let z : _≡_ {A = ℕ} 0 1 = cc in absurd (omega arith)
+    names-one a (some p) e h = (p, maskBelow (size roster) (showing (pairAt cert p)), is-first a ∙ ap (placed roster nonce log position cert []) e)
 
-  -- a verdict of number 0 names a place and a mask
-  names-one : Admitted roster nonce cert → (o : Option ℕ) → firstPlace roster nonce log position cert ≡ o → isNone o ≡ false
-      → (place mask : ℕ) × (certificate roster nonce log position cert ≡ answer 0 (place ∷ mask ∷ []))
-  unfolding named
-  names-one a none e h = let z : _≡_ {A = ℕ} 0 1 = cc in absurd (omega arith)
-  names-one a (some p) e h = (p, maskBelow (size roster) (showing (pairAt cert p)), is-first a ∙ ap (placed roster nonce log position cert []) e)
+    pub stands-names : verdict .number ≡ 0 → (place mask : ℕ) × (verdict ≡ answer 0 (place ∷ mask ∷ []))
+    stands-names h = let a = admitted h in names-one (a .0) first refl (a .1)
 
-  pub stands-names : certificate roster nonce log position cert .number ≡ 0 → (place mask : ℕ) × (certificate roster nonce log position cert ≡ answer 0 (place ∷ mask ∷ []))
-  stands-names h = let a = admitted h in names-one (a .0) (firstPlace roster nonce log position cert) refl (a .1)
+    number-of : (o : Option ℕ) → isNone o ≡ false → placed roster nonce log position cert [] o .number ≡ 0
+    number-of none h = let z : _≡_ {A = ℕ} 0 1 = cc in absurd (omega arith)
+    number-of (some p) h = refl
 
-  number-of : (o : Option ℕ) → isNone o ≡ false → placed roster nonce log position cert [] o .number ≡ 0
-  number-of none h = let z : _≡_ {A = ℕ} 0 1 = cc in absurd (omega arith)
-  number-of (some p) h = refl
-
-  -- a certificate stands exactly when nonce, roster and receipts are as they must be and (N + 1)/2 distinct members have good
-  -- receipts showing one pair
-  pub stands-exactly : certificate roster nonce log position cert .number ≡ 0
-      ↔ ((Admitted roster nonce cert) × ((v : List ℕ) × (Certified roster cert Good (majority (size roster)) v)))
-  unfolding firstPlace
-  stands-exactly = (
-    λ h. let s = stands-names h in
-        let n = named-exactly (s .0) (s .1) .0 (s .2) in
-        (n .0, (pairAt cert (s .0), (s .1, n .1 .members, n .1 .enough))),
-    λ u. let a = u .0 in
-        let k = majority (size roster) in
-        let q = passing k (majority-some (size roster) (a .roster .odd)) (u .1 .0) (u .1 .1) in
-        ap (λ (x : Answer). x .number) (is-first a) ∙ number-of (firstPlace roster nonce log position cert) (finds k (receiptCount cert) 0 (q .0) (omega arith) (omega (arith, q .1)) (q .2)),
-  )
+    -- a certificate stands exactly when nonce, profile, roster and receipts are as they must be and k distinct members have good
+    -- receipts showing one pair
+    pub stands-exactly : verdict .number ≡ 0 ↔ ((Admitted n k roster nonce cert) × ((v : List ℕ) × (Certified roster cert Good k v)))
+    unfolding firstPlace
+    stands-exactly = (
+      λ h. let s = stands-names h in
+          let d = named-exactly (s .0) (s .1) .0 (s .2) in
+          (d .0, (pairAt cert (s .0), (s .1, d .1 .members, d .1 .enough))),
+      λ u. let a = u .0 in
+          let half = a .profile .over-half in
+          let q = passing k (omega arith) (u .1 .0) (u .1 .1) in
+          ap (λ (x : Answer). x .number) (is-first a) ∙ number-of first (finds k (receiptCount cert) 0 (q .0) (omega arith) (omega (arith, q .1)) (q .2)),
+    )
 
 -- what is named is so whichever way the good receipts are told
 module _ (roster cert : List ℕ) where
@@ -387,30 +357,30 @@ module _ (roster cert : List ℕ) where
   good-as : (G H : List ℕ → ℕ → Type 0) → Alike G H → (p : ℕ) → GoodAt roster cert G p → GoodAt roster cert H p
   good-as G H a p g = (g .0, g .1, a p (g .0) .0 (g .2))
 
-  named-as : (G H : List ℕ → ℕ → Type 0) → Alike G H → (place mask : ℕ) → Named roster cert G place mask → Named roster cert H place mask
-  named-as G H a place mask n = record {
-    within = n .within;
-    good = good-as G H a place (n .good);
-    members = members-as G H a (pairAt cert place) mask (n .members);
-    enough = n .enough;
-    first = λ q l g c. n .first q l (good-as H G (back G H a) q g) (c .0, members-as H G (back G H a) (pairAt cert q) (c .0) (c .1), c .2);
+  named-as : (G H : List ℕ → ℕ → Type 0) → Alike G H → (k place mask : ℕ) → Named roster cert G k place mask → Named roster cert H k place mask
+  named-as G H a k place mask d = record {
+    within = d .within;
+    good = good-as G H a place (d .good);
+    members = members-as G H a (pairAt cert place) mask (d .members);
+    enough = d .enough;
+    first = λ q l g c. d .first q l (good-as H G (back G H a) q g) (c .0, members-as H G (back G H a) (pairAt cert q) (c .0) (c .1), c .2);
   }
 
-module _ (roster nonce : List ℕ) (log position : ℕ) (cert : List ℕ) where
+module _ (n k : ℕ) (roster nonce : List ℕ) (log position : ℕ) (cert : List ℕ) where
   -- the verdict's theorem in terms of the receipts' bytes
-  pub named-genuine : Bytes cert → NamesExactly roster nonce log position cert (certificate roster nonce log position cert)
+  pub named-genuine : Bytes cert → NamesExactly n k roster nonce log position cert (certificate n k roster nonce log position cert)
   unfolding receiptAt
   named-genuine b place mask =
       let G : List ℕ → ℕ → Type 0 = GoodBy roster nonce log position in
       let H : List ℕ → ℕ → Type 0 = GenuineBy roster nonce log position in
       let a : Alike roster cert G H = λ q i. good-exactly roster nonce log position (receiptAt cert q) (bytes-part cert (q * receiptSize) receiptSize b) i in
-      let t = named-exactly roster nonce log position cert place mask in (
-        λ h. (t .0 h .0, named-as roster cert G H a place mask (t .0 h .1)),
-        λ u. t .1 (u .0, named-as roster cert H G (back roster cert G H a) place mask (u .1)),
+      let t = named-exactly roster nonce log position cert n k place mask in (
+        λ h. (t .0 h .0, named-as roster cert G H a k place mask (t .0 h .1)),
+        λ u. t .1 (u .0, named-as roster cert H G (back roster cert G H a) k place mask (u .1)),
       )
 
 -- an answer that is the verdict on a list of bytes names exactly; the blocks stand beside it
-pub certificate-exactly : {roster nonce : List ℕ} {log position : ℕ} {cert : List ℕ} {given : Answer} {blocks : ℕ} → Bytes cert → Judged roster nonce log position cert given blocks
-    → (given ≡ certificate roster nonce log position cert) × (NamesExactly roster nonce log position cert given × (blocks ≡ certificateBlocks roster nonce cert))
-certificate-exactly {roster} {nonce} {log} {position} {cert} b e =
-    (e .0, (subst (NamesExactly roster nonce log position cert) (sym (e .0)) (named-genuine roster nonce log position cert b), e .1))
+pub certificate-exactly : {n k : ℕ} {roster nonce : List ℕ} {log position : ℕ} {cert : List ℕ} {given : Answer} {blocks : ℕ} → Bytes cert → Judged n k roster nonce log position cert given blocks
+    → (given ≡ certificate n k roster nonce log position cert) × (NamesExactly n k roster nonce log position cert given × (blocks ≡ certificateBlocks n k roster nonce cert))
+certificate-exactly {n} {k} {roster} {nonce} {log} {position} {cert} b e =
+    (e .0, (subst (NamesExactly n k roster nonce log position cert) (sym (e .0)) (named-genuine n k roster nonce log position cert b), e .1))

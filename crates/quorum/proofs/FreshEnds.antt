@@ -10,7 +10,7 @@ use Rattle.refusal.specs.Answer.{answer}
 use Rattle.receipt.specs.Attestation.{readAttestation}
 use Rattle.receipt.specs.Possible.{FreshEnd}
 use Rattle.receipt.proofs.PossibleLaws.{possible-complete}
-use Rattle.quorum.specs.Roster.{isMember}
+use Rattle.roster.specs.Roster.{isMember}
 use Rattle.quorum.specs.Certificate.{receiptAt, receiptBlocks, goodBy, showsIn, certificate}
 use Rattle.quorum.proofs.Good.{only-assigned}
 use Rattle.quorum.proofs.Certificates.{adds-none, named-exactly}
@@ -24,9 +24,9 @@ module _ (roster nonce : List ℕ) (log position : ℕ) where
         → showsIn roster nonce log position cert (suc k) v i ≡ showsIn roster nonce log position cert k v i
     fresh-end-adds-none k f v i = adds-none roster nonce log position cert k v i (fresh-end-not-good (receiptAt cert k) f i)
 
-    pub fresh-end-not-named : (place mask : ℕ) → certificate roster nonce log position cert ≡ answer 0 (place ∷ mask ∷ []) → FreshEnd (readAttestation (receiptAt cert place)) → ⊥
-    fresh-end-not-named place mask e f =
-        let g = named-exactly roster nonce log position cert place mask .0 e .1 .good in
+    pub fresh-end-not-named : (n k place mask : ℕ) → certificate n k roster nonce log position cert ≡ answer 0 (place ∷ mask ∷ []) → FreshEnd (readAttestation (receiptAt cert place)) → ⊥
+    fresh-end-not-named n k place mask e f =
+        let g = named-exactly roster nonce log position cert n k place mask .0 e .1 .good in
         let a = g .2 .assigned in
         let z = f .unassigned in
         omega arith

@@ -19,12 +19,12 @@ use Rattle.receipt.specs.Attestation.{Attestation, readAttestation}
 use Rattle.receipt.specs.Verdict.{verdict, carried, answers}
 use Rattle.receipt.specs.declared.Question.{Question}
 use Rattle.receipt.proofs.Verifier.{says, complete, sound, passes, carries}
-use Rattle.quorum.specs.Roster.{size, keeperAt, keyAt, distinct}
+use Rattle.roster.specs.Roster.{size, keeperAt, keyAt, distinct, member}
 use Rattle.quorum.specs.Certificate.{askedOf, goodBy, GoodBy, GenuineBy}
-use Rattle.quorum.specs.Tally.{member, ifGood, goodMember, codeOf}
-use Rattle.quorum.specs.declared.Found.{Found}
-use Rattle.quorum.specs.declared.Found.the-variants.{At, Nothing}
-use Rattle.quorum.proofs.RosterLaws.{member-below, member-is, distinct-sound}
+use Rattle.quorum.specs.Tally.{ifGood, goodMember, codeOf}
+use Rattle.roster.specs.declared.Found.{Found}
+use Rattle.roster.specs.declared.Found.the-variants.{At, Nothing}
+use Rattle.roster.proofs.RosterLaws.{member-below, member-is, distinct-sound}
 
 -- no refusal has number 0
 refused-some : (w : Refusal) → numberOf w ≡ 0 → ⊥

@@ -3,7 +3,7 @@ pub mod Certificates
 pub mod FreshEnds
 pub mod Good
 pub mod Masks
-pub mod RosterLaws
+pub mod OnePair
 pub mod Skipped
 pub mod StationLaws
 pub mod Tallies

@@ -10,7 +10,7 @@ use borrow.Author.Tests.{leb-true}
 use Rattle.refusal.specs.Answer.{answer}
 use Rattle.receipt.specs.Attestation.{readAttestation}
 use Rattle.quorum.specs.Bits.{countBelow}
-use Rattle.quorum.specs.Roster.{size}
+use Rattle.roster.specs.Roster.{size}
 use Rattle.quorum.specs.Certificate.{receiptCount, receiptAt, pairAt, goodBy, showsIn, shows, certified, certificate, GoodBy}
 use Rattle.quorum.proofs.Good.{only-assigned}
 use Rattle.quorum.proofs.Certificates.{some-member, adds-none, shows-exactly, named-exactly}
@@ -43,7 +43,7 @@ module _ (roster nonce : List ℕ) (log position : ℕ) where
             absurd (good-not-skipped (receiptAt cert (s .0)) (m .0) (s .1 .good) (h (s .0) (s .1 .place) (s .1 .pair)))
         by false e = e
 
-    pub skipped-not-named : (place mask : ℕ) → certificate roster nonce log position cert ≡ answer 0 (place ∷ mask ∷ []) → readAttestation (receiptAt cert place) .kind ≢ 2
-    skipped-not-named place mask e =
-        let g = named-exactly roster nonce log position cert place mask .0 e .1 .good in
+    pub skipped-not-named : (n k place mask : ℕ) → certificate n k roster nonce log position cert ≡ answer 0 (place ∷ mask ∷ []) → readAttestation (receiptAt cert place) .kind ≢ 2
+    skipped-not-named n k place mask e =
+        let g = named-exactly roster nonce log position cert n k place mask .0 e .1 .good in
         good-not-skipped (receiptAt cert place) (g .0) (g .2)

@@ -18,13 +18,15 @@ use Rattle.refusal.specs.Order.{firstFault, afterwards}
 use Rattle.refusal.specs.Answer.{Answer, answer, answerWith}
 use Rattle.receipt.specs.Attestation.{receiptSize}
 use Rattle.quorum.specs.Bits.{anyBelow, maskBelow}
-use Rattle.quorum.specs.Roster.{size, isRoster, distinct, majority}
+use Rattle.roster.specs.Profile.{permitted}
+use Rattle.roster.specs.Roster.{size, isRoster, distinct}
 use Rattle.quorum.specs.Certificate.{receiptCount, isCertificate, receiptAt, pairAt, isNone, goodBy, showsIn, shows, certified, goodAt, firstOf, firstPlace, named, unread, pileBlocks, certificateBlocks, certificateRefusal, certificate, IsCertificate}
 use Rattle.quorum.specs.Tally.{goodMember, codeOf, noted, Codes, Bounded, withCode, codeShown, maskAt, triedAt, orElse, firstIn}
-use Rattle.quorum.specs.declared.Found.{Found}
-use Rattle.quorum.specs.declared.Found.the-variants.{At, Nothing}
+use Rattle.roster.specs.declared.Found.{Found}
+use Rattle.roster.specs.declared.Found.the-variants.{At, Nothing}
 use Rattle.quorum.specs.declared.Tried.the-variants.{Stands, Fails}
-use Rattle.quorum.proofs.RosterLaws.{roster-most, roster-distinct}
+use Rattle.roster.proofs.Profiles.{permitted-exactly}
+use Rattle.roster.proofs.RosterLaws.{roster-size, roster-distinct}
 use Rattle.quorum.proofs.Good.{member-good, good-member, code-below, code-is}
 use Rattle.quorum.proofs.Masks.{ones-mask, mask-eq, mask-more, mask-with, any-none, any-eq, any-at}
 
@@ -198,59 +200,64 @@ module _ (roster nonce : List ℕ) (log position : ℕ) (cert t : List ℕ) wher
 
 -- the ways out of a certificate's verdict
 
-module _ (roster nonce : List ℕ) (log position : ℕ) (cert : List ℕ) where
+module _ (n k : ℕ) (roster nonce : List ℕ) (log position : ℕ) (cert : List ℕ) where
   -- an answer is the verdict, and the blocks are those hashed for it
   abbrev pub Judged : Answer → ℕ → Type 0
-  Judged given blocks = (given ≡ certificate roster nonce log position cert) × (blocks ≡ certificateBlocks roster nonce cert)
+  Judged given blocks = (given ≡ certificate n k roster nonce log position cert) × (blocks ≡ certificateBlocks n k roster nonce cert)
 
   pub other-nonce : (length nonce ≡ 32 → ⊥) → Judged (answer 7 []) 0
   unfolding certificate certificateRefusal certificateBlocks unread firstFault answerWith afterwards
   other-nonce h = simp (ne-eqb (length nonce) 32 h) (refl, refl)
 
-  module _ (n : length nonce ≡ 32) where
-    pub no-roster : isRoster roster ≡ false → Judged (answer 12 []) 0
+  module _ (s : length nonce ≡ 32) where
+    pub no-profile : permitted n k ≡ false → Judged (answer 17 []) 0
     unfolding certificate certificateRefusal certificateBlocks unread firstFault answerWith afterwards
-    no-roster h = simp (eq-eqb (length nonce) 32 n, h) (refl, refl)
+    no-profile h = simp (eq-eqb (length nonce) 32 s, h) (refl, refl)
 
-    module _ (r : isRoster roster ≡ true) where
-      pub not-whole : (length cert % receiptSize ≡ 0 → ⊥) → Judged (answer 9 []) 0
-      unfolding certificate certificateRefusal certificateBlocks unread firstFault answerWith afterwards isCertificate
-      not-whole h = simp (eq-eqb (length nonce) 32 n, r, ne-eqb (length cert % receiptSize) 0 h) (refl, refl)
+    module _ (p : permitted n k ≡ true) where
+      pub no-roster : isRoster n roster ≡ false → Judged (answer 12 []) 0
+      unfolding certificate certificateRefusal certificateBlocks unread firstFault answerWith afterwards
+      no-roster h = simp (eq-eqb (length nonce) 32 s, p, h) (refl, refl)
 
-      pub too-many-receipts : length cert % receiptSize ≡ 0 → 32 < length cert / receiptSize → Judged (answer 9 []) 0
-      unfolding certificate certificateRefusal certificateBlocks unread firstFault answerWith afterwards isCertificate receiptCount
-      too-many-receipts w h = simp (eq-eqb (length nonce) 32 n, r, eq-eqb (length cert % receiptSize) 0 w, lt-leb (length cert / receiptSize) 32 h) (refl, refl)
+      module _ (r : isRoster n roster ≡ true) where
+        pub not-whole : (length cert % receiptSize ≡ 0 → ⊥) → Judged (answer 9 []) 0
+        unfolding certificate certificateRefusal certificateBlocks unread firstFault answerWith afterwards isCertificate
+        not-whole h = simp (eq-eqb (length nonce) 32 s, p, r, ne-eqb (length cert % receiptSize) 0 h) (refl, refl)
 
-      by-place : (o : Option ℕ) → placed roster nonce log position cert [] o ≡ cond (isNone o) (answer 13 []) (answer 0 (named roster nonce log position cert o))
-      by-place none = refl
-      by-place (some p) = refl
+        pub too-many-receipts : length cert % receiptSize ≡ 0 → 32 < length cert / receiptSize → Judged (answer 9 []) 0
+        unfolding certificate certificateRefusal certificateBlocks unread firstFault answerWith afterwards isCertificate receiptCount
+        too-many-receipts w h = simp (eq-eqb (length nonce) 32 s, p, r, eq-eqb (length cert % receiptSize) 0 w, lt-leb (length cert / receiptSize) 32 h) (refl, refl)
 
-      answer-cond : (b : Bool) (vs : List ℕ) → cond b (answer 13 []) (answer 0 vs) ≡ answerWith (cond b (some 13) none) vs
-      unfolding answerWith
-      answer-cond true vs = refl
-      answer-cond false vs = refl
+        by-place : (o : Option ℕ) → placed roster nonce log position cert [] o ≡ cond (isNone o) (answer 13 []) (answer 0 (named roster nonce log position cert o))
+        by-place none = refl
+        by-place (some q) = refl
 
-      pub by-first : isCertificate cert ≡ true → placed roster nonce log position cert [] (firstPlace roster nonce log position cert) ≡ certificate roster nonce log position cert
-      unfolding certificate certificateRefusal unread firstFault
-      by-first h =
-          by-place (firstPlace roster nonce log position cert)
-          ∙ answer-cond (isNone (firstPlace roster nonce log position cert)) (named roster nonce log position cert (firstPlace roster nonce log position cert))
-          ∙ simp (eq-eqb (length nonce) 32 n, r, h)
+        answer-cond : (b : Bool) (vs : List ℕ) → cond b (answer 13 []) (answer 0 vs) ≡ answerWith (cond b (some 13) none) vs
+        unfolding answerWith
+        answer-cond true vs = refl
+        answer-cond false vs = refl
 
-      -- the receipts are looked at
-      pub looked-at : isCertificate cert ≡ true → pileBlocks roster cert ≡ certificateBlocks roster nonce cert
-      unfolding certificateBlocks unread firstFault afterwards
-      looked-at h = simp (eq-eqb (length nonce) 32 n, r, h)
+        pub by-first : isCertificate cert ≡ true → placed roster nonce log position cert [] (firstPlace roster nonce log position cert k) ≡ certificate n k roster nonce log position cert
+        unfolding certificate certificateRefusal unread firstFault
+        by-first h =
+            let o = firstPlace roster nonce log position cert k in
+            by-place o ∙ answer-cond (isNone o) (named roster nonce log position cert o) ∙ simp (eq-eqb (length nonce) 32 s, p, r, h)
 
-      -- the last way out: the answer of the search by codes
-      pub by-codes : (t : List ℕ) → isCertificate cert ≡ true → Codes roster nonce log position cert (receiptCount cert) t
-          → Judged (firstIn t cert (majority (size roster)) (receiptCount cert) (receiptCount cert) 0) (pileBlocks roster cert)
-      unfolding firstPlace
-      by-codes t h c = (
-        first-is roster nonce log position cert t (roster-distinct roster r) (omega (arith, roster-most roster r)) c (majority (size roster)) (receiptCount cert) 0 (omega arith)
-            ∙ by-first h,
-        looked-at h,
-      )
+        -- the receipts are looked at
+        pub looked-at : isCertificate cert ≡ true → pileBlocks roster cert ≡ certificateBlocks n k roster nonce cert
+        unfolding certificateBlocks unread firstFault afterwards
+        looked-at h = simp (eq-eqb (length nonce) 32 s, p, r, h)
+
+        -- every member has a bit
+        pub members-most : size roster ≤ 32
+        members-most = let m = permitted-exactly n k .0 p .most in omega (arith, roster-size roster n r)
+
+        -- the last way out: the answer of the search by codes
+        pub by-codes : (t : List ℕ) → isCertificate cert ≡ true → Codes roster nonce log position cert (receiptCount cert) t
+            → Judged (firstIn t cert k (receiptCount cert) (receiptCount cert) 0) (pileBlocks roster cert)
+        unfolding firstPlace
+        by-codes t h c =
+            (first-is roster nonce log position cert t (roster-distinct roster n r) members-most c k (receiptCount cert) 0 (omega arith) ∙ by-first h, looked-at h)
 
 -- the test of a certificate's length, and the conditions
 module _ (cert : List ℕ) where

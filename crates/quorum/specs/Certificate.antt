@@ -1,4 +1,5 @@
--- Document 01, "Certificates": good receipts, the members whose good receipts show a pair, and the verdict.
+-- Document 01, "Certificates": good receipts, the members whose good receipts show a pair, and the verdict; since document 02 [7] under a
+-- station profile, n members of which k are needed.
 use Prim.Native.Nat.{ℕ, zero, suc, _*_, _/_, _%_, _^_, _≤_, _<_}
 use mathlib.Core.Path.{_≡_}
 use mathlib.Core.Logic.{_↔_}
@@ -18,7 +19,8 @@ use Rattle.receipt.specs.Verdict.{verdict, Genuine}
 use Rattle.receipt.specs.declared.Ask.the-variants.{Lookup}
 use Rattle.receipt.specs.declared.Question.{Question}
 use Rattle.quorum.specs.Bits.{countBelow, sumBelow, anyBelow, maskBelow}
-use Rattle.quorum.specs.Roster.{size, keeperAt, keyAt, isMember, isRoster, IsRoster, majority}
+use Rattle.roster.specs.Profile.{permitted, Permitted}
+use Rattle.roster.specs.Roster.{size, keeperAt, keyAt, isMember, isRoster, IsRoster}
 use Rattle.quorum.specs.declared.Station.{Station}
 use Rattle.quorum.specs.declared.Station.the-variants as variants
 
@@ -48,11 +50,12 @@ receiptAt cert p = part cert (p * receiptSize) receiptSize
 unfoldable pub pairAt : List ℕ → ℕ → List ℕ
 pairAt cert p = pairIn (receiptAt cert p)
 
--- what is asked before a receipt is looked at: 7, 12 and 9
-unfoldable pub unread : List ℕ → List ℕ → List ℕ → List Fault
-unread roster nonce cert =
+-- what is asked before a receipt is looked at: 7, "17 .. tested between 7 and 12", 12 and 9
+unfoldable pub unread : ℕ → ℕ → List ℕ → List ℕ → List ℕ → List Fault
+unread n k roster nonce cert =
     fault 7 (not (eqb (length nonce) 32)) ∷
-    fault 12 (not (isRoster roster)) ∷
+    fault 17 (not (permitted n k)) ∷
+    fault 12 (not (isRoster n roster)) ∷
     fault 9 (not (isCertificate cert)) ∷ []
 
 -- document 02 [2], the blocks hashed: "6 for each of its receipts that is a possible entry with a roster member's keeper
@@ -65,8 +68,8 @@ unfoldable pub pileBlocks : List ℕ → List ℕ → ℕ
 pileBlocks roster cert = sumBelow (receiptCount cert) (λ p. receiptBlocks roster (receiptAt cert p))
 
 -- "13 included"; and "0 .. for whatever is refused before it hashes"
-unfoldable pub certificateBlocks : List ℕ → List ℕ → List ℕ → ℕ
-certificateBlocks roster nonce cert = afterwards (firstFault (unread roster nonce cert)) (pileBlocks roster cert) 0
+unfoldable pub certificateBlocks : ℕ → ℕ → List ℕ → List ℕ → List ℕ → ℕ
+certificateBlocks n k roster nonce cert = afterwards (firstFault (unread n k roster nonce cert)) (pileBlocks roster cert) 0
 
 -- no place was found
 abbrev pub isNone : Option ℕ → Bool
@@ -92,7 +95,7 @@ module _ (roster nonce : List ℕ) (log position : ℕ) where
     unfoldable pub shows : List ℕ → ℕ → Bool
     shows v i = showsIn (receiptCount cert) v i
 
-    -- "A value and digest are certified when (N + 1)/2 distinct members have good receipts showing both": k members are needed
+    -- "A value and digest are certified when .. distinct members have good receipts showing both": k of them
     unfoldable pub certified : ℕ → List ℕ → Bool
     certified k v = leb k (countBelow (size roster) (shows v))
 
@@ -106,21 +109,22 @@ module _ (roster nonce : List ℕ) (log position : ℕ) where
     firstOf k (suc j) p = cond (goodAt p && certified k (pairAt cert p)) (some p) (firstOf k j (suc p))
 
     -- the place that a certificate's verdict names
-    unfoldable pub firstPlace : Option ℕ
-    firstPlace = firstOf (majority (size roster)) (receiptCount cert) 0
+    unfoldable pub firstPlace : ℕ → Option ℕ
+    firstPlace k = firstOf k (receiptCount cert) 0
 
     -- the values of a verdict: the place, "and the members whose good receipts show that pair"
     unfoldable pub named : Option ℕ → List ℕ
     named none = []
     named (some p) = p ∷ maskBelow (size roster) (shows (pairAt cert p)) ∷ []
 
-    -- "certificate 7, 12, 9, 13"
-    unfoldable pub certificateRefusal : Option ℕ
-    certificateRefusal = firstFault (unread roster nonce cert ++ (fault 13 (isNone firstPlace) ∷ []))
+module _ (n k : ℕ) (roster nonce : List ℕ) (log position : ℕ) (cert : List ℕ) where
+  -- "certificate 7, 12, 9, 13", and 17 between 7 and 12
+  unfoldable pub certificateRefusal : Option ℕ
+  certificateRefusal = firstFault (unread n k roster nonce cert ++ (fault 13 (isNone (firstPlace roster nonce log position cert k)) ∷ []))
 
-    -- the verdict
-    unfoldable pub certificate : Answer
-    certificate = answerWith certificateRefusal (named firstPlace)
+  -- the verdict
+  unfoldable pub certificate : Answer
+  certificate = answerWith certificateRefusal (named roster nonce log position cert (firstPlace roster nonce log position cert k))
 
 -- ---- the same as conditions; proofs/Certificates shows that they agree
 
@@ -130,9 +134,10 @@ pub record IsCertificate (cert : List ℕ) : Type 0 where
   pub most : receiptCount cert ≤ 32
 
 -- what is asked before the receipts are looked at
-pub record Admitted (r n c : List ℕ) : Type 0 where
-  pub nonce : length n ≡ 32
-  pub roster : IsRoster r
+pub record Admitted (n k : ℕ) (r x c : List ℕ) : Type 0 where
+  pub nonce : length x ≡ 32
+  pub profile : Permitted n k
+  pub roster : IsRoster n r
   pub receipts : IsCertificate c
 
 module _ (roster nonce : List ℕ) (log position : ℕ) where
@@ -164,27 +169,28 @@ module _ (roster cert : List ℕ) (Good : List ℕ → ℕ → Type 0) where
     pub bits : (i : ℕ) → i < size roster → mask / 2 ^ i % 2 ≡ 1 ↔ ((q : ℕ) × Shows v i q)
     pub none-else : mask < 2 ^ size roster
 
-  -- "A value and digest are certified when (N + 1)/2 distinct members have good receipts showing both": k members are needed
+  -- "A value and digest are certified when .. distinct members have good receipts showing both": k of them
   abbrev pub Certified : ℕ → List ℕ → Type 0
   Certified k v = (mask : ℕ) × (Members v mask) × (k ≤ ones mask)
 
   -- "The verdict names the first good receipt in order whose pair is certified, and the members whose good receipts show that
-  -- pair"
-  pub record Named (place mask : ℕ) : Type 0 where
+  -- pair", where k members are needed
+  pub record Named (k place mask : ℕ) : Type 0 where
     pub within : place < receiptCount cert
     pub good : GoodAt place
     pub members : Members (pairAt cert place) mask
-    pub enough : majority (size roster) ≤ ones mask
-    pub first : (q : ℕ) → q < place → GoodAt q → Certified (majority (size roster)) (pairAt cert q) → ⊥
+    pub enough : k ≤ ones mask
+    pub first : (q : ℕ) → q < place → GoodAt q → Certified k (pairAt cert q) → ⊥
 
-  -- "no member has good receipts with different pairs"
-  abbrev pub Consistent : Type 0
-  Consistent =
-      (i q r : ℕ) → i < size roster → q < receiptCount cert → r < receiptCount cert
-      → Good (receiptAt cert q) i → Good (receiptAt cert r) i → pairAt cert q ≡ pairAt cert r
+-- "no member contradicts itself" over two certificates of one roster, each with its way to tell good receipts: what a member's good receipts
+-- show in the one they show in the other. The same certificate twice: "no member has good receipts with different pairs"
+abbrev pub Consistent : List ℕ → (c d : List ℕ) → (Good Good′ : List ℕ → ℕ → Type 0) → Type 0
+Consistent roster c d Good Good′ =
+    (i q r : ℕ) → i < size roster → q < receiptCount c → r < receiptCount d
+    → Good (receiptAt c q) i → Good′ (receiptAt d r) i → pairAt c q ≡ pairAt d r
 
--- the answer is 0 with a place and a mask exactly when nonce, roster and receipts are as they must be, and those are named
-abbrev pub NamesExactly : List ℕ → List ℕ → ℕ → ℕ → List ℕ → Answer → Type 0
-NamesExactly roster nonce log position cert given =
+-- the answer is 0 with a place and a mask exactly when nonce, profile, roster and receipts are as they must be, and those are named
+abbrev pub NamesExactly : ℕ → ℕ → List ℕ → List ℕ → ℕ → ℕ → List ℕ → Answer → Type 0
+NamesExactly n k roster nonce log position cert given =
     (place mask : ℕ) → given ≡ answer 0 (place ∷ mask ∷ [])
-    ↔ ((Admitted roster nonce cert) × (Named roster cert (GenuineBy roster nonce log position) place mask))
+    ↔ ((Admitted n k roster nonce cert) × (Named roster cert (GenuineBy roster nonce log position) k place mask))

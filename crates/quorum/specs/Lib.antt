@@ -1,4 +1,3 @@
 pub mod Bits
-pub mod Roster
 pub mod Certificate
 pub mod Tally

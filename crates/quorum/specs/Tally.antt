@@ -12,17 +12,12 @@ use Rattle.octets.specs.Octets.{same}
 use Rattle.refusal.specs.Answer.{Answer, answer}
 use Rattle.receipt.specs.Attestation.{readAttestation}
 use Rattle.quorum.specs.Bits.{sumBelow, maskBelow}
-use Rattle.quorum.specs.Roster.{size, keeperAt}
+use Rattle.roster.specs.Roster.{size, member}
 use Rattle.quorum.specs.Certificate.{goodBy, receiptAt, pairAt, receiptBlocks}
-use Rattle.quorum.specs.declared.Found.{Found}
-use Rattle.quorum.specs.declared.Found.the-variants.{At, Nothing}
+use Rattle.roster.specs.declared.Found.{Found}
+use Rattle.roster.specs.declared.Found.the-variants.{At, Nothing}
 use Rattle.quorum.specs.declared.Tried.{Tried}
 use Rattle.quorum.specs.declared.Tried.the-variants.{Stands, Fails}
-
--- the item with the keeper number x among the first n
-unfoldable pub member : List ℕ → ℕ → ℕ → Found
-member roster x zero = Nothing
-member roster x (suc n) = cond (eqb (keeperAt roster n) x) (At n) (member roster x n)
 
 -- the member by which a receipt is good
 module _ (roster nonce : List ℕ) (log position : ℕ) where

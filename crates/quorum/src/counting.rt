@@ -4,18 +4,18 @@ ghost use Prim.Native.Nat.{_+_, _*_, _≤_, _<_};
 ghost use lib.ListN.{length};
 ghost use Rattle.receipt.specs.Attestation.{receiptSize};
 ghost use Rattle.receipt.specs.Verdict.{verdictBlocks};
-ghost use Rattle.quorum.specs.Roster.{size};
+ghost use Rattle.roster.specs.Roster.{size};
 ghost use Rattle.quorum.specs.Certificate.{receiptBlocks};
 ghost use Rattle.quorum.specs.Tally.{goodMember, noted, Codes, blocksBelow};
-use super::Found;
 use super::Tally;
-use super::members::find;
 use super::receipts::receipt_at;
 use receipt::Ask;
 use receipt::Question;
 use receipt::Verdict;
 use receipt_fields::keeper_of;
 use receipt_verify::verify;
+use roster::Found;
+use roster::find;
 
 // The blocks hashed for a verdict.
 fn blocks_of(verdict: Verdict) -> u64

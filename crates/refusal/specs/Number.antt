@@ -2,7 +2,7 @@
 -- held": "its number is not used again".
 use Prim.Native.Nat.{ℕ}
 use Rattle.refusal.specs.declared.Refusal.{Refusal}
-use Rattle.refusal.specs.declared.Refusal.the-variants.{Torn, NoLog, Position, Spent, Full, Length, Counts, NoReceipt, Tag, OtherQuestion, Roster, TooFew, NoRun, Line, Promised}
+use Rattle.refusal.specs.declared.Refusal.the-variants.{Torn, NoLog, Position, Spent, Full, Length, Counts, NoReceipt, Tag, OtherQuestion, Roster, TooFew, NoRun, Line, Promised, Profile}
 use Rattle.refusal.specs.declared.Outcome.{Outcome}
 use Rattle.refusal.specs.declared.Outcome.the-variants.{Done, Refused}
 
@@ -23,6 +23,8 @@ numberOf NoRun = 14
 numberOf Line = 15
 -- request [5]: "Turned away: 16 "promised""
 numberOf Promised = 16
+-- document 02, [7]
+numberOf Profile = 17
 
 -- 0 "done", or the refusal's number
 abbrev pub outcomeNumber : Outcome → ℕ

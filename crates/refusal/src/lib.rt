@@ -20,6 +20,7 @@ pub enum Refusal {
     NoRun,
     Line,
     Promised,
+    Profile,
 }
 
 // The answer of a call that returns nothing but its number.
@@ -56,6 +57,7 @@ impl Refusal {
             Refusal::NoRun => 14,
             Refusal::Line => 15,
             Refusal::Promised => 16,
+            Refusal::Profile => 17,
         }
     }
 }

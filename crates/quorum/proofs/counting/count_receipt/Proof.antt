@@ -1,12 +1,12 @@
 -- `quorum::counting::count_receipt` meets its contract.
 use Rattle.receipt.specs.Verdict.{verdictAnswer}
-use Rattle.quorum.specs.Roster.{size}
+use Rattle.roster.specs.Roster.{size, member}
 use Rattle.quorum.specs.Certificate.{receiptBlocks}
-use Rattle.quorum.specs.Tally.{member, noted}
-use Rattle.quorum.specs.declared.Found.the-variants.{At}
+use Rattle.quorum.specs.Tally.{noted}
+use Rattle.roster.specs.declared.Found.the-variants.{At}
 use Rattle.quorum.proofs.BlockLaws.{receipt-few, stranger-blocks, member-blocks}
 use Rattle.quorum.proofs.Good.{of-none, passed-over, other-kind, counted}
-use Rattle.quorum.proofs.RosterLaws.{member-below}
+use Rattle.roster.proofs.RosterLaws.{member-below}
 use mathlib.Core.Path.{_≡_, sym, ap, _∙_}
 use native.Mathlib.Omega.{arith}
 use lib.ListN.{length}

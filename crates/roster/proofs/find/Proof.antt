@@ -1,12 +1,11 @@
--- `quorum::members::find` meets its contract.
-use Rattle.quorum.proofs.RosterLaws.{found, below, none}
-use Rattle.quorum.specs.Tally.{member}
-use Rattle.quorum.specs.Roster.{keeperAt}
+-- `roster::find` meets its contract.
+use Rattle.roster.proofs.RosterLaws.{found, below, none}
+use Rattle.roster.specs.Roster.{member, keeperAt}
 use Prim.Native.Nat.{_≤_}
 use native.Mathlib.Omega.{arith}
 use mathlib.Core.Path.{_≡_, refl, sym, _∙_}
-use Rattle.quorum.proofs.members.find.Statement.{statement}
-use Rattle.quorum.proofs.members.find.Tie as tie
+use Rattle.roster.proofs.find.Statement.{statement}
+use Rattle.roster.proofs.find.Tie as tie
 
 abbrev Inv-loop : tie.InvT-loop
 Inv-loop roster n keeper i₀ i = (i ≤ n) × (member roster keeper n ≡ member roster keeper i)

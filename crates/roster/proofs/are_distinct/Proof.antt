@@ -1,12 +1,12 @@
--- `quorum::members::are_distinct` meets its contract.
-use Rattle.quorum.proofs.RosterLaws.{repeated, new, all}
-use Rattle.quorum.specs.Roster.{distinct}
+-- `roster::are_distinct` meets its contract.
+use Rattle.roster.proofs.RosterLaws.{repeated, new, all}
+use Rattle.roster.specs.Roster.{distinct}
 use borrow.Author.Tests.{not-true, not-false}
 use Prim.Native.Nat.{_≤_}
 use native.Mathlib.Omega.{arith}
 use mathlib.Core.Path.{_≡_, refl, sym, _∙_}
-use Rattle.quorum.proofs.members.are_distinct.Statement.{statement}
-use Rattle.quorum.proofs.members.are_distinct.Tie as tie
+use Rattle.roster.proofs.are_distinct.Statement.{statement}
+use Rattle.roster.proofs.are_distinct.Tie as tie
 
 abbrev Inv-loop : tie.InvT-loop
 Inv-loop roster n i₀ i = (i ≤ n) × (distinct roster n ≡ distinct roster i)

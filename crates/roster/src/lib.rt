@@ -1,11 +1,16 @@
-// The members of a roster.
+// The profile of a station, and the members of its roster.
 ghost use mathlib.Core.Path.{_≡_};
 ghost use Prim.Native.Nat.{_+_, _*_, _≤_};
 ghost use lib.ListN.{length};
-ghost use Rattle.quorum.specs.Roster.{keeperAt, absent, distinct, isRoster, majority as majorityOf};
-ghost use Rattle.quorum.specs.Tally.{member};
-use super::Found;
+ghost use Rattle.roster.specs.Profile.{permitted};
+ghost use Rattle.roster.specs.Roster.{keeperAt, member, absent, distinct, isRoster};
 use bigendian::get_u64;
+
+// A roster's item, or none.
+pub enum Found {
+    At(usize),
+    Nothing,
+}
 
 // The item with a keeper number, among the first n.
 pub fn find(roster: &[u8], n: usize, keeper: u64) -> Found
@@ -50,26 +55,33 @@ fn are_distinct(roster: &[u8], n: usize) -> bool
     true
 }
 
-pub fn is_roster(roster: &[u8]) -> bool
-    ensures { λ r. ⌜ r ≡ isRoster (now (roster .entry)) ⌝ }
+// Whether a roster has so many members, with distinct keeper numbers.
+pub fn is_roster(members: u64, roster: &[u8]) -> bool
+    ensures { λ r. ⌜ r ≡ isRoster members (now (roster .entry)) ⌝ }
 {
     if roster.len() % 40 != 0 {
         return false;
     }
     let n = roster.len() / 40;
-    if n % 2 != 1 {
-        return false;
-    }
-    if 31 < n {
+    if n as u64 != members {
         return false;
     }
     are_distinct(roster, n)
 }
 
-// The members needed of n.
-pub fn majority(n: usize) -> u32
-    requires { ⌜ n ≤ 31 ⌝ }
-    ensures { λ r. ⌜ r ≡ majorityOf n ⌝ }
+// Whether a station of so many members may ask for the agreement of so many. What is needed is compared with the members first, so that its
+// double does not wrap.
+pub fn is_permitted(members: u64, needed: u64) -> bool
+    ensures { λ r. ⌜ r ≡ permitted members needed ⌝ }
 {
-    ((n + 1) / 2) as u32
+    if members == 0 {
+        return false;
+    }
+    if 32 < members {
+        return false;
+    }
+    if members < needed {
+        return false;
+    }
+    members < 2 * needed
 }

@@ -1,14 +1,17 @@
--- Document 01: "A roster is N items of 40 bytes (keeper number 8, key 32), N odd, 1 to 31, keeper numbers distinct."
-use Prim.Native.Nat.{ℕ, zero, suc, _+_, _*_, _/_, _%_, _≤_, _<_}
+-- Document 01: "A roster is N items of 40 bytes (keeper number 8, key 32), .. keeper numbers distinct." Document 02 [7]: "The roster
+-- must have N items, otherwise 12, and the rule that N be odd ends".
+use Prim.Native.Nat.{ℕ, zero, suc, _+_, _*_, _/_, _%_, _<_}
 use mathlib.Core.Path.{_≡_}
-use mathlib.Core.Bool.{Bool, true, not, _&&_}
+use mathlib.Core.Bool.{Bool, true, not, _&&_, cond}
 use mathlib.Core.List.{List}
 use lib.ListN.{length}
-use lib.Dec.{eqb, leb}
+use lib.Dec.{eqb}
 use Rattle.bigendian.specs.BigEndian.{unbe}
 use Rattle.octets.specs.Octets.{part}
+use Rattle.roster.specs.declared.Found.{Found}
+use Rattle.roster.specs.declared.Found.the-variants.{At, Nothing}
 
--- N
+-- the number of items
 unfoldable pub size : List ℕ → ℕ
 size roster = length roster / 40
 
@@ -19,6 +22,11 @@ keeperAt roster i = unbe (part roster (i * 40) 8)
 -- item i's key
 unfoldable pub keyAt : List ℕ → ℕ → List ℕ
 keyAt roster i = part roster (i * 40 + 8) 32
+
+-- the item with the keeper number x among the first n
+unfoldable pub member : List ℕ → ℕ → ℕ → Found
+member roster x zero = Nothing
+member roster x (suc n) = cond (eqb (keeperAt roster n) x) (At n) (member roster x n)
 
 -- none of the first n items has the keeper number x
 unfoldable pub absent : List ℕ → ℕ → ℕ → Bool
@@ -34,17 +42,12 @@ unfoldable pub distinct : List ℕ → ℕ → Bool
 distinct roster zero = true
 distinct roster (suc n) = absent roster (keeperAt roster n) n && distinct roster n
 
--- the test
-unfoldable pub isRoster : List ℕ → Bool
-isRoster roster = eqb (length roster % 40) 0 && (eqb (size roster % 2) 1 && (leb (size roster) 31 && distinct roster (size roster)))
+-- the test: a roster of n items
+unfoldable pub isRoster : ℕ → List ℕ → Bool
+isRoster n roster = eqb (length roster % 40) 0 && (eqb (size roster) n && distinct roster (size roster))
 
 -- the same as conditions; proofs/RosterLaws shows that they agree
-pub record IsRoster (roster : List ℕ) : Type 0 where
+pub record IsRoster (n : ℕ) (roster : List ℕ) : Type 0 where
   pub items : length roster % 40 ≡ 0
-  pub odd : size roster % 2 ≡ 1
-  pub most : size roster ≤ 31
+  pub members : size roster ≡ n
   pub distinct : (i j : ℕ) → i < size roster → j < size roster → keeperAt roster i ≡ keeperAt roster j → i ≡ j
-
--- "(N + 1)/2": the members needed of n
-unfoldable pub majority : ℕ → ℕ
-majority n = (n + 1) / 2

@@ -1,19 +1,19 @@
 -- Rosters: one step of the search and of the test, the ways out of the test, and its agreement with the conditions.
 use mathlib.Core.Path.{_≡_, refl, sym, ap, _∙_}
 use mathlib.Core.Logic.{_↔_, ⊎-elim}
-use Prim.Native.Nat.{ℕ, zero, suc, _-_, _*_, _/_, _%_, _≤_, _<_}
+use Prim.Native.Nat.{ℕ, zero, suc, _-_, _/_, _%_, _≤_, _<_}
 use native.Mathlib.Nat.{not-suc-le-zero}
 use native.Mathlib.Omega.{arith}
 use mathlib.Core.Bool.{Bool, true, false, not, _&&_, cond}
 use mathlib.Core.List.{List}
 use lib.ListN.{length}
-use lib.Dec.{eqb, leb}
-use borrow.Author.Tests.{eq-eqb, ne-eqb, le-leb, lt-leb, leb-true, eqb-true, eqb-false, not-true}
+use lib.Dec.{eqb}
+use borrow.Author.Tests.{eq-eqb, ne-eqb, eqb-true, eqb-false, not-true}
 use Rattle.octets.proofs.Tests.{and-left, and-right, and-both, equal-or-not}
-use Rattle.quorum.specs.Roster.{size, keeperAt, absent, distinct, isRoster, IsRoster, majority}
-use Rattle.quorum.specs.Tally.{member}
-use Rattle.quorum.specs.declared.Found.{Found}
-use Rattle.quorum.specs.declared.Found.the-variants.{At, Nothing}
+use Rattle.roster.specs.Roster.{size, keeperAt, absent, distinct, isRoster, IsRoster}
+use Rattle.roster.specs.Roster.{member}
+use Rattle.roster.specs.declared.Found.{Found}
+use Rattle.roster.specs.declared.Found.the-variants.{At, Nothing}
 
 abbrev pub isNothing : Found → Bool
 isNothing (At i) = false
@@ -132,63 +132,47 @@ module _ (roster : List ℕ) where
   all n zero h m = sym m
   all n (suc i) h m = absurd (not-suc-le-zero h)
 
-  -- its ways out
-  pub no-items : (length roster % 40 ≡ 0 → ⊥) → false ≡ isRoster roster
-  unfolding isRoster
-  no-items h = simp (ne-eqb (length roster % 40) 0 h)
+  module _ (n : ℕ) where
+    -- its ways out
+    pub no-items : (length roster % 40 ≡ 0 → ⊥) → false ≡ isRoster n roster
+    unfolding isRoster
+    no-items h = simp (ne-eqb (length roster % 40) 0 h)
 
-  pub even : length roster % 40 ≡ 0 → (length roster / 40 % 2 ≡ 1 → ⊥) → false ≡ isRoster roster
-  unfolding isRoster size
-  even h k = simp (eq-eqb (length roster % 40) 0 h, ne-eqb (length roster / 40 % 2) 1 k)
+    pub other-size : length roster % 40 ≡ 0 → (length roster / 40 ≡ n → ⊥) → false ≡ isRoster n roster
+    unfolding isRoster size
+    other-size h k = simp (eq-eqb (length roster % 40) 0 h, ne-eqb (length roster / 40) n k)
 
-  pub too-many : length roster % 40 ≡ 0 → length roster / 40 % 2 ≡ 1 → 31 < length roster / 40 → false ≡ isRoster roster
-  unfolding isRoster size
-  too-many h k l = simp (eq-eqb (length roster % 40) 0 h, eq-eqb (length roster / 40 % 2) 1 k, lt-leb (length roster / 40) 31 l)
+    pub by-keepers : length roster % 40 ≡ 0 → length roster / 40 ≡ n → distinct roster (length roster / 40) ≡ isRoster n roster
+    unfolding isRoster size
+    by-keepers h k = simp (eq-eqb (length roster % 40) 0 h, eq-eqb (length roster / 40) n k)
 
-  pub by-keepers : length roster % 40 ≡ 0 → length roster / 40 % 2 ≡ 1 → length roster / 40 ≤ 31 → distinct roster (length roster / 40) ≡ isRoster roster
-  unfolding isRoster size
-  by-keepers h k l = simp (eq-eqb (length roster % 40) 0 h, eq-eqb (length roster / 40 % 2) 1 k, le-leb (length roster / 40) 31 l)
+    -- what the test has seen
+    record Seen : Type 0 where
+      items : length roster % 40 ≡ 0
+      members : size roster ≡ n
+      distinct : distinct roster (size roster) ≡ true
 
-  -- what the test has seen
-  record Seen : Type 0 where
-    items : length roster % 40 ≡ 0
-    odd : size roster % 2 ≡ 1
-    most : size roster ≤ 31
-    distinct : distinct roster (size roster) ≡ true
+    seen : isRoster n roster ≡ true → Seen
+    unfolding isRoster
+    seen h =
+        let a = and-right (eqb (length roster % 40) 0) (eqb (size roster) n && distinct roster (size roster)) h in
+        record {
+          items = eqb-true (length roster % 40) 0 (and-left (eqb (length roster % 40) 0) _ h);
+          members = eqb-true (size roster) n (and-left (eqb (size roster) n) _ a);
+          distinct = and-right (eqb (size roster) n) (distinct roster (size roster)) a;
+        }
 
-  seen : isRoster roster ≡ true → Seen
-  unfolding isRoster
-  seen h =
-      let a = and-right (eqb (length roster % 40) 0) (eqb (size roster % 2) 1 && (leb (size roster) 31 && distinct roster (size roster))) h in
-      let b = and-right (eqb (size roster % 2) 1) (leb (size roster) 31 && distinct roster (size roster)) a in
-      record {
-        items = eqb-true (length roster % 40) 0 (and-left (eqb (length roster % 40) 0) _ h);
-        odd = eqb-true (size roster % 2) 1 (and-left (eqb (size roster % 2) 1) _ a);
-        most = leb-true (size roster) 31 (and-left (leb (size roster) 31) _ b);
-        distinct = and-right (leb (size roster) 31) (distinct roster (size roster)) b;
-      }
+    pub roster-size : isRoster n roster ≡ true → size roster ≡ n
+    roster-size h = seen h .members
 
-  pub roster-most : isRoster roster ≡ true → size roster ≤ 31
-  roster-most h = seen h .most
+    pub roster-distinct : isRoster n roster ≡ true → distinct roster (size roster) ≡ true
+    roster-distinct h = seen h .distinct
 
-  pub roster-distinct : isRoster roster ≡ true → distinct roster (size roster) ≡ true
-  roster-distinct h = seen h .distinct
-
-  -- the test and the conditions agree
-  pub roster-exactly : isRoster roster ≡ true ↔ IsRoster roster
-  unfolding isRoster
-  roster-exactly = (
-    λ h. record { items = seen h .items; odd = seen h .odd; most = seen h .most; distinct = λ i j. distinct-sound (size roster) i j (seen h .distinct) },
-    λ r. and-both (eqb (length roster % 40) 0) _ (eq-eqb (length roster % 40) 0 (r .items))
-        (and-both (eqb (size roster % 2) 1) _ (eq-eqb (size roster % 2) 1 (r .odd))
-        (and-both (leb (size roster) 31) (distinct roster (size roster)) (le-leb (size roster) 31 (r .most)) (distinct-complete (size roster) (r .distinct)))),
-  )
-
--- more than half
-pub majority-most : (n : ℕ) → n % 2 ≡ 1 → n < 2 * majority n
-unfolding majority
-majority-most n h = omega arith
-
-pub majority-some : (n : ℕ) → n % 2 ≡ 1 → 1 ≤ majority n
-unfolding majority
-majority-some n h = omega arith
+    -- the test and the conditions agree
+    pub roster-exactly : isRoster n roster ≡ true ↔ IsRoster n roster
+    unfolding isRoster
+    roster-exactly = (
+      λ h. record { items = seen h .items; members = seen h .members; distinct = λ i j. distinct-sound (size roster) i j (seen h .distinct) },
+      λ r. and-both (eqb (length roster % 40) 0) _ (eq-eqb (length roster % 40) 0 (r .items))
+          (and-both (eqb (size roster) n) (distinct roster (size roster)) (eq-eqb (size roster) n (r .members)) (distinct-complete (size roster) (r .distinct))),
+    )

@@ -1,12 +1,11 @@
--- `quorum::members::is_new` meets its contract.
-use Rattle.quorum.specs.Tally.{member}
-use Rattle.quorum.specs.Roster.{keeperAt}
-use Rattle.quorum.proofs.RosterLaws.{isNothing, absent-is}
+-- `roster::is_new` meets its contract.
+use Rattle.roster.specs.Roster.{member, keeperAt}
+use Rattle.roster.proofs.RosterLaws.{isNothing, absent-is}
 use Prim.Native.Nat.{ℕ}
 use mathlib.Core.Path.{sym, ap, _∙_}
 use borrow.Author.Needs.{needs}
-use Rattle.quorum.proofs.members.is_new.Statement.{statement}
-use Rattle.quorum.proofs.members.is_new.Tie as tie
+use Rattle.roster.proofs.is_new.Statement.{statement}
+use Rattle.roster.proofs.is_new.Tie as tie
 
 mul-get-u64 : tie.Need-mul-get-u64
 mul-get-u64 c = search needs
