@@ -1,31 +1,33 @@
 //! The differential check: the same calls on both sides, and every number, block count, result and lent byte compared.
+use crate::old::{old_of, Entry, Field, Log, Said};
 use crate::sides::{KeeperResult, Random, Run, Side, Verdict, KEEPER, PLAIN};
 use crate::tables::*;
 
-pub const CALLS: [&str; 14] = [
-    "hash", "tag", "format", "check", "free", "append", "advance", "truncate", "lookup", "end", "verify", "verify end",
-    "certify", "compare",
+pub const CALLS: [&str; 15] = [
+    "hash", "tag", "format", "check", "free", "carry", "append", "advance", "truncate", "lookup", "end", "verify",
+    "verify end", "certify", "compare",
 ];
 const HASH: usize = 0;
 const TAG: usize = 1;
 const FORMAT: usize = 2;
 const CHECK: usize = 3;
 const FREE: usize = 4;
-const APPEND: usize = 5;
-const ADVANCE: usize = 6;
-const TRUNCATE: usize = 7;
-const LOOKUP: usize = 8;
-const END: usize = 9;
-const VERIFY: usize = 10;
-const VERIFY_END: usize = 11;
-const CERTIFY: usize = 12;
-const COMPARE: usize = 13;
+const CARRY: usize = 5;
+const APPEND: usize = 6;
+const ADVANCE: usize = 7;
+const TRUNCATE: usize = 8;
+const LOOKUP: usize = 9;
+const END: usize = 10;
+const VERIFY: usize = 11;
+const VERIFY_END: usize = 12;
+const CERTIFY: usize = 13;
+const COMPARE: usize = 14;
 
 /// The numbers that calls return: 15 is for lines of a script.
 const NUMBERS: [usize; 16] = [0, 1, 2, 3, 4, 5, 7, 8, 9, 10, 11, 12, 13, 14, 16, 17];
 
 /// What is spoiled of plain C's first accepted answer to a call, to see that the check finds it. A promise is its first
-/// answer 16.
+/// answer 16, old the table that a carry reads.
 #[derive(Clone, Copy, PartialEq, Debug)]
 pub enum Part {
     Number,
@@ -35,10 +37,11 @@ pub enum Part {
     BehindTheBuffer,
     Reserve,
     Promise,
+    Old,
 }
 
 impl Part {
-    const ALL: [Part; 7] = [
+    const ALL: [Part; 8] = [
         Part::Number,
         Part::Blocks,
         Part::Result,
@@ -46,14 +49,16 @@ impl Part {
         Part::BehindTheBuffer,
         Part::Reserve,
         Part::Promise,
+        Part::Old,
     ];
 
     /// Whether an answer to the call has it.
     fn is_of(self, call: usize) -> bool {
         match self {
             Part::Blocks => ![CHECK, FREE].contains(&call),
-            Part::Reserve => call == FORMAT,
+            Part::Reserve => [FORMAT, CARRY].contains(&call),
             Part::Promise => [APPEND, ADVANCE].contains(&call),
+            Part::Old => call == CARRY,
             _ => true,
         }
     }
@@ -187,6 +192,7 @@ impl Check {
                     Part::BehindTheBuffer => *plain.2[0].bytes.last_mut().unwrap() ^= 1,
                     Part::Reserve => plain.2[0].get_mut()[reserve_at(0) + 1] ^= 1,
                     Part::Promise => plain.0.number = 5,
+                    Part::Old => plain.2[1].get_mut()[0] ^= 1,
                 }
             }
         }
@@ -296,6 +302,31 @@ impl Check {
             None if answer.number == 1 => Ok(()),
             _ => Err(format!("free: {}, {}, not {number:?}", answer.number, answer.results[0])),
         }
+    }
+
+    fn carry(&mut self, old: &[u8], table_bytes: usize) -> Checked<Answer> {
+        let table = self.random.bytes(table_bytes);
+        let run = |side: &Side, b: &mut [Lent], _: &mut [u64; 5]| {
+            let (table, old) = b.split_at_mut(1);
+            side.carry(old[0].get(), table[0].get_mut())
+        };
+        let answer = self.case(CARRY, &[&table, old], run, || "table, old table".to_string())?;
+        if answer.lent[1] != old {
+            return Err("carry: the old table is not as it was".to_string());
+        }
+        reports(CARRY, answer, 0)
+    }
+
+    /// A carry answers this number, and where that is 0 leaves this copy.
+    fn carried(&mut self, old: &[u8], number: u64, copy: &[u8]) -> Checked<()> {
+        let answer = self.carry(old, copy.len())?;
+        if answer.number != number {
+            return Err(format!("carry: {}, not {number}, for the old table {}", answer.number, hex(old)));
+        }
+        if number == 0 && answer.lent[0] != copy {
+            return Err(format!("carry: the copy is {}, not {}", hex(&answer.lent[0]), hex(copy)));
+        }
+        Ok(())
     }
 
     fn append(&mut self, table: &[u8], log: u64, value: &[u8]) -> Checked<Answer> {
@@ -1089,6 +1120,163 @@ impl Check {
         Ok(())
     }
 
+    /// Request [8]: two old tables and their copies, with the bytes written beside, and calls on the copies.
+    fn carry_cases(&mut self) -> Checked<()> {
+        let zeros = vec![0; 32];
+        let entry = |slot: u64, position: u64, value: u64| {
+            let mut pair = vec![0; 64];
+            put(&mut pair, 24, 8, value);
+            Entry { slot, position, pair }
+        };
+        let expect = |good: bool, what: &str| if good { Ok(()) } else { Err(format!("a carry's case: {what}")) };
+        // Of two logs over four slots: 42 at 2 and 43 at 5, after 41 at 1 was forgotten and its slot joined slot 4.
+        let log = Log { low: 2, high: 5, entries: vec![entry(2, 2, 42), entry(3, 5, 43)] };
+        let fresh = Log { low: 1, high: 0, entries: Vec::new() };
+        let said = Said { keeper: 7, key: zeros.clone(), logs: vec![log, fresh], free: vec![4, 1] };
+        let mut old = said.old();
+        let answer = self.carry(&old, 402)?;
+        let copy = &answer.lent[0];
+        expect(old.len() == 396 && answer.number == 0, "the lengths 396 and 402")?;
+        expect(copy[..20] == *b"A2MU\x02\0\0\x04\0\0\0\0\0\0\0\x07\0\x04\0\x02", "the header")?;
+        expect(copy[52..54] == [0, 1] && copy[70..76] == [0, 2, 0, 3, 0, 0], "the last free slot, and the row of log 0")?;
+        let receipt = self.lookup(copy, 0, 3, &zeros, 160)?.lent.swap_remove(0);
+        expect(receipt[6] == 2 && get(&receipt, 24, 8) == 5 && get(&receipt, 88, 8) == 43, "a lookup in the gap")?;
+        let receipt = self.end(copy, 1, &zeros, 160)?.lent.swap_remove(0);
+        expect(receipt[6] == 0 && receipt[16..32] == [0; 16], "the end of the fresh log")?;
+        // Another length, and a torn table first.
+        expect(self.carry(&old, 5)?.number == 7, "a buffer of 5")?;
+        put(&mut old, 18, 2, 2);
+        expect(self.carry(&old, 402)?.number == 1, "an old table with the number of its free slots")?;
+        expect(self.carry(&old, 5)?.number == 1, "that, and a buffer of 5")?;
+        expect(self.carry(copy, 402)?.number == 1, "a present table as the old one")?;
+        // A full one of two slots.
+        let log = Log { low: 1, high: 5, entries: vec![entry(1, 1, 41), entry(2, 5, 42)] };
+        let said = Said { keeper: 7, key: zeros.clone(), logs: vec![log], free: Vec::new() };
+        let (old, answer) = (said.old(), self.carry(&said.old(), 228)?);
+        let copy = &answer.lent[0];
+        expect(old.len() == 224 && answer.number == 0, "the lengths 224 and 228")?;
+        expect(copy[16..20] == [0; 4] && copy[52..54] == [0; 2], "no free slot")?;
+        expect(self.append(copy, 0, &zeros)?.number == 5, "an append to the full one")
+    }
+
+    /// What a carry makes of an old table that says this, and what it makes of one number of it changed. Gives the copy.
+    fn carries_one(&mut self, said: &Said) -> Checked<Vec<u8>> {
+        let (old, copy) = (said.old(), said.copy());
+        self.carried(&old, 0, &copy)?;
+        if self.check(&copy)?.number != 0 || free_chain(&copy) != said.free {
+            return Err("carry: the copy is torn, or its free slots are others".to_string());
+        }
+        self.stocked(&copy)?;
+        let (n, any) = (copy.len(), self.random.below(2 * copy.len() as u64) as usize);
+        for wrong in [0, 1, 54, n - 76, n - 22, n - 1, n + 1, n + 2, n + 76, old.len(), any] {
+            if wrong != n && self.carry(&old, wrong)?.number != 7 {
+                return Err(format!("carry: a buffer of {wrong} bytes and not {n} is taken"));
+            }
+        }
+        // Every other call takes the copy alone, and a carry the old one alone.
+        self.torn(&old)?;
+        self.shows(&old, None)?;
+        self.carried(&copy, 1, &copy)?;
+        let mut renamed = copy.clone();
+        renamed[..4].copy_from_slice(OLD_MARK);
+        self.carried(&renamed, 1, &copy)?;
+        let mut renamed = old.clone();
+        renamed[..4].copy_from_slice(&copy[..4]);
+        self.carried(&renamed, 1, &copy)?;
+        // Other lengths.
+        let n = old.len();
+        for other in [0, 1, 19, 20, 51, 52, 53, 54, n - 76, n - 20, n - 1, n + 1, n + 20, n + 76, copy.len()] {
+            let mut cut = old.clone();
+            cut.resize(other, 0);
+            if other != n {
+                self.carried(&cut, 1, &copy)?;
+            }
+        }
+        Ok(copy)
+    }
+
+    /// One field of the old table with another number: as document 01 has it, it is torn, or whole with that number.
+    fn changed(&mut self, old: &[u8], copy: &[u8], field: &Field, number: u64) -> Checked<()> {
+        if get(old, field.at, field.width) == number {
+            return Ok(());
+        }
+        let (mut old, mut copy) = (old.to_vec(), copy.to_vec());
+        put(&mut old, field.at, field.width, number);
+        if (field.from..=field.to).contains(&number) {
+            put(&mut copy, field.in_copy, field.width, number);
+            return self.carried(&old, 0, &copy);
+        }
+        self.carried(&old, 1, &copy)?;
+        if self.random.once_in(16) {
+            let wrong = self.random.below(copy.len() as u64) as usize;
+            self.carried(&old, 1, &copy[..wrong])?;
+        }
+        Ok(())
+    }
+
+    fn carries(&mut self, times: u64) -> Checked<()> {
+        self.carry_cases()?;
+        // Every field of small tables, every value of each of its bytes.
+        for (g, s, held) in [(1, 1, 0), (1, 1, 1), (1, 3, 2), (2, 4, 3), (3, 5, 5)] {
+            let said = Said::random(g, s, held, &mut self.random);
+            let (old, copy) = (said.old(), self.carries_one(&said)?);
+            for field in said.fields() {
+                let now = get(&old, field.at, field.width);
+                for byte in 0..field.width as u32 {
+                    for x in 0..=255 {
+                        let number = now & !(255 << (8 * byte)) | x << (8 * byte);
+                        self.changed(&old, &copy, &field, number)?;
+                    }
+                }
+            }
+        }
+        for i in 0..20 * times {
+            let g = self.random.pick(&[1, 1, 2, 2, 3, 5, 16]);
+            let s = match i % 20 {
+                0 => 1 + self.random.below(800),
+                1 => 800,
+                _ => 1 + self.random.below(14),
+            };
+            let some = self.random.below(s + 1);
+            let held = self.random.pick(&[0, some, some, some, s]);
+            let said = Said::random(g, s, held, &mut self.random);
+            let (old, mut copy) = (said.old(), self.carries_one(&said)?);
+            let fields = said.fields();
+            for _ in 0..120 {
+                let field = &fields[self.random.below(fields.len() as u64) as usize];
+                let (now, any) = (get(&old, field.at, field.width), self.random.next());
+                let near = [now.wrapping_add(1), now.wrapping_sub(1), field.from.wrapping_sub(1), field.to.wrapping_add(1)];
+                let near = self.random.pick(&near);
+                let slot = 1 + self.random.below(s);
+                let number = self.random.pick(&[0, 1, near, near, field.from, field.to, slot, s + 1, 800, 801, any]);
+                let bits = 8 * field.width as u32;
+                self.changed(&old, &copy, field, number & u64::MAX >> (64 - bits))?;
+            }
+            // Every later list of calls.
+            for _ in 0..40 {
+                let (after, receipt) = self.step(&copy)?;
+                copy = after;
+                self.stocked(&copy)?;
+                if let Some((receipt, nonce)) = receipt {
+                    self.receipt(&receipt, &nonce, said.keeper, &said.key)?;
+                }
+            }
+            if self.check(&copy)?.number != 0 {
+                return Err("check: a copy is torn after calls alone".to_string());
+            }
+        }
+        Ok(())
+    }
+
+    /// The answer to a carry of what a whole table says, written in document 01's layout: that table without reserves.
+    fn carried_back(&mut self, t: &[u8]) -> Checked<()> {
+        let mut copy = t.to_vec();
+        for log in 0..logs(t) {
+            put(&mut copy, reserve_at(log), 2, 0);
+        }
+        self.carried(&old_of(t), 0, &copy)
+    }
+
     fn tables(&mut self, times: u64) -> Checked<()> {
         self.example()?;
         self.queue()?;
@@ -1117,6 +1305,8 @@ impl Check {
                 }
                 if self.random.once_in(10) {
                     self.repromised(&t)?;
+                    self.carried_back(&t)?;
+                    self.carried(&t, 1, &t)?;
                 }
                 if self.random.once_in(5) {
                     let mut torn = t.clone();
@@ -1126,6 +1316,10 @@ impl Check {
                         }
                     }
                     self.all_calls(&torn, g, &t)?;
+                    self.carry(&torn, t.len())?;
+                    if torn.len() == t.len() && logs(&torn) == g {
+                        self.carry(&old_of(&torn), t.len())?;
+                    }
                 }
             }
             if self.check(&t)?.number != 0 {
@@ -1501,7 +1695,10 @@ impl Check {
                     t[row..row + 20].copy_from_slice(&fresh[row..row + 20]);
                     put(&mut t, row + 18, 2, link(2));
                 }
-                if self.check(&t)?.number == 0 {
+                // Document 01 asks the same of the chains.
+                let number = self.check(&t)?.number;
+                self.carried(&old_of(&t), number, &t)?;
+                if number == 0 {
                     for _ in 0..10 {
                         self.all_calls(&t, 1, &t)?;
                     }
@@ -1529,6 +1726,7 @@ impl Check {
         self.hashes(times)?;
         self.tags(times)?;
         self.formats(times)?;
+        self.carries(times)?;
         self.tables(times)?;
         self.certificates(times)?;
         self.runs(times)?;
@@ -1633,6 +1831,7 @@ pub fn self_test(seed: u64) -> bool {
                 Part::Byte => "the bytes of buffer 0 differ",
                 Part::BehindTheBuffer => "plain C: wrote outside a buffer",
                 Part::Reserve => "the bytes of buffer 0 differ, first at 75",
+                Part::Old => "the bytes of buffer 1 differ",
             };
             match check.all(1) {
                 Err(text) if text.starts_with(&format!("{}: {finding}", CALLS[call])) => found += 1,

@@ -1,5 +1,6 @@
 //! The bench's driver. `bench/run` builds it and calls it.
 mod check;
+mod old;
 mod sides;
 mod table;
 mod tables;

@@ -1,4 +1,4 @@
-/* The keeper in plain C: the bench's yardstick, and an independent reading of document 01 and requests [1] to [5]. Portable C,
+/* The keeper in plain C: the bench's yardstick, and an independent reading of document 01 and requests [1] to [8]. Portable C,
  * no intrinsics. Blocks are counted where they are compressed, and added up on the way out. */
 #include "plain.h"
 
@@ -244,6 +244,52 @@ static inline int all_zero(const uint8_t *p, size_t words)
     return any == 0;
 }
 
+/* The walks give how many slots a chain has, or this. */
+static const uint32_t no_chain = UINT32_MAX;
+
+/* The free chain from slot i on, and its last slot, 0 if it has none. Slot i stands at base + 76 i. A chain that goes on for more
+ * than S slots has a loop. */
+static inline uint32_t walk_free(const uint8_t *base, uint32_t slots, uint32_t i, uint32_t *last)
+{
+    uint32_t count = 0;
+    *last = 0;
+    while (i != 0) {
+        if (i > slots || ++count > slots)
+            return no_chain;
+        const uint8_t *s = base + SLOT * (size_t)i;
+        if (s[S_OWNER] != 0 || s[S_ZERO] != 0 || !all_zero(s + S_POSITION, 9))
+            return no_chain;
+        *last = i;
+        i = get16(s + S_NEXT);
+    }
+    return count;
+}
+
+/* The chain of log g, whose row is r. It ends, since its positions rise. */
+static inline uint32_t walk_log(const uint8_t *base, uint32_t slots, uint32_t g, const uint8_t *r)
+{
+    uint64_t low = get64(r + R_LOW), high = get64(r + R_HIGH);
+    uint32_t i = get16(r + R_FIRST), last = get16(r + R_LAST), count = 0, at;
+    if (i == 0)
+        return low == 1 && high == 0 && last == 0 ? 0 : no_chain;
+    if (low < 1 || low > high)
+        return no_chain;
+    uint64_t above = low - 1; /* the next position must be above this one */
+    do {
+        if (i > slots)
+            return no_chain;
+        const uint8_t *s = base + SLOT * (size_t)i;
+        uint64_t position = get64(s + S_POSITION);
+        if (s[S_OWNER] != g + 1 || s[S_ZERO] != 0 || position <= above)
+            return no_chain;
+        above = position;
+        count++;
+        at = i;
+        i = get16(s + S_NEXT);
+    } while (i != 0);
+    return at == last && above == high ? count : no_chain;
+}
+
 /* What the check of a whole table counts on its way. */
 typedef struct {
     uint32_t free;
@@ -251,63 +297,28 @@ typedef struct {
     uint32_t held[MAX_LOGS]; /* entries of each log */
 } tally;
 
-/* The number of logs of a whole table, 0 of a torn one. Each chain is walked once; a chain that goes on for more than S slots
- * has a loop. */
-static uint32_t whole(const uint8_t *t, size_t bytes, tally *seen)
+/* The number of logs of a whole table, 0 of a torn one. Each chain is walked once. */
+static inline uint32_t whole(const uint8_t *t, size_t bytes, tally *seen)
 {
     if (bytes < HEADER || memcmp(t, mark, 4) != 0 || t[H_ZERO] != 0)
         return 0;
     uint32_t logs = t[H_LOGS], slots = get16(t + H_SLOTS);
     if (logs < 1 || logs > MAX_LOGS || slots < 1 || slots > MAX_SLOTS || bytes != KEEPER_TABLE_BYTES(logs, slots))
         return 0;
-    const uint8_t *base = t + HEADER + ROW * logs - SLOT; /* slot i stands at base + 76 i */
+    const uint8_t *base = t + HEADER + ROW * logs - SLOT;
 
-    uint32_t count = 0, last = 0;
-    for (uint32_t i = get16(t + H_FREE); i != 0;) {
-        if (i > slots || ++count > slots)
-            return 0;
-        const uint8_t *s = base + SLOT * (size_t)i;
-        if (s[S_OWNER] != 0 || s[S_ZERO] != 0 || !all_zero(s + S_POSITION, 9))
-            return 0;
-        last = i;
-        i = get16(s + S_NEXT);
-    }
-    if (count != get16(t + H_COUNT) || last != get16(t + H_FREE_LAST))
+    uint32_t last, free = walk_free(base, slots, get16(t + H_FREE), &last);
+    if (free == no_chain || free != get16(t + H_COUNT) || last != get16(t + H_FREE_LAST))
         return 0;
 
-    uint32_t free = count, lack = 0;
+    uint32_t count = free, lack = 0;
     for (uint32_t g = 0; g < logs; g++) {
         const uint8_t *r = t + row_at(g);
-        uint64_t low = get64(r + R_LOW), high = get64(r + R_HIGH);
-        uint32_t i = get16(r + R_FIRST), reserve = get16(r + R_RESERVE), before = count;
-        last = get16(r + R_LAST);
-        if (i == 0) {
-            if (low != 1 || high != 0 || last != 0)
-                return 0;
-            seen->held[g] = 0;
-            lack += reserve;
-            continue;
-        }
-        if (low < 1 || low > high)
+        uint32_t held = walk_log(base, slots, g, r), reserve = get16(r + R_RESERVE);
+        if (held == no_chain)
             return 0;
-        uint64_t above = low - 1; /* the next position must be above this one */
-        uint32_t at;
-        do {
-            if (i > slots)
-                return 0;
-            const uint8_t *s = base + SLOT * (size_t)i;
-            uint64_t position = get64(s + S_POSITION);
-            if (s[S_OWNER] != g + 1 || s[S_ZERO] != 0 || position <= above)
-                return 0;
-            above = position;
-            count++;
-            at = i;
-            i = get16(s + S_NEXT);
-        } while (i != 0);
-        if (at != last || above != high)
-            return 0;
-        uint32_t held = count - before;
         seen->held[g] = held;
+        count += held;
         if (held < reserve)
             lack += reserve - held;
     }
@@ -365,6 +376,55 @@ keeper_result plain_format(uint8_t *table, size_t table_bytes, uint64_t logs, ui
     }
     for (uint32_t i = 1; i < slots; i++)
         put16(table + slot_at((uint32_t)logs, i) + S_NEXT, i + 1);
+    return done(0);
+}
+
+/* ---- tables of document 01's own layout, and the carry ---- */
+
+enum { HEADER_01 = 52, ROW_01 = 20 };
+
+static const uint8_t mark_01[4] = {'A', '2', 'M', 'T'};
+
+/* The number of logs of a table that document 01 calls whole, with the number of its free slots and the last of them; 0 of any
+ * other. Where the present header has the number, such a table has zero bytes. */
+static uint32_t whole_01(const uint8_t *t, size_t bytes, uint32_t *free, uint32_t *last)
+{
+    if (bytes < HEADER_01 || memcmp(t, mark_01, 4) != 0 || t[H_ZERO] != 0 || get16(t + H_COUNT) != 0)
+        return 0;
+    uint32_t logs = t[H_LOGS], slots = get16(t + H_SLOTS);
+    size_t rows = HEADER_01 + ROW_01 * (size_t)logs;
+    if (logs < 1 || logs > MAX_LOGS || slots < 1 || slots > MAX_SLOTS || bytes != rows + SLOT * (size_t)slots)
+        return 0;
+    const uint8_t *base = t + rows - SLOT;
+    uint32_t count = *free = walk_free(base, slots, get16(t + H_FREE), last);
+    if (count == no_chain)
+        return 0;
+    for (uint32_t g = 0; g < logs; g++) {
+        uint32_t held = walk_log(base, slots, g, t + HEADER_01 + ROW_01 * (size_t)g);
+        if (held == no_chain)
+            return 0;
+        count += held;
+    }
+    return count == slots ? logs : 0;
+}
+
+keeper_result plain_carry(const uint8_t *old, size_t old_bytes, uint8_t *table, size_t table_bytes)
+{
+    uint32_t free, last, logs = whole_01(old, old_bytes, &free, &last);
+    if (logs == 0)
+        return refused(KEEPER_TORN);
+    uint32_t slots = get16(old + H_SLOTS);
+    if (table_bytes != KEEPER_TABLE_BYTES(logs, slots))
+        return refused(KEEPER_LENGTH);
+    memcpy(table, old, HEADER_01);
+    memcpy(table, mark, 4);
+    put16(table + H_COUNT, free);
+    put16(table + H_FREE_LAST, last);
+    for (uint32_t g = 0; g < logs; g++) {
+        memcpy(table + row_at(g), old + HEADER_01 + ROW_01 * (size_t)g, ROW_01);
+        put16(table + row_at(g) + R_RESERVE, 0);
+    }
+    memcpy(table + slot_at(logs, 1), old + HEADER_01 + ROW_01 * (size_t)logs, SLOT * (size_t)slots);
     return done(0);
 }
 

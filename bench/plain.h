@@ -1,4 +1,4 @@
-/* The keeper in plain C, written for the bench from document 01 and requests [1] to [5] alone: the same calls as in
+/* The keeper in plain C, written for the bench from document 01 and requests [1] to [8] alone: the same calls as in
  * keeper.h, with the same arguments, numbers and orders of refusal. The constants and the types of result and verdict are
  * keeper.h's. */
 #ifndef PLAIN_H
@@ -20,6 +20,8 @@ uint8_t plain_free(const uint8_t *table, size_t table_bytes, uint64_t *free);
 
 /* For the bench's row of plain_free: the two bytes alone, nothing tested. */
 uint64_t plain_two_bytes(const uint8_t *table);
+
+keeper_result plain_carry(const uint8_t *old, size_t old_bytes, uint8_t *table, size_t table_bytes);
 
 keeper_result plain_append(uint8_t *table, size_t table_bytes, uint64_t log, const uint8_t *value, size_t value_bytes,
                            uint64_t *low, uint64_t *high);

@@ -36,6 +36,7 @@ pub struct Side {
     format: unsafe extern "C" fn(Out, usize, u64, u64, u64, In, usize, *const u64, usize) -> KeeperResult,
     check: unsafe extern "C" fn(In, usize) -> u8,
     free: unsafe extern "C" fn(In, usize, Num) -> u8,
+    carry: unsafe extern "C" fn(In, usize, Out, usize) -> KeeperResult,
     append: unsafe extern "C" fn(Out, usize, u64, In, usize, Num, Num) -> KeeperResult,
     advance: unsafe extern "C" fn(Out, usize, u64, u64, In, usize, In, usize, Num, Num) -> KeeperResult,
     truncate: unsafe extern "C" fn(Out, usize, u64, u64, Num, Num) -> KeeperResult,
@@ -48,9 +49,9 @@ pub struct Side {
 }
 
 macro_rules! side {
-    ($side:ident, $label:expr, $hash:ident, $tag:ident, $format:ident, $check:ident, $free:ident, $append:ident,
-     $advance:ident, $truncate:ident, $lookup:ident, $end:ident, $verify_lookup:ident, $verify_end:ident,
-     $certify:ident, $compare:ident) => {
+    ($side:ident, $label:expr, $hash:ident, $tag:ident, $format:ident, $check:ident, $free:ident, $carry:ident,
+     $append:ident, $advance:ident, $truncate:ident, $lookup:ident, $end:ident, $verify_lookup:ident,
+     $verify_end:ident, $certify:ident, $compare:ident) => {
         extern "C" {
             fn $hash(message: In, message_bytes: usize, digest: Out, digest_bytes: usize) -> KeeperResult;
             fn $tag(key: In, key_bytes: usize, text: In, text_bytes: usize, tag: Out, tag_bytes: usize) -> KeeperResult;
@@ -60,6 +61,7 @@ macro_rules! side {
             ) -> KeeperResult;
             fn $check(t: In, t_bytes: usize) -> u8;
             fn $free(t: In, t_bytes: usize, free: Num) -> u8;
+            fn $carry(old: In, old_bytes: usize, t: Out, t_bytes: usize) -> KeeperResult;
             fn $append(
                 t: Out, t_bytes: usize, log: u64, value: In, value_bytes: usize, low: Num, high: Num,
             ) -> KeeperResult;
@@ -100,6 +102,7 @@ macro_rules! side {
             format: $format,
             check: $check,
             free: $free,
+            carry: $carry,
             append: $append,
             advance: $advance,
             truncate: $truncate,
@@ -114,12 +117,14 @@ macro_rules! side {
 }
 
 side!(
-    KEEPER, "keeper", keeper_hash, keeper_tag, keeper_format, keeper_check, keeper_free, keeper_append, keeper_advance,
-    keeper_truncate, keeper_lookup, keeper_end, keeper_verify_lookup, keeper_verify_end, keeper_certify, keeper_compare
+    KEEPER, "keeper", keeper_hash, keeper_tag, keeper_format, keeper_check, keeper_free, keeper_carry, keeper_append,
+    keeper_advance, keeper_truncate, keeper_lookup, keeper_end, keeper_verify_lookup, keeper_verify_end, keeper_certify,
+    keeper_compare
 );
 side!(
-    PLAIN, "plain C", plain_hash, plain_tag, plain_format, plain_check, plain_free, plain_append, plain_advance,
-    plain_truncate, plain_lookup, plain_end, plain_verify_lookup, plain_verify_end, plain_certify, plain_compare
+    PLAIN, "plain C", plain_hash, plain_tag, plain_format, plain_check, plain_free, plain_carry, plain_append,
+    plain_advance, plain_truncate, plain_lookup, plain_end, plain_verify_lookup, plain_verify_end, plain_certify,
+    plain_compare
 );
 
 // What keeper.h asks holds of slices and references: pointers that are not null, bytes that can be read or written, and
@@ -152,6 +157,10 @@ impl Side {
 
     pub fn free(&self, table: &[u8], free: &mut u64) -> u8 {
         unsafe { (self.free)(table.as_ptr(), table.len(), free) }
+    }
+
+    pub fn carry(&self, old: &[u8], table: &mut [u8]) -> KeeperResult {
+        unsafe { (self.carry)(old.as_ptr(), old.len(), table.as_mut_ptr(), table.len()) }
     }
 
     pub fn append(&self, table: &mut [u8], log: u64, value: &[u8], low: &mut u64, high: &mut u64) -> KeeperResult {

@@ -12,6 +12,7 @@ static uint8_t *at_call;
 
 static const uint64_t reserves[2] = {1, 2};
 static uint8_t table[KEEPER_TABLE_BYTES(2, 6)], key[100], nonce[32], value[32], receipt[160], end[160], collision[144];
+static uint8_t old[52 + 2 * 20 + 6 * 76], copy[sizeof table];
 static uint8_t roster[3 * KEEPER_MEMBER_BYTES], certificate[32 * 160], values[4 * 32];
 static uint64_t low, high, examined, place;
 static uint32_t mask;
@@ -34,6 +35,7 @@ CALL(keeper_tag, key, sizeof key, values, sizeof values, collision, 32)
 CALL(keeper_format, table, sizeof table, 2, 6, 7, key, 32, reserves, 2)
 CALL_ALONE(keeper_check, table, sizeof table)
 CALL_ALONE(keeper_free, table, sizeof table, &low)
+CALL(keeper_carry, old, sizeof old, copy, sizeof copy)
 CALL(keeper_append, table, sizeof table, 0, value, 32, &low, &high)
 CALL(keeper_advance, table, sizeof table, 0, 9, nonce, 32, value, 32, &low, &high)
 CALL(keeper_lookup, table, sizeof table, 0, 9, nonce, 32, receipt, 160, &examined)
@@ -65,6 +67,17 @@ static void measure(const char *name, void (*run)(void))
 }
 #define MEASURE(name) measure(#name, run_##name)
 
+/* What the table says, in document 01's layout. */
+static void make_old(void)
+{
+    memcpy(old, table, 52);
+    old[3] = 'T';
+    memset(old + 18, 0, 2);
+    for (int log = 0; log < 2; log++)
+        memcpy(old + 52 + 20 * log, table + 54 + 22 * log, 20);
+    memcpy(old + 52 + 2 * 20, table + 54 + 2 * 22, 6 * 76);
+}
+
 int main(void)
 {
     for (int i = 0; i < 3; i++) {
@@ -78,6 +91,8 @@ int main(void)
     MEASURE(keeper_advance);
     MEASURE(keeper_check);
     MEASURE(keeper_free);
+    make_old();
+    MEASURE(keeper_carry);
     MEASURE(keeper_lookup);
     MEASURE(keeper_end);
     MEASURE(keeper_truncate);

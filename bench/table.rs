@@ -1,5 +1,6 @@
 //! The table of ratios. Both sides are timed in turn, batch by batch, so that a slow spell of the machine meets both.
-use crate::sides::{KeeperResult, Random, Run, Verdict, KEEPER, PLAIN};
+use crate::old::old_of;
+use crate::sides::{KeeperResult, Random, Run, Side, Verdict, KEEPER, PLAIN};
 use crate::tables::*;
 use std::hint::black_box;
 use std::os::raw::c_char;
@@ -342,6 +343,31 @@ impl Table {
         self.row("free slots (16,800) half / (1,1) empty", &times, Some(1.0), "");
     }
 
+    /// An old table carried into one buffer by both sides in turn. It is written whole each time, so nothing is put back.
+    fn carries(&mut self) {
+        self.head("The carry of an old table", "plain C");
+        let mut random = Random(11);
+        for (g, s, held, how) in [
+            (1, 1, 0, "empty"), (4, 32, 16, "half"), (16, 800, 0, "empty"), (16, 800, 400, "half"), (16, 800, 800, "full"),
+            (16, 800, 400, "half, shuffled"), (16, 800, 800, "full, shuffled"),
+        ] {
+            let mut t = filled(g, s, held, &mut random);
+            if how.ends_with("shuffled") {
+                shuffle(&mut t, &mut random);
+            }
+            let old = old_of(&t);
+            let shared = std::cell::RefCell::new(vec![0; t.len()]);
+            let carried = |side: &Side| assert_eq!(side.carry(black_box(&old), &mut shared.borrow_mut()).number, 0);
+            for side in [&KEEPER, &PLAIN] {
+                carried(side);
+                assert!(*shared.borrow() == t, "carry: the copy is not what the old table says");
+                shared.borrow_mut().fill(0);
+            }
+            let times = self.timer.pair(|| carried(&KEEPER), || carried(&PLAIN));
+            self.row(&format!("carry ({g},{s}) {how}"), &times, if s == 800 { Some(1.5) } else { None }, "");
+        }
+    }
+
     fn verifiers(&mut self) {
         self.head("The verifier", "plain C");
         let mut random = Random(6);
@@ -475,6 +501,7 @@ pub fn run(quick: bool) -> bool {
     let good = table.openssl();
     table.tables();
     table.screens();
+    table.carries();
     table.verifiers();
     table.certificates();
     table.runs();

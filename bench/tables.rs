@@ -13,7 +13,7 @@ pub fn put(bytes: &mut [u8], at: usize, width: usize, n: u64) {
     bytes[at..at + width].copy_from_slice(&n.to_be_bytes()[8 - width..]);
 }
 
-/// The mark of document 01's own tables, which every call now refuses.
+/// The mark of document 01's own tables, which every call but a carry now refuses.
 pub const OLD_MARK: &[u8; 4] = b"A2MT";
 
 pub fn table_bytes(logs: u64, slots: u64) -> usize {

@@ -35,12 +35,12 @@ extern "C" {
 #endif
 
 /* One more with each change of a prototype, a constant, a rule, or the bytes of a table or receipt. */
-#define KEEPER_VERSION 8
+#define KEEPER_VERSION 9
 
 /* Numbers returned. */
 enum {
     KEEPER_DONE = 0,            /* none below applies */
-    KEEPER_TORN = 1,            /* the table is not whole */
+    KEEPER_TORN = 1,            /* the table is not whole; carry: the old table is not, by document 01's test */
     KEEPER_NO_LOG = 2,          /* the table has no such log */
     KEEPER_POSITION = 3,        /* lookup of 0; advance to H or below; truncate outside L < n <= H */
     KEEPER_SPENT = 4,           /* append to a log whose H is 2^64 - 1 */
@@ -139,6 +139,20 @@ keeper_result keeper_tag(const uint8_t *key, size_t key_bytes, const uint8_t *te
  * another length than 32, or another number of reserves than logs; 8 for reserves that together pass the slots. */
 keeper_result keeper_format(uint8_t *table, size_t table_bytes, uint64_t logs, uint64_t slots, uint64_t keeper,
                             const uint8_t *key, size_t key_bytes, const uint64_t *reserves, size_t reserve_count);
+
+/* Carries an old table, which an older keeper left, into the present layout: writes over all of the buffer the table that says
+ * the same. An old table begins A2MT and has document 01's layout: 52 bytes, 20 for each log and 76 for each slot, with neither
+ * the number of free slots nor the last one nor reserves. The buffer has KEEPER_TABLE_BYTES(logs, slots) bytes, by the old
+ * table's own counts: byte 4, and bytes 6 and 7.
+ *
+ * Logs, slots, keeper number, key, each log's L and H and its entries in their slots stay; reserves become 0; free slots are
+ * taken in the order of the old chain. The old table is read and left as it is, and does not overlap the buffer. A keeper
+ * carries its old table once and from then on calls only the copy: nothing is promised of two copies of one table. Receipts
+ * from before the carry are verified as before.
+ *
+ * Blocks: 0. Refused, in this order: 1 for an old table that document 01's test calls torn, and so for a present one; 7 for
+ * another length of table. */
+keeper_result keeper_carry(const uint8_t *old, size_t old_bytes, uint8_t *table, size_t table_bytes);
 
 /* Whether the table is whole: 0, or refused with 1. Hashes nothing. */
 uint8_t keeper_check(const uint8_t *table, size_t table_bytes);

@@ -15,7 +15,7 @@ use Rattle.layout.specs.Image.{Entry, Slot, Image, freeSlot, freshRow, slotAt, 
 use Rattle.layout.specs.Changes.{withNext, advancedRow, truncatedRow}
 use Rattle.layout.specs.Fits.{RowFits, SlotFits, Fits}
 use Rattle.layout.proofs.ListLaws.{every-set}
-use Rattle.layout.proofs.TableLaws.{free-fits}
+use Rattle.layout.proofs.CellLaws.{free-fits}
 use Rattle.table.specs.Free.{joint}
 use Rattle.a2m.specs.Call.{Call, append, advance, truncate, lookup, end, Wide}
 use Rattle.a2m.specs.NewEntry.{newEntry}

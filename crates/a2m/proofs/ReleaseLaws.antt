@@ -17,7 +17,8 @@ use Rattle.layout.specs.Image.{Entry, Slot, Image, entryOf, freeSlot, freshRow,
 use Rattle.layout.specs.Layout.{Stock, stocked, readTable, stockOf, writeWith, putSlot, putNext, putRow, putFree, putCount, putLast}
 use Rattle.layout.specs.Changes.{withRow, withSlot, withNext, slotOf, linkOf, truncatedRow}
 use Rattle.layout.specs.Fits.{RowFits, SlotFits}
-use Rattle.layout.proofs.TableLaws.{length-rows, free-fits}
+use Rattle.layout.proofs.TableLaws.{length-rows}
+use Rattle.layout.proofs.CellLaws.{free-fits}
 use Rattle.layout.proofs.HoldsLaws.{Holds, holds-image, holds-row, holds-slot, holds-next, holds-free, holds-count, holds-last}
 use Rattle.table.proofs.ReserveLaws.{whole-linked}
 use Rattle.table.specs.Chains.{chain, lastOf, positionsOf, entriesOf}

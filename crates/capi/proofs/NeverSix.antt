@@ -15,6 +15,7 @@ use Rattle.runs.specs.Compare.{comparison}
 use Rattle.runs.specs.Call.{compareRefusal, answered, compareAnswer}
 use Rattle.sha256.specs.Sha256.{sha256}
 use Rattle.layout.specs.Layout.{stockOf}
+use Rattle.table.specs.Carry.{carryRefusal}
 use Rattle.table.specs.Format.{formatRefusal}
 use Rattle.table.specs.Whole.{wholeRefusal}
 use Rattle.table.specs.Screen.{screenRefusal, screen}
@@ -55,6 +56,13 @@ format-refusal size logs slots key reserves = never 6 _ refl
 
 pub format-number : (size logs slots key : ℕ) (reserves : List ℕ) → answerOf (formatRefusal size logs slots key reserves) ≢ 6
 format-number size logs slots key reserves = never-answered 6 not-done (formatRefusal size logs slots key reserves) (format-refusal size logs slots key reserves)
+
+carry-refusal : (old : List ℕ) (size : ℕ) → carryRefusal old size ≢ some 6
+unfolding carryRefusal
+carry-refusal old size = never 6 _ refl
+
+pub carry-number : (old : List ℕ) (size : ℕ) → answerOf (carryRefusal old size) ≢ 6
+carry-number old size = never-answered 6 not-done (carryRefusal old size) (carry-refusal old size)
 
 check-refusal : (b : List ℕ) → wholeRefusal b ≢ some 6
 unfolding wholeRefusal

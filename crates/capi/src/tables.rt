@@ -1,10 +1,11 @@
-// Format, the check of a table, and the status screen's read.
+// Format, the carry of an old table, the check of a table, and the status screen's read.
 use capi_results::KeeperResult;
 use capi_results::worked;
 use table::Screen;
 ghost use mathlib.Core.Path.{_≡_};
 ghost use lib.ListN.{length};
 ghost use Rattle.refusal.specs.Order.{answerOf};
+ghost use Rattle.table.specs.Carry.{carryRefusal, carryBytes};
 ghost use Rattle.table.specs.Format.{formatRefusal, formatBytes};
 ghost use Rattle.table.specs.Whole.{wholeRefusal};
 ghost use Rattle.table.specs.Screen.{screen};
@@ -24,6 +25,16 @@ pub extern "C" fn keeper_format(
     ensures bytes { λ _. ⌜ now (table .exit) ≡ formatBytes (now (table .entry)) logs slots keeper (now (key .entry)) (now (reserves .entry)) ⌝ }
 {
     let answer = table_format::format(table, logs, slots, keeper, key, reserves);
+    worked(answer)
+}
+
+#[no_mangle]
+pub extern "C" fn keeper_carry(old: &[u8], table: &mut [u8]) -> KeeperResult
+    ensures answer { λ r. ⌜ r .number ≡ answerOf (carryRefusal (now (old .entry)) (length (now (table .entry)))) ⌝ }
+    ensures blocks { λ r. ⌜ r .blocks ≡ 0 ⌝ }
+    ensures bytes { λ _. ⌜ now (table .exit) ≡ carryBytes (now (old .entry)) (now (table .entry)) ⌝ }
+{
+    let answer = table_carry::carry(old, table);
     worked(answer)
 }
 

@@ -21,6 +21,7 @@
 // digest                                   the SHA-256 of the table
 // bytes AT SIZE                            bytes of the table
 // screen SIZE                              what the status screen reads off the table's first bytes
+// carry SLOT SIZE                          an old table, the bytes of the pile from a slot on, into the table
 // receipt SLOT KIND LOG KEEPER POSITION REFERENCE KEY NONCE VALUE DIGEST
 // end-receipt, with the same fields        a receipt of a lookup or of an end, into a slot of the pile
 // put SLOT BYTES                           bytes of the pile
@@ -61,6 +62,7 @@ use receipts::written;
 use report::show;
 use tables::advances;
 use tables::appends;
+use tables::carries;
 use tables::checked;
 use tables::ended;
 use tables::ends;
@@ -109,6 +111,7 @@ answer n x n n
 digest
 bytes n n
 screen n
+carry n n
 receipt n n n n n n x x x x
 end-receipt n n n n n n x x x x
 put n x
@@ -139,15 +142,16 @@ compare x n x x n x n n
         14 => table_after(table),
         15 => shown(table, v.a, v.b),
         16 => screened(slot(table, 0, v.a)),
-        17 => written(Name::Lookup, v, store, pile),
-        18 => written(Name::End, v, store, pile),
-        19 => keep(pile, v.a, 0, slot(store, 2, v.b)),
-        20 => flip(pile, v.a, v.b),
-        21 => tagged(pile, v.a, slot(store, 2, v.b)),
-        22 => verified(v, store, pile, Ask::Lookup(v.g)),
-        23 => verified(v, store, pile, Ask::End),
-        24 => certified(v, store, pile),
-        25 => compared(v, store, pile),
+        17 => carries(slot(pile, v.a, v.b), table),
+        18 => written(Name::Lookup, v, store, pile),
+        19 => written(Name::End, v, store, pile),
+        20 => keep(pile, v.a, 0, slot(store, 2, v.b)),
+        21 => flip(pile, v.a, v.b),
+        22 => tagged(pile, v.a, slot(store, 2, v.b)),
+        23 => verified(v, store, pile, Ask::Lookup(v.g)),
+        24 => verified(v, store, pile, Ask::End),
+        25 => certified(v, store, pile),
+        26 => compared(v, store, pile),
         _ => unknown(form),
     }
     Step::On

@@ -1,4 +1,4 @@
-// The check, format, the five calls on a table, and the status screen. A line of a call has the blocks hashed for it, and ends
+// The check, format, the carry, the five calls on a table, and the status screen. A line of a call has the blocks hashed for it, and ends
 // with the SHA-256 of the table after it.
 use crate::report::refused;
 use crate::report::show;
@@ -20,6 +20,7 @@ use refusal::Worked;
 use sha256_digest::hash;
 use table::Check;
 use table::Screen;
+use table_carry::carry;
 use table_check::check;
 use table_format::format;
 use table_screen::free_slots;
@@ -158,6 +159,16 @@ pub fn formats(v: Values, store: &[u8], table: &mut [u8]) {
     let answer = fresh(v, store, table);
     show(
         b"format %1, %d blocks",
+        &[wide(answer.number()), answer.blocks()],
+    );
+    table_after(table);
+}
+
+// An old table, of document 01's layout, into the table.
+pub fn carries(old: &[u8], table: &mut [u8]) {
+    let answer = carry(old, table);
+    show(
+        b"carry %1, %d blocks",
         &[wide(answer.number()), answer.blocks()],
     );
     table_after(table);

@@ -1,5 +1,5 @@
 -- Blank slots, as the code finds them.
-use Prim.Native.Nat.{ℕ, _+_, _-_, _≤_}
+use Prim.Native.Nat.{ℕ, _+_, _-_, _*_, _≤_}
 use mathlib.Core.Path.{_≡_, sym, ap, ap₂, _∙_}
 use mathlib.Core.Bool.{Bool, _&&_}
 use mathlib.Core.List.{List, _++_}
@@ -11,10 +11,10 @@ use Rattle.octets.proofs.Tests.{and-assoc}
 use Rattle.octets.proofs.Parts.{part-between, part-part, part-add, length-part}
 use Rattle.bigendian.specs.BigEndian.{unbe}
 use Rattle.layout.specs.Image.{slotAt}
-use Rattle.layout.specs.Layout.{slotSize, slotOffset, readSlot, readTable}
-use Rattle.layout.specs.Fits.{Counted}
+use Rattle.layout.specs.Layout.{slotSize, readSlot, cellsFrom}
+use Rattle.layout.specs.Fits.{Slotted}
 use Rattle.octets.proofs.Zeros.{length-zeros}
-use Rattle.layout.proofs.CodeLaws.{slot-there}
+use Rattle.layout.proofs.CellLaws.{cell-read}
 use Rattle.layout.specs.Tests.{blank}
 use Rattle.layout.proofs.TestLaws.{zeros-add, same-append, zero-bytes}
 
@@ -32,14 +32,14 @@ blank-bytes l h =
     ∙ ap₂ (λ (x y : Bool). x && y) (ap (λ (n : ℕ). same p (zeros n)) (sym lp) ∙ sym (zero-bytes p)) (same-append v d (zeros 32) (zeros 32) (lv ∙ sym (length-zeros 32)))
     ∙ and-assoc (eqb (unbe p) 0) (same v (zeros 32)) (same d (zeros 32))
 
-pub blank-there : (b : List ℕ) (logs slots s at : ℕ) → Counted b logs slots → at ≡ slotOffset logs s → 1 ≤ s → s ≤ slots
-    → same (take (at + 4 + 72 - (at + 4)) (drop (at + 4) b)) (zeros (length (take (at + 4 + 72 - (at + 4)) (drop (at + 4) b)))) ≡ blank (slotAt (readTable b .slots) s)
-blank-there b logs slots s at c e h k =
+pub blank-there : (b : List ℕ) (start slots s : ℕ) → Slotted b start slots → 1 ≤ s → s ≤ slots → (at : ℕ) → at ≡ start + slotSize * (s - 1)
+    → same (take (at + 4 + 72 - (at + 4)) (drop (at + 4) b)) (zeros (length (take (at + 4 + 72 - (at + 4)) (drop (at + 4) b)))) ≡ blank (slotAt (cellsFrom b start slots) s)
+blank-there b start slots s c h k at e =
     let fits : at + slotSize ≤ length b = omega (arith, c .sized) in
     let q : take (at + 4 + 72 - (at + 4)) (drop (at + 4) b) ≡ part b (at + 4) 72 = part-between b (at + 4) 72 in
     ap (λ (x : List ℕ). same x (zeros (length x))) q
     ∙ ap (λ (n : ℕ). same (part b (at + 4) 72) (zeros n)) (length-part b (at + 4) 72 (omega arith))
     ∙ ap (λ (x : List ℕ). same x (zeros 72)) (sym (part-part b at slotSize 4 72 (omega arith)))
     ∙ blank-bytes (part b at slotSize) (length-part b at slotSize fits)
-    ∙ ap (λ (x : List ℕ). blank (readSlot x)) (sym (part-between b at slotSize))
-    ∙ ap blank (slot-there b logs slots c at s e h k)
+    ∙ ap (λ (a : ℕ). blank (readSlot (part b a slotSize))) e
+    ∙ ap blank (sym (cell-read b start slots s h k))

@@ -1,5 +1,5 @@
 -- What the functions of this crate read and write, over plain values: one law for each kind of place.
-use Prim.Native.Nat.{ℕ, _+_, _-_, _≤_, _<_}
+use Prim.Native.Nat.{ℕ, _+_, _-_, _*_, _≤_, _<_}
 use mathlib.Core.Path.{_≡_, refl, sym, ap, _∙_}
 use mathlib.Core.List.{List, _++_, append-assoc}
 use native.Mathlib.Nat.{mod-eq-of-lt}
@@ -13,13 +13,22 @@ use Rattle.bigendian.proofs.Laws.{length-be, put-byte}
 use Rattle.layout.specs.declared.Row.{Row}
 use Rattle.layout.specs.Image.{Slot, slotAt, rowAt}
 use Rattle.layout.specs.Changes.{slotOf}
-use Rattle.layout.specs.Layout.{Stock, mark, markNumber, headerSize, rowSize, slotSize, rowOffset, slotOffset, readRow, rowBytes, readSlot, slotBytes, readTable, countBytes, headerBytes, putRow, putSlot, putNext}
+use Rattle.layout.specs.Layout.{Stock, mark, markNumber, headerSize, rowSize, slotSize, rowOffset, slotOffset, readRow, rowBytes, readSlot, slotBytes, cellsFrom, readTable, countBytes, headerBytes, putRow, putSlot, putNext}
 use Rattle.layout.specs.Fits.{SlotFits, Counted}
 use Rattle.layout.proofs.FieldLaws.{length-rowBytes, length-slotBytes}
 use Rattle.octets.proofs.Zeros.{length-zeros}
-use Rattle.layout.proofs.TableLaws.{row-read, slot-read}
+use Rattle.layout.proofs.CellLaws.{cell-read}
+use Rattle.layout.proofs.TableLaws.{cells-are, row-read, slot-read}
 
 -- reading
+
+pub cell-there : (b : List ℕ) (start slots s : ℕ) → 1 ≤ s → s ≤ slots
+    → readSlot (take (start + slotSize * (s - 1) + slotSize - (start + slotSize * (s - 1))) (drop (start + slotSize * (s - 1)) b)) ≡ slotAt (cellsFrom b start slots) s
+cell-there b start slots s h k = ap readSlot (part-between b (start + slotSize * (s - 1)) slotSize) ∙ sym (cell-read b start slots s h k)
+
+-- a slot of a table, where its slots start behind its rows
+pub slot-there : (b : List ℕ) (logs slots : ℕ) → Counted b logs slots → (start s : ℕ) → start ≡ rowOffset logs → slotAt (cellsFrom b start slots) s ≡ slotAt (readTable b .slots) s
+slot-there b logs slots h start s e = ap (λ (x : List Slot). slotAt x s) (cells-are b logs slots start h e)
 
 module _ (b : List ℕ) (logs slots : ℕ) (h : Counted b logs slots) (at : ℕ) where
   pub row-there : (g : ℕ) → at ≡ rowOffset g → g < logs → readRow (take (at + rowSize - at) (drop at b)) ≡ rowAt (readTable b .rows) g
@@ -27,9 +36,6 @@ module _ (b : List ℕ) (logs slots : ℕ) (h : Counted b logs slots) (at : ℕ)
 
   slot-part : (s : ℕ) → at ≡ slotOffset logs s → 1 ≤ s → s ≤ slots → readSlot (part b at slotSize) ≡ slotAt (readTable b .slots) s
   slot-part s e l k = ap readSlot (ap (λ (a : ℕ). part b a slotSize) (e ∙ ap (λ (g : ℕ). slotOffset g s) (h .logs-are))) ∙ sym (slot-read b s l (omega (arith, h .slots-are)))
-
-  pub slot-there : (s : ℕ) → at ≡ slotOffset logs s → 1 ≤ s → s ≤ slots → readSlot (take (at + slotSize - at) (drop at b)) ≡ slotAt (readTable b .slots) s
-  slot-there s e l k = ap readSlot (part-between b at slotSize) ∙ slot-part s e l k
 
   pub value-there : (s : ℕ) → at ≡ slotOffset logs s → 1 ≤ s → s ≤ slots → take (at + 12 + 32 - (at + 12)) (drop (at + 12) b) ≡ slotAt (readTable b .slots) s .value
   unfolding readSlot

@@ -32,10 +32,10 @@ length-headerBytes logs slots keeper free stock key h = simp (length-append, len
 pub skip : (p q : List ℕ) (k a n : ℕ) → length p ≡ k → part (p ++ q) (k + a) n ≡ part q a n
 skip p q k a n h = ap (λ (m : ℕ). part (p ++ q) (m + a) n) (sym h) ∙ part-append-right p q a n
 
-here : (p q : List ℕ) (n : ℕ) → length p ≡ n → part (p ++ q) 0 n ≡ p
+pub here : (p q : List ℕ) (n : ℕ) → length p ≡ n → part (p ++ q) 0 n ≡ p
 here p q n h = take-at p q n h
 
-only : (p : List ℕ) (n : ℕ) → length p ≡ n → part p 0 n ≡ p
+pub only : (p : List ℕ) (n : ℕ) → length p ≡ n → part p 0 n ≡ p
 only p n h = take-all n p (omega arith)
 
 -- the same for a splice

@@ -10,11 +10,11 @@ use lib.Dec.{eqb, leb}
 use lib.ListN.{length}
 use Rattle.octets.specs.Octets.{Bytes, part, same, zeros}
 use Rattle.bigendian.specs.BigEndian.{unbe}
-use Rattle.layout.specs.Layout.{mark, markNumber, headerSize, slotSize, zeroOffset, rowOffset, padOffset, tableSize, logsOf, slotsOf}
-use Rattle.layout.specs.Fits.{Counted}
+use Rattle.layout.specs.Layout.{mark, markNumber, headerSize, slotSize, zeroOffset, tableSize, logsOf, slotsOf}
+use Rattle.layout.specs.Fits.{Counted, Slotted}
 use Rattle.layout.proofs.CodeLaws.{zero-one, mark-four}
 use Rattle.layout.specs.Fits.{Range}
-use Rattle.layout.specs.Tests.{inRange, marked, constantsFit, headerFits, allBelow, padsFit}
+use Rattle.layout.specs.Tests.{inRange, marked, constantsFit, headerFits, allBelow, padsFrom}
 use Rattle.layout.proofs.TestLaws.{and-yes, and-no, and-not, and-split, field-same}
 
 -- counts in range
@@ -107,24 +107,22 @@ counted b logs slots t e h l s = header-counted b logs slots (sym e ∙ not-fals
 
 -- zero bytes of slots
 
-module _ (b : List ℕ) (bytes : Bytes b) (logs slots start i x : ℕ) (h : Counted b logs slots) (at : start ≡ rowOffset logs) (one : 1 ≤ i) (most : i ≤ slots) (is : x ≡ unbe (part b (start + slotSize * (i - 1) + 1) 1)) where
-  pad-test : eqb x 0 ≡ same (part b (padOffset logs (i - 1)) 1) (zeros 1)
-  pad-test =
-      ap (λ (n : ℕ). eqb n 0) (is ∙ ap (λ (a : ℕ). unbe (part b (a + slotSize * (i - 1) + 1) 1)) at)
-      ∙ zero-test b (padOffset logs (i - 1)) bytes (omega (arith, h .sized))
+module _ (b : List ℕ) (bytes : Bytes b) (start slots i x : ℕ) (h : Slotted b start slots) (one : 1 ≤ i) (most : i ≤ slots) (is : x ≡ unbe (part b (start + slotSize * (i - 1) + 1) 1)) where
+  pad-test : eqb x 0 ≡ same (part b (start + slotSize * (i - 1) + 1) 1) (zeros 1)
+  pad-test = ap (λ (n : ℕ). eqb n 0) is ∙ zero-test b (start + slotSize * (i - 1) + 1) bytes (omega (arith, h .sized))
 
-  next-pad : padsFit b logs i ≡ eqb x 0 && padsFit b logs (i - 1)
-  unfolding padsFit allBelow
+  next-pad : padsFrom b start i ≡ eqb x 0 && padsFrom b start (i - 1)
+  unfolding padsFrom allBelow
   next-pad =
       let z : i ≡ suc (i - 1) = omega arith in
-      ap (padsFit b logs) z ∙ ap (λ (t : Bool). t && padsFit b logs (i - 1)) (sym pad-test)
+      ap (padsFrom b start) z ∙ ap (λ (t : Bool). t && padsFrom b start (i - 1)) (sym pad-test)
 
-  pub pad-zero : x ≡ 0 → padsFit b logs i ≡ padsFit b logs (i - 1)
-  pad-zero e = next-pad ∙ and-yes (padsFit b logs (i - 1)) (eq-eqb x 0 e)
+  pub pad-zero : x ≡ 0 → padsFrom b start i ≡ padsFrom b start (i - 1)
+  pad-zero e = next-pad ∙ and-yes (padsFrom b start (i - 1)) (eq-eqb x 0 e)
 
-  pub pad-set : x ≢ 0 → padsFit b logs i ≡ false
-  pad-set e = next-pad ∙ and-no (padsFit b logs (i - 1)) (ne-eqb x 0 e)
+  pub pad-set : x ≢ 0 → padsFrom b start i ≡ false
+  pad-set e = next-pad ∙ and-no (padsFrom b start (i - 1)) (ne-eqb x 0 e)
 
-pub pads-done : (b : List ℕ) (logs i : ℕ) → i ≤ 0 → padsFit b logs i ≡ true
-unfolding padsFit allBelow
-pads-done b logs i h = let z : i ≡ 0 = omega arith in ap (padsFit b logs) z
+pub pads-done : (b : List ℕ) (start i : ℕ) → i ≤ 0 → padsFrom b start i ≡ true
+unfolding padsFrom allBelow
+pads-done b start i h = let z : i ≡ 0 = omega arith in ap (padsFrom b start) z

@@ -1,6 +1,8 @@
 pub mod ListLaws
 pub mod FieldLaws
+pub mod CellLaws
 pub mod TableLaws
+pub mod Layout01Laws
 pub mod SpliceLaws
 pub mod HoldsLaws
 pub mod CodeLaws

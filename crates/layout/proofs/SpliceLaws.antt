@@ -16,7 +16,8 @@ use Rattle.layout.specs.Changes.{withRow, withSlot, withFree, withNext}
 use Rattle.layout.specs.Fits.{RowFits, SlotFits, Fits, Formed}
 use Rattle.layout.proofs.ListLaws.{every-set, splice-flat}
 use Rattle.layout.proofs.FieldLaws.{length-rowBytes, length-slotBytes, over, splice-next, splice-free, splice-count, splice-last}
-use Rattle.layout.proofs.TableLaws.{length-rows, length-slots, length-header, slot-lengths, length-rows-written, logs-written, read-with, free-fits, write-read, fits-read}
+use Rattle.layout.proofs.TableLaws.{length-rows, length-slots, length-header, slot-lengths, length-rows-written, logs-written, read-with, write-read, fits-read}
+use Rattle.layout.proofs.CellLaws.{free-fits}
 
 -- the image still fits
 

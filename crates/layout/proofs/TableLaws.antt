@@ -1,21 +1,21 @@
 -- Bytes and images determine each other: what was written is read back, and bytes of a table's length and constants are what their image and stock write.
-use Prim.Native.Nat.{ℕ, zero, suc, _+_, _-_, _*_, _^_, _≤_, _<_}
+use Prim.Native.Nat.{ℕ, _+_, _-_, _*_, _^_, _≤_, _<_}
 use mathlib.Core.Path.{_≡_, sym, ap, ap₂, _∙_, subst}
-use mathlib.Core.List.{List, _++_}
+use mathlib.Core.List.{List, _++_, append-assoc}
 use native.Mathlib.Omega.{arith}
 use lib.ListN.{length, getD, length-append}
 use lib.Seq.{take-all}
 use Rattle.octets.specs.Octets.{Bytes, part, zeros}
-use Rattle.octets.proofs.Parts.{length-part, part-append-left, part-part, part-add, bytes-part}
+use Rattle.octets.proofs.Parts.{length-part, part-append-left, part-add, bytes-part}
 use Rattle.bigendian.specs.BigEndian.{unbe}
 use Rattle.bigendian.proofs.Laws.{unbe-be, unbe-part-lt}
 use Rattle.layout.specs.Image.{Image, slotAt, rowAt, freshRow, freeSlot}
 use Rattle.layout.specs.Lists.{tabulate, flat}
-use Rattle.layout.specs.Layout.{Stock, headerSize, rowSize, slotSize, freeOffset, zeroOffset, countOffset, lastOffset, rowOffset, cellOffset, slotOffset, padOffset, tableSize, logsOf, slotsOf, keeperOf, freeOf, keyOf, readRow, rowBytes, readSlot, slotBytes, rowsOf, cellsOf, readTable, stockOf, headerBytes, writeWith}
-use Rattle.layout.specs.Fits.{RowFits, SlotFits, StockFits, Fits, Formed}
+use Rattle.layout.specs.Layout.{Stock, headerSize, rowSize, slotSize, freeOffset, zeroOffset, countOffset, lastOffset, rowOffset, slotOffset, padOffset, tableSize, logsOf, slotsOf, keeperOf, freeOf, keyOf, readRow, rowBytes, readSlot, slotBytes, rowsOf, cellsFrom, cellsOf, readTable, stockOf, headerBytes, writeWith}
+use Rattle.layout.specs.Fits.{RowFits, SlotFits, StockFits, Fits, Formed, Counted}
 use Rattle.layout.proofs.ListLaws.{length-tabulate, getD-tabulate, tabulate-ext, tabulate-getD, every-tabulate, length-flat, part-flat, flat-tabulate}
-use Rattle.layout.proofs.FieldLaws.{length-rowBytes, length-slotBytes, length-headerBytes, skip, read-row, write-row, read-slot, write-slot, pad-written, mark-header, logs-header, zero-header, slots-header, keeper-header, free-header, count-header, key-header, last-header, write-header}
-use Rattle.octets.proofs.Zeros.{length-zeros}
+use Rattle.layout.proofs.FieldLaws.{length-rowBytes, length-slotBytes, length-headerBytes, skip, read-row, write-row, mark-header, logs-header, zero-header, slots-header, keeper-header, free-header, count-header, key-header, last-header, write-header}
+use Rattle.layout.proofs.CellLaws.{length-cells, cell-read, cells-fit, cells-bytes, cells-written, pads-written}
 
 -- one row or slot of the image of bytes
 
@@ -25,19 +25,19 @@ length-rows b = length-tabulate (logsOf b) (λ g. readRow (part b (rowOffset g) 
 
 pub length-slots : (b : List ℕ) → length (readTable b .slots) ≡ slotsOf b
 unfolding readTable cellsOf
-length-slots b = length-tabulate (slotsOf b) (λ i. readSlot (part b (cellOffset (logsOf b) i) slotSize))
+length-slots b = length-cells b (rowOffset (logsOf b)) (slotsOf b)
+
+pub cells-are : (b : List ℕ) (logs slots start : ℕ) → Counted b logs slots → start ≡ rowOffset logs → cellsFrom b start slots ≡ readTable b .slots
+unfolding readTable cellsOf
+cells-are b logs slots start c e = ap (λ (a : ℕ). cellsFrom b a slots) e ∙ ap₂ (λ (g s : ℕ). cellsFrom b (rowOffset g) s) (c .logs-are) (c .slots-are)
 
 pub row-read : (b : List ℕ) (g : ℕ) → g < logsOf b → rowAt (readTable b .rows) g ≡ readRow (part b (rowOffset g) rowSize)
 unfolding readTable rowsOf
 row-read b g h = getD-tabulate (logsOf b) (λ j. readRow (part b (rowOffset j) rowSize)) g (freshRow 0) h
 
 pub slot-read : (b : List ℕ) (s : ℕ) → 1 ≤ s → s ≤ slotsOf b → slotAt (readTable b .slots) s ≡ readSlot (part b (slotOffset (logsOf b) s) slotSize)
-unfolding readTable cellsOf slotAt
-slot-read b zero h k = absurd (omega arith)
-slot-read b (suc i) h k =
-    let e : suc i - 1 ≡ i = omega arith in
-    getD-tabulate (slotsOf b) (λ j. readSlot (part b (cellOffset (logsOf b) j) slotSize)) i (freeSlot 0) (omega arith)
-    ∙ ap (λ (j : ℕ). readSlot (part b (cellOffset (logsOf b) j) slotSize)) (sym e)
+unfolding readTable cellsOf
+slot-read b s h k = cell-read b (rowOffset (logsOf b)) (slotsOf b) s h k
 
 -- what is written
 
@@ -72,15 +72,17 @@ module _ (stock : Stock) (m : Image) (h : Fits m) where
       ∙ part-append-left (flat rowBytes (m .rows)) (flat slotBytes (m .slots)) (rowSize * g) rowSize (omega (arith, length-rows-written))
       ∙ part-flat rowBytes rowSize (freshRow 0) (m .rows) g (λ i. length-rowBytes (getD (m .rows) i (freshRow 0))) k
 
-  slot-written : (i : ℕ) → i < length (m .slots) → part (writeWith stock m) (cellOffset (length (m .rows)) i) slotSize ≡ slotBytes (getD (m .slots) i (freeSlot 0))
-  unfolding writeWith
-  slot-written i k =
-      let header : List ℕ = headerBytes (length (m .rows)) (length (m .slots)) (m .keeper) (m .free) stock (m .key) in
-      let e : cellOffset (length (m .rows)) i ≡ headerSize + (rowSize * length (m .rows) + slotSize * i) = omega arith in
-      ap (λ (a : ℕ). part (header ++ (flat rowBytes (m .rows) ++ flat slotBytes (m .slots))) a slotSize) e
-      ∙ skip header (flat rowBytes (m .rows) ++ flat slotBytes (m .slots)) headerSize (rowSize * length (m .rows) + slotSize * i) slotSize length-header
-      ∙ skip (flat rowBytes (m .rows)) (flat slotBytes (m .slots)) (rowSize * length (m .rows)) (slotSize * i) slotSize length-rows-written
-      ∙ part-flat slotBytes slotSize (freeSlot 0) (m .slots) i slot-lengths k
+  -- what stands before the slots
+  before : List ℕ
+  before = headerBytes (length (m .rows)) (length (m .slots)) (m .keeper) (m .free) stock (m .key) ++ flat rowBytes (m .rows)
+
+  length-before : length before ≡ rowOffset (length (m .rows))
+  unfolding before
+  length-before = length-append (headerBytes (length (m .rows)) (length (m .slots)) (m .keeper) (m .free) stock (m .key)) (flat rowBytes (m .rows)) ∙ omega (arith, length-header, length-rows-written)
+
+  behind : writeWith stock m ≡ before ++ flat slotBytes (m .slots)
+  unfolding writeWith before
+  behind = sym (append-assoc (headerBytes (length (m .rows)) (length (m .slots)) (m .keeper) (m .free) stock (m .key)) (flat rowBytes (m .rows)) (flat slotBytes (m .slots)))
 
   pub logs-written : logsOf (writeWith stock m) ≡ length (m .rows)
   unfolding logsOf
@@ -97,12 +99,12 @@ module _ (stock : Stock) (m : Image) (h : Fits m) where
       ∙ tabulate-ext (length (m .rows)) (λ g. readRow (part (writeWith stock m) (rowOffset g) rowSize)) (λ g. rowAt (m .rows) g) (λ g k. ap readRow (row-written g k) ∙ read-row (rowAt (m .rows) g) (h .rows g))
       ∙ tabulate-getD (m .rows) (freshRow 0)
 
-  cells-written : cellsOf (writeWith stock m) ≡ m .slots
+  table-cells : cellsOf (writeWith stock m) ≡ m .slots
   unfolding cellsOf
-  cells-written =
-      ap₂ (λ (s k : ℕ). tabulate s (λ i. readSlot (part (writeWith stock m) (cellOffset k i) slotSize))) slots-written logs-written
-      ∙ tabulate-ext (length (m .slots)) (λ i. readSlot (part (writeWith stock m) (cellOffset (length (m .rows)) i) slotSize)) (λ i. getD (m .slots) i (freeSlot 0)) (λ i k. ap readSlot (slot-written i k) ∙ read-slot (getD (m .slots) i (freeSlot 0)) (h .slots i))
-      ∙ tabulate-getD (m .slots) (freeSlot 0)
+  table-cells =
+      ap₂ (λ (s k : ℕ). cellsFrom (writeWith stock m) (rowOffset k) s) slots-written logs-written
+      ∙ ap (λ (b : List ℕ). cellsFrom b (rowOffset (length (m .rows))) (length (m .slots))) behind
+      ∙ cells-written before (rowOffset (length (m .rows))) length-before (m .slots) (h .slots)
 
   -- an image that fits is read back
   pub read-with : readTable (writeWith stock m) ≡ m
@@ -113,7 +115,7 @@ module _ (stock : Stock) (m : Image) (h : Fits m) where
         key = (header-written 20 32 (omega arith) ∙ key-header _ _ _ _ _ _ (h .key)) i;
         free = (ap unbe (header-written freeOffset 2 (omega arith) ∙ free-header _ _ _ _ _ _) ∙ unbe-be 2 (m .free) (h .free)) i;
         rows = rows-written i;
-        slots = cells-written i;
+        slots = table-cells i;
       }
 
   -- and so is a stock
@@ -137,18 +139,13 @@ module _ (stock : Stock) (m : Image) (h : Fits m) where
     where
       pad : (i : ℕ) → i < length (m .slots) → part (writeWith stock m) (padOffset (logsOf (writeWith stock m)) i) 1 ≡ zeros 1
       pad i k =
-          ap (λ (g : ℕ). part (writeWith stock m) (padOffset g i) 1) logs-written
-          ∙ sym (part-part (writeWith stock m) (cellOffset (length (m .rows)) i) slotSize 1 1 (omega arith))
-          ∙ ap (λ (l : List ℕ). part l 1 1) (slot-written i k)
-          ∙ pad-written (getD (m .slots) i (freeSlot 0))
+          ap₂ (λ (b : List ℕ) (g : ℕ). part b (padOffset g i) 1) behind logs-written
+          ∙ pads-written before (rowOffset (length (m .rows))) length-before (m .slots) (h .slots) i k
 
 -- what is read
 
 pub fresh-fits : (r : ℕ) → r < 256 ^ 2 → RowFits (freshRow r)
 fresh-fits r h = record { low = omega arith; high = omega arith; first = omega arith; last = omega arith; reserve = h }
-
-pub free-fits : (n : ℕ) → n < 256 ^ 2 → SlotFits (freeSlot n)
-free-fits n h = record { owner = omega arith; next = h; position = omega arith; value = length-zeros 32; digest = length-zeros 32 }
 
 row-fits : (b : List ℕ) → Bytes b → RowFits (readRow b)
 unfolding readRow
@@ -160,23 +157,9 @@ unfolding readTable rowsOf
 rows-fit b h =
     every-tabulate RowFits (logsOf b) (λ g. readRow (part b (rowOffset g) rowSize)) (freshRow 0) (fresh-fits 0 (omega arith)) (λ g k. row-fits (part b (rowOffset g) rowSize) (bytes-part b (rowOffset g) rowSize h))
 
-slot-fits : (b : List ℕ) → Bytes b → length b ≡ slotSize → SlotFits (readSlot b)
-unfolding readSlot
-slot-fits b h l =
-    record {
-      owner = unbe-part-lt b 0 1 h;
-      next = unbe-part-lt b 2 2 h;
-      position = unbe-part-lt b 4 8 h;
-      value = length-part b 12 32 (omega arith);
-      digest = length-part b 44 32 (omega arith);
-    }
-
 module _ (b : List ℕ) (bytes : Bytes b) (h : Formed b) where
   row-size : (g : ℕ) → g < logsOf b → length (part b (rowOffset g) rowSize) ≡ rowSize
   row-size g k = length-part b (rowOffset g) rowSize (omega (arith, h .sized))
-
-  cell-size : (i : ℕ) → i < slotsOf b → length (part b (cellOffset (logsOf b) i) slotSize) ≡ slotSize
-  cell-size i k = length-part b (cellOffset (logsOf b) i) slotSize (omega (arith, h .sized))
 
   rows-read : flat rowBytes (rowsOf b) ≡ part b headerSize (rowSize * logsOf b)
   unfolding rowsOf
@@ -186,9 +169,7 @@ module _ (b : List ℕ) (bytes : Bytes b) (h : Formed b) where
 
   cells-read : flat slotBytes (cellsOf b) ≡ part b (rowOffset (logsOf b)) (slotSize * slotsOf b)
   unfolding cellsOf
-  cells-read =
-      flat-tabulate slotBytes slotSize (freeSlot 0) b (slotsOf b) (rowOffset (logsOf b)) (λ i. readSlot (part b (cellOffset (logsOf b) i) slotSize))
-      (λ i k. write-slot (part b (cellOffset (logsOf b) i) slotSize) (bytes-part b (cellOffset (logsOf b) i) slotSize bytes) (cell-size i k) (part-part b (cellOffset (logsOf b) i) slotSize 1 1 (omega arith) ∙ h .pads i k))
+  cells-read = cells-bytes b (rowOffset (logsOf b)) (slotsOf b) bytes (h .sized) (h .pads)
 
   header-read : headerBytes (logsOf b) (slotsOf b) (keeperOf b) (freeOf b) (stockOf b) (keyOf b) ≡ part b 0 headerSize
   unfolding logsOf slotsOf keeperOf freeOf stockOf keyOf
@@ -214,7 +195,7 @@ module _ (b : List ℕ) (bytes : Bytes b) (h : Formed b) where
         free = unbe-part-lt b freeOffset 2 bytes;
         key = length-part b 20 32 (omega (arith, h .sized));
         rows = rows-fit b bytes;
-        slots = every-tabulate SlotFits (slotsOf b) (λ i. readSlot (part b (cellOffset (logsOf b) i) slotSize)) (freeSlot 0) (free-fits 0 (omega arith)) (λ i k. slot-fits (part b (cellOffset (logsOf b) i) slotSize) (bytes-part b (cellOffset (logsOf b) i) slotSize bytes) (cell-size i k));
+        slots = cells-fit b (rowOffset (logsOf b)) (slotsOf b) bytes (h .sized);
       }
 
 -- and so does their stock

@@ -1,12 +1,12 @@
 -- When an image's numbers and lists fit their fields, and when bytes have a table's length and constants: then one determines the other.
-use Prim.Native.Nat.{ℕ, _^_, _≤_, _<_}
+use Prim.Native.Nat.{ℕ, _+_, _*_, _^_, _≤_, _<_}
 use mathlib.Core.Path.{_≡_}
 use mathlib.Core.List.{List}
 use lib.ListN.{length, getD}
 use Rattle.octets.specs.Octets.{part, zeros}
 use Rattle.layout.specs.declared.Row.{Row}
 use Rattle.layout.specs.Image.{Slot, Image, rowAt, freeSlot}
-use Rattle.layout.specs.Layout.{Stock, mark, zeroOffset, logsOf, slotsOf, tableSize, padOffset}
+use Rattle.layout.specs.Layout.{Plan, plan01, plan, Stock, mark, zeroOffset, slotSize, logsOf, slotsOf, tableSize, padOffset, cellOffsetIn}
 
 -- the row's numbers fit their fields
 pub record RowFits (r : Row) : Type 0 where
@@ -34,6 +34,10 @@ pub record Fits (m : Image) : Type 0 where
   pub rows : (g : ℕ) → RowFits (rowAt (m .rows) g)
   pub slots : (i : ℕ) → SlotFits (getD (m .slots) i (freeSlot 0))
 
+-- no log has a reserve, as in document 01
+abbrev pub Unreserved : Image → Type 0
+Unreserved m = (g : ℕ) → rowAt (m .rows) g .reserve ≡ 0
+
 -- the number of free slots and the last one fit their fields
 pub record StockFits (k : Stock) : Type 0 where
   pub count : k .count < 256 ^ 2
@@ -53,10 +57,23 @@ pub record Range (logs slots : ℕ) : Type 0 where
   pub slots-least : 1 ≤ slots
   pub slots-most : slots ≤ 800
 
--- a table of so many logs and slots, both in range: what the functions on rows and slots ask
-pub record Counted (b : List ℕ) (logs slots : ℕ) : Type 0 where
+-- a table in a layout, of so many logs and slots, both in range
+pub record CountedIn (p : Plan) (b : List ℕ) (logs slots : ℕ) : Type 0 where
   pub logs-are : logs ≡ logsOf b
   pub slots-are : slots ≡ slotsOf b
   pub logs-most : logs ≤ 16
   pub slots-most : slots ≤ 800
-  pub sized : length b ≡ tableSize logs slots
+  pub sized : length b ≡ cellOffsetIn p logs slots
+
+-- in the present one: what the functions on rows and slots ask
+abbrev pub Counted : List ℕ → ℕ → ℕ → Type 0
+Counted = CountedIn plan
+
+-- in document 01's
+abbrev pub Counted01 : List ℕ → ℕ → ℕ → Type 0
+Counted01 = CountedIn plan01
+
+-- so many slots on end, the first at start and the last at the end of the bytes: what the functions on slots of any layout ask
+pub record Slotted (b : List ℕ) (start slots : ℕ) : Type 0 where
+  pub slots-most : slots ≤ 800
+  pub sized : length b ≡ start + slotSize * slots

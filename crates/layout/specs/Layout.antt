@@ -138,8 +138,12 @@ nextOffset logs s = slotOffset logs s + 2
 unfoldable pub rowsOf : List ℕ → List Row
 rowsOf b = tabulate (logsOf b) (λ g. readRow (part b (rowOffset g) rowSize))
 
+-- so many slots on end, the first at start: the same in every layout
+unfoldable pub cellsFrom : List ℕ → ℕ → ℕ → List Slot
+cellsFrom b start slots = tabulate slots (λ i. readSlot (part b (start + slotSize * i) slotSize))
+
 unfoldable pub cellsOf : List ℕ → List Slot
-cellsOf b = tabulate (slotsOf b) (λ i. readSlot (part b (cellOffset (logsOf b) i) slotSize))
+cellsOf b = cellsFrom b (rowOffset (logsOf b)) (slotsOf b)
 
 -- what a table's bytes say
 unfoldable pub readTable : List ℕ → Image

@@ -1,12 +1,12 @@
 -- Document 01, "the length, constants and counts are as above", and "bytes 4–75 zero", as tests that the code makes.
-use Prim.Native.Nat.{ℕ, zero, suc}
+use Prim.Native.Nat.{ℕ, zero, suc, _+_, _*_}
 use mathlib.Core.List.{List}
 use mathlib.Core.Bool.{Bool, true, _&&_}
 use lib.ListN.{length}
 use lib.Dec.{eqb, leb}
 use Rattle.octets.specs.Octets.{part, same, zeros}
 use Rattle.layout.specs.Image.{Slot}
-use Rattle.layout.specs.Layout.{mark, zeroOffset, padOffset, logsOf, slotsOf, tableSize}
+use Rattle.layout.specs.Layout.{mark, zeroOffset, slotSize, rowOffset, logsOf, slotsOf, tableSize}
 
 -- "The keeper holds 1 to 16 logs over one shared pool of 1 to 800 slots."
 unfoldable pub inRange : ℕ → ℕ → Bool
@@ -29,9 +29,12 @@ unfoldable pub allBelow : ℕ → (ℕ → Bool) → Bool
 allBelow zero p = true
 allBelow (suc n) p = p n && allBelow n p
 
--- "1 zero", in each slot
-unfoldable pub padsFit : List ℕ → ℕ → ℕ → Bool
-padsFit b logs slots = allBelow slots (λ (i : ℕ). same (part b (padOffset logs i) 1) (zeros 1))
+-- "1 zero", in each of so many slots, the first at start
+unfoldable pub padsFrom : List ℕ → ℕ → ℕ → Bool
+padsFrom b start slots = allBelow slots (λ (i : ℕ). same (part b (start + slotSize * i + 1) 1) (zeros 1))
+
+abbrev pub padsFit : List ℕ → Bool
+padsFit b = padsFrom b (rowOffset (logsOf b)) (slotsOf b)
 
 -- "bytes 4–75 zero"
 unfoldable pub blank : Slot → Bool

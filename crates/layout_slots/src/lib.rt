@@ -15,9 +15,9 @@ ghost use Prim.Native.Nat.{_≤_, _<_};
 ghost use lib.ListN.{length};
 ghost use Rattle.layout.specs.Image.{slotAt};
 ghost use Rattle.layout.specs.Changes.{linkOf, slotOf};
-ghost use Rattle.layout.specs.Layout.{slotSize, readSlot, slotBytes, readTable, putSlot, putNext};
-ghost use Rattle.layout.specs.Fits.{SlotFits, Counted};
-ghost use Rattle.layout.specs.Tests.{blank, padsFit};
+ghost use Rattle.layout.specs.Layout.{slotSize, readSlot, slotBytes, cellsFrom, readTable, putSlot, putNext};
+ghost use Rattle.layout.specs.Fits.{SlotFits, Counted, Slotted};
+ghost use Rattle.layout.specs.Tests.{blank, padsFrom};
 
 // The owner, next slot and position in a slot's part of a table.
 fn read_link(part: &[u8]) -> Link
@@ -34,14 +34,23 @@ fn read_link(part: &[u8]) -> Link
     }
 }
 
-// The owner, next slot and position of slot s.
+// The owner, next slot and position of slot s, in slots that start at the given place.
+pub fn link_from(table: &[u8], start: usize, slots: usize, s: usize) -> Link
+    requires { ⌜ Slotted (now table) start slots ⌝ }
+    requires { ⌜ (1 ≤ s) × (s ≤ slots) ⌝ }
+    ensures { λ r. ⌜ r ≡ linkOf (slotAt (cellsFrom (now (table .entry)) start slots) s) ⌝ }
+{
+    let at = start + SLOT * (s - 1);
+    read_link(&table[at..at + SLOT])
+}
+
+// The owner, next slot and position of slot s of a table.
 pub fn link_at(table: &[u8], logs: usize, slots: usize, s: usize) -> Link
     requires { ⌜ Counted (now table) logs slots ⌝ }
     requires { ⌜ (1 ≤ s) × (s ≤ slots) ⌝ }
     ensures { λ r. ⌜ r ≡ linkOf (slotAt (readTable (now (table .entry)) .slots) s) ⌝ }
 {
-    let at = slot_offset(logs, s);
-    read_link(&table[at..at + SLOT])
+    link_from(table, row_offset(logs), slots, s)
 }
 
 // The value of slot s, as a part of the table.
@@ -124,22 +133,21 @@ pub fn put_next(table: &mut [u8], logs: usize, slots: usize, s: usize, next: usi
     put_pair(table, at, next);
 }
 
-// Whether the position, value and digest of slot s are zero.
-pub fn is_blank(table: &[u8], logs: usize, slots: usize, s: usize) -> bool
-    requires { ⌜ Counted (now table) logs slots ⌝ }
+// Whether the position, value and digest of slot s are zero, in slots that start at the given place.
+pub fn blank_from(table: &[u8], start: usize, slots: usize, s: usize) -> bool
+    requires { ⌜ Slotted (now table) start slots ⌝ }
     requires { ⌜ (1 ≤ s) × (s ≤ slots) ⌝ }
-    ensures { λ r. ⌜ r ≡ blank (slotAt (readTable (now (table .entry)) .slots) s) ⌝ }
+    ensures { λ r. ⌜ r ≡ blank (slotAt (cellsFrom (now (table .entry)) start slots) s) ⌝ }
 {
-    let at = slot_offset(logs, s) + 4;
+    let at = start + SLOT * (s - 1) + 4;
     is_zero(&table[at..at + 72])
 }
 
-// Whether byte 1 of every slot is zero.
-pub fn pads_fit(table: &[u8], logs: usize, slots: usize) -> bool
-    requires { ⌜ Counted (now table) logs slots ⌝ }
-    ensures { λ r. ⌜ r ≡ padsFit (now (table .entry)) logs slots ⌝ }
+// Whether byte 1 of every slot is zero, in slots that start at the given place.
+pub fn pads_from(table: &[u8], start: usize, slots: usize) -> bool
+    requires { ⌜ Slotted (now table) start slots ⌝ }
+    ensures { λ r. ⌜ r ≡ padsFrom (now (table .entry)) start slots ⌝ }
 {
-    let start = row_offset(logs);
     let mut i = slots;
     while 0 < i {
         i -= 1;

@@ -1,6 +1,11 @@
 pub mod Accepted
 pub mod Along
 pub mod Backed
+pub mod Calls01Laws
+pub mod Carried
+pub mod CarriedBytes
+pub mod CarriedCase
+pub mod CarriedProgram
 pub mod Changes
 pub mod Crowded
 pub mod Demand3
@@ -16,6 +21,9 @@ pub mod Lookups
 pub mod MarkedSet
 pub mod MarkedTable
 pub mod NeverSix
+pub mod NoReserves
+pub mod Octets01
+pub mod OfImage
 pub mod OfTable
 pub mod OfWhole
 pub mod Once

@@ -1,6 +1,6 @@
 -- A whole table, whoever wrote it: calls on its bytes answer as the model that it says, and leave a whole table.
 use Prim.Native.Nat.{ℕ}
-use mathlib.Core.Path.{_≡_, sym, ap, _∙_}
+use mathlib.Core.Path.{_≡_, sym, ap, subst, _∙_}
 use mathlib.Core.List.{List, [], _∷_}
 use mathlib.Core.Bool.{true}
 use Rattle.octets.specs.Octets.{Bytes}
@@ -8,33 +8,32 @@ use Rattle.layout.specs.Layout.{readTable}
 use Rattle.layout.proofs.TableLaws.{length-rows, length-slots, fits-read}
 use Rattle.table.specs.Whole.{whole}
 use Rattle.table.proofs.WholeLaws.{whole-formed, whole-range, whole-image, read-write, write-read}
-use Rattle.table.proofs.ReserveLaws.{whole-linked}
-use Rattle.a2m.specs.Call.{Call, Wide, AllWide, Effect, after}
+use Rattle.a2m.specs.Call.{Call, Wide, AllWide, Effect, replies, works, after}
 use Rattle.a2m.specs.ImageCalls.{imageStep}
 use Rattle.a2m.specs.TableCalls.{written, tableStep}
 use Rattle.a2m.proofs.FitsAfter.{step-fits}
 use Rattle.a2m.proofs.Written.{step-written}
 use Rattle.model.specs.Model.{rules, modelStep}
 use Rattle.model.specs.ModelOf.{modelOf}
-use Rattle.model.proofs.OfWhole.{model-says, model-sound, model-backed, whole-step}
+use Rattle.model.specs.Claim.{by, ListClaim}
+use Rattle.model.proofs.OfWhole.{whole-step}
+use Rattle.model.proofs.OfImage.{image-stands, image-list}
 use Rattle.model.proofs.TableClaim.{Stands, in-range, table-whole}
 
 module _ (b : List ℕ) (h : Bytes b) (w : whole b ≡ true) where
   stands : Stands (readTable b) (modelOf (readTable b))
-  stands =
-      let l = whole-linked (readTable b) (whole-image b w) in
-      let says = model-says (readTable b) l in
-      record {
-        says = says;
-        sound = model-sound (readTable b) l;
-        backed = model-backed (readTable b) (whole-image b w);
-        fits = fits-read b h (whole-formed b w);
-        counts = rw (sym (says .count) ∙ length-rows b, sym (says .size) ∙ length-slots b) (whole-range b w);
-      }
+  stands = image-stands (readTable b) (fits-read b h (whole-formed b w)) (whole-image b w) (rw (length-rows b, length-slots b) (whole-range b w))
 
   -- every list of calls, the refused ones among them, leaves it whole
   pub kept-whole : (cs : List Call) → AllWide cs → whole (after tableStep b cs) ≡ true
   kept-whole cs wide = ap (λ (x : List ℕ). whole (after tableStep x cs)) (sym (write-read b h w)) ∙ table-whole (readTable b) (modelOf (readTable b)) stands cs wide
+
+  -- and answers as the model that it says, with all that demand 3 says of answers and tables
+  pub whole-list : (cs : List Call) → AllWide cs → ListClaim (modelOf (readTable b)) (by rules cs) (replies tableStep b cs) (works tableStep b cs) (readTable (after tableStep b cs))
+  whole-list cs wide =
+      let m = readTable b in
+      subst (λ (x : List ℕ). ListClaim (modelOf m) (by rules cs) (replies tableStep x cs) (works tableStep x cs) (readTable (after tableStep x cs))) (write-read b h w)
+      (image-list m (fits-read b h (whole-formed b w)) (whole-image b w) (rw (length-rows b, length-slots b) (whole-range b w)) cs wide)
 
   -- a call answers as the model, leaves a table that says the model after, and that is whole
   pub record Follows (call : Call) : Type 0 where

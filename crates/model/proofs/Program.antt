@@ -54,12 +54,12 @@ module _ (m : Image) (b : Model) (s : Stands m b) where
 
 -- ---- the list
 
-record SameList (m : Image) (cs : List Call) : Type 0 where
-  answers : replies programStep (writeTable m) cs ≡ replies tableStep (writeTable m) cs
-  blocks : works programStep (writeTable m) cs ≡ works tableStep (writeTable m) cs
-  bytes : after programStep (writeTable m) cs ≡ after tableStep (writeTable m) cs
+pub record SameList (b : List ℕ) (cs : List Call) : Type 0 where
+  pub answers : replies programStep b cs ≡ replies tableStep b cs
+  pub blocks : works programStep b cs ≡ works tableStep b cs
+  pub bytes : after programStep b cs ≡ after tableStep b cs
 
-same-list : (m : Image) (b : Model) → Stands m b → (cs : List Call) → AllWide cs → SameList m cs
+pub same-list : (m : Image) (b : Model) → Stands m b → (cs : List Call) → AllWide cs → SameList (writeTable m) cs
 unfolding replies works after programStep
 same-list m b s [] w = record { answers = refl; blocks = refl; bytes = refl }
 same-list m b s (c ∷ cs) w =
@@ -79,7 +79,7 @@ same-list m b s (c ∷ cs) w =
     }
 
 module _ (lent : List ℕ) (G S keeper : ℕ) (key reserves : List ℕ) (k64 : keeper < 2 ^ 64) (accepted : formatRefusal (length lent) G S (length key) reserves ≡ none) where
-  same : (cs : List Call) → AllWide cs → SameList (formatted S keeper key reserves) cs
+  same : (cs : List Call) → AllWide cs → SameList (writeTable (formatted S keeper key reserves)) cs
   same cs w = same-list (formatted S keeper key reserves) (newModel S keeper key reserves) (stands lent G S keeper key reserves k64 accepted) cs w
 
   pub programClaim : (cs : List Call) → AllWide cs → ListClaim (newModel S keeper key reserves) (by rules cs) (replies programStep (formatBytes lent G S keeper key reserves) cs) (works programStep (formatBytes lent G S keeper key reserves) cs) (readTable (after programStep (formatBytes lent G S keeper key reserves) cs))

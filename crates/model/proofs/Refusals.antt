@@ -17,7 +17,7 @@ use Rattle.model.proofs.Lacking.{held-is, lack-but-is, free-is}
 use Rattle.model.proofs.WholeOf.{whole-of}
 
 -- "outside L < n ≤ H"
-outside : (l n h : ℕ) → not (ltb l n && leb n h) ≡ leb n l || ltb h n
+pub outside : (l n h : ℕ) → not (ltb l n && leb n h) ≡ leb n l || ltb h n
 outside l n h = go (ltb l n) refl (leb n h) refl
   where
     go : (a : Bool) → ltb l n ≡ a → (b : Bool) → leb n h ≡ b → not (ltb l n && leb n h) ≡ leb n l || ltb h n

@@ -106,7 +106,7 @@ meets-length m b R =
     (held-length (m .slots) 0 (m .rows) (b .logs) (R .count) (λ (i : ℕ). rw zero-add (ap length (row-chain m b R i) ∙ row-length m b R i)))
     ∙ R .sum
 
-linked-of : (m : Image) (b : Model) → Rep m b → Sound b → linked m ≡ true
+pub linked-of : (m : Image) (b : Model) → Rep m b → Sound b → linked m ≡ true
 unfolding freeOk
 linked-of m b R ok =
     and-both _ _

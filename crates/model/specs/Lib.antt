@@ -1,3 +1,5 @@
+pub mod Calls01
+pub mod Carried
 pub mod Claim
 pub mod Log
 pub mod Marked

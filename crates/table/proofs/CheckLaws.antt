@@ -7,10 +7,9 @@ use mathlib.Core.Logic.{_≢_}
 use native.Mathlib.Omega.{arith}
 use borrow.Author.Tests.{eq-eqb, ne-eqb, le-leb, lt-leb, not-true, not-false}
 use lib.Dec.{eqb}
-use lib.ListN.{length, length-append}
+use lib.ListN.{length}
 use Rattle.refusal.specs.Order.{fault, firstFault, answerOf}
-use Rattle.layout.specs.Image.{Image}
-use Rattle.layout.specs.Layout.{logsOf, slotsOf, readTable, stockOf}
+use Rattle.layout.specs.Layout.{rowOffset, freeOf, cellsFrom, readTable, stockOf}
 use Rattle.layout.specs.Fits.{Counted}
 use Rattle.table.specs.declared.Walk.the-variants as walked
 use Rattle.table.specs.declared.Held.the-variants as held
@@ -19,18 +18,13 @@ use Rattle.table.specs.declared.Check.the-variants as check
 use Rattle.table.specs.Chains.{lastOf}
 use Rattle.table.specs.Free.{freeChain, joint}
 use Rattle.table.specs.Reserve.{lackBut, lackAll}
-use Rattle.table.specs.Walks.{walkOf, heldWalk}
-use Rattle.table.specs.WholeImage.{freeOk, rowsOk, heldBy, meets, linked, wholeImage}
+use Rattle.table.specs.Walks.{freeWalk, heldWalk}
+use Rattle.table.specs.WholeImage.{freeOk, rowsOk, heldBy, linked, wholeImage}
 use Rattle.table.specs.Whole.{whole, stockFits, wholeRefusal, checked, checkOf}
-use Rattle.layout.specs.Tests.{headerFits, padsFit}
+use Rattle.layout.specs.Tests.{headerFits, padsFrom, padsFit}
 use Rattle.layout.proofs.TestLaws.{and-yes, and-no, and-not}
-use Rattle.table.proofs.WalkLaws.{len}
-use Rattle.table.proofs.HeldLaws.{walk-broken, walk-met, held-broken, held-slots}
-
--- the slots that all chains meet
-pub length-meets : (m : Image) → length (meets m) ≡ length (freeChain m) + length (heldBy (m .slots) 0 (m .rows))
-unfolding meets
-length-meets m = length-append (freeChain m) (heldBy (m .slots) 0 (m .rows))
+use Rattle.layout.proofs.TableLaws.{length-slots, cells-are}
+use Rattle.table.proofs.LinkedLaws.{free-broken, rows-broken, free-met, rows-met, not-all-met, all-met}
 
 torn : (b : List ℕ) → whole b ≡ false → (g : ℕ) → check.Torn ≡ checkOf b g
 unfolding checkOf checked
@@ -38,44 +32,50 @@ torn b e g = sym (ap (λ (t : Bool). checked t (freeChain (readTable b)) (lackBu
 
 torn-image : (b : List ℕ) → wholeImage (readTable b) ≡ false → (g : ℕ) → check.Torn ≡ checkOf b g
 unfolding whole
-torn-image b e = torn b (and-no _ (and-not (headerFits b && padsFit b (logsOf b) (slotsOf b)) e))
+torn-image b e = torn b (and-no _ (and-not (headerFits b && padsFit b) e))
+
+torn-linked : (b : List ℕ) → linked (readTable b) ≡ false → (g : ℕ) → check.Torn ≡ checkOf b g
+unfolding wholeImage
+torn-linked b e = torn-image b (and-no _ e)
 
 pub torn-header : (b : List ℕ) (t : Bool) → t ≡ headerFits b → not t ≡ true → (g : ℕ) → check.Torn ≡ checkOf b g
 unfolding whole
 torn-header b t e h = torn b (and-no _ (and-no _ (and-no _ (sym e ∙ not-true t h))))
 
-module _ (b : List ℕ) (logs slots : ℕ) (c : Counted b logs slots) where
-  pads-as : padsFit b logs slots ≡ padsFit b (logsOf b) (slotsOf b)
-  pads-as = ap₂ (padsFit b) (c .logs-are) (c .slots-are)
+module _ (b : List ℕ) (logs slots : ℕ) (c : Counted b logs slots) (start : ℕ) (at : start ≡ rowOffset logs) where
+  pads-as : padsFrom b start slots ≡ padsFit b
+  pads-as = ap (λ (a : ℕ). padsFrom b a slots) at ∙ ap₂ (λ (g s : ℕ). padsFrom b (rowOffset g) s) (c .logs-are) (c .slots-are)
 
-  pub torn-pads : (t : Bool) → t ≡ padsFit b logs slots → not t ≡ true → (g : ℕ) → check.Torn ≡ checkOf b g
+  pub torn-pads : (t : Bool) → t ≡ padsFrom b start slots → not t ≡ true → (g : ℕ) → check.Torn ≡ checkOf b g
   unfolding whole
   torn-pads t e h = torn b (and-no _ (and-no _ (and-not (headerFits b) (sym (e ∙ pads-as) ∙ not-true t h))))
 
-  pub torn-free : walked.Broken ≡ walkOf (freeOk (readTable b)) (freeChain (readTable b)) → (g : ℕ) → check.Torn ≡ checkOf b g
-  unfolding wholeImage
-  torn-free e = torn-image b (and-no _ (and-no _ (and-no _ (walk-broken (freeOk (readTable b)) (freeChain (readTable b)) e))))
+  -- the walk along the free chain
+  free-as : (first : ℕ) → first ≡ freeOf b → freeWalk (cellsFrom b start slots) first ≡ freeWalk (readTable b .slots) (readTable b .free)
+  unfolding readTable
+  free-as first f = ap₂ freeWalk (cells-are b logs slots start c at) f
+
+  pub torn-free : (first : ℕ) → first ≡ freeOf b → walked.Broken ≡ freeWalk (cellsFrom b start slots) first → (g : ℕ) → check.Torn ≡ checkOf b g
+  torn-free first f e = torn-linked b (free-broken (readTable b) (e ∙ free-as first f))
 
   pub torn-held : (g : ℕ) → held.Broken ≡ heldWalk (readTable b) g → check.Torn ≡ checkOf b g
-  unfolding wholeImage heldWalk
-  torn-held g e = torn-image b (and-no _ (and-no _ (and-not (freeOk (readTable b)) (held-broken (rowsOk (readTable b .slots) 0 (readTable b .rows)) (heldBy (readTable b .slots) 0 (readTable b .rows)) _ _ e)))) g
+  torn-held g e = torn-linked b (rows-broken (readTable b) g e) g
 
-  module _ (count last n lack others g : ℕ) (free : walked.Met count last ≡ walkOf (freeOk (readTable b)) (freeChain (readTable b))) (held : held.Slots n lack others ≡ heldWalk (readTable b) g) where
+  module _ (count last n lack others g first : ℕ) (is : first ≡ freeOf b) (free : walked.Met count last ≡ freeWalk (cellsFrom b start slots) first) (held : held.Slots n lack others ≡ heldWalk (readTable b) g) where
+    met : walked.Met count last ≡ freeWalk (readTable b .slots) (readTable b .free)
+    met = free ∙ free-as first is
+
     f : (freeOk (readTable b) ≡ true) × (length (freeChain (readTable b)) ≡ count) × (lastOf (freeChain (readTable b)) ≡ last)
-    f = walk-met (freeOk (readTable b)) (freeChain (readTable b)) count last free
+    f = free-met (readTable b) count last met
 
     h : (rowsOk (readTable b .slots) 0 (readTable b .rows) ≡ true) × (length (heldBy (readTable b .slots) 0 (readTable b .rows)) ≡ n) × (lackAll (readTable b) ≡ lack) × (lackBut (readTable b) g ≡ others)
-    unfolding heldWalk
-    h = held-slots (rowsOk (readTable b .slots) 0 (readTable b .rows)) (heldBy (readTable b .slots) 0 (readTable b .rows)) _ _ n lack others held
+    h = rows-met (readTable b) n lack others g held
 
-    total : length (meets (readTable b)) ≡ count + n
-    total = length-meets (readTable b) ∙ ap₂ _+_ (f .1) (h .1)
+    counted : length (readTable b .slots) ≡ slots
+    counted = length-slots b ∙ sym (c .slots-are)
 
     missed : count + n ≢ slots → check.Torn ≡ checkOf b g
-    unfolding wholeImage
-    missed e =
-        torn-image b (and-no _ (and-not (freeOk (readTable b) && rowsOk (readTable b .slots) 0 (readTable b .rows))
-        (ne-eqb (length (meets (readTable b))) (length (readTable b .slots)) (λ q. e (sym total ∙ q ∙ len b logs slots c))))) g
+    missed e = torn-linked b (not-all-met (readTable b) count last n lack others g met held (λ q. e (q ∙ counted))) g
 
     pub torn-over : slots < n → check.Torn ≡ checkOf b g
     torn-over k = missed (λ q. omega arith)
@@ -89,21 +89,20 @@ module _ (b : List ℕ) (logs slots : ℕ) (c : Counted b logs slots) where
 
     pub torn-number : (x : ℕ) → x ≡ stockOf b .count → x ≢ count → check.Torn ≡ checkOf b g
     unfolding whole stockFits
-    torn-number x e k = torn b (and-not (headerFits b && padsFit b (logsOf b) (slotsOf b) && wholeImage (readTable b)) (and-no _ (ne-eqb (stockOf b .count) (length (freeChain (readTable b))) (λ q. k (e ∙ q ∙ f .1))))) g
+    torn-number x e k = torn b (and-not (headerFits b && padsFit b && wholeImage (readTable b)) (and-no _ (ne-eqb (stockOf b .count) (length (freeChain (readTable b))) (λ q. k (e ∙ q ∙ f .1))))) g
 
     pub torn-last : (y : ℕ) → y ≡ stockOf b .last → y ≢ last → check.Torn ≡ checkOf b g
     unfolding whole stockFits
     torn-last y e k =
-        torn b (and-not (headerFits b && padsFit b (logsOf b) (slotsOf b) && wholeImage (readTable b)) (and-not (eqb (stockOf b .count) (length (freeChain (readTable b)))) (ne-eqb (stockOf b .last) (joint (readTable b)) (λ q. k (e ∙ q ∙ f .2))))) g
+        torn b (and-not (headerFits b && padsFit b && wholeImage (readTable b)) (and-not (eqb (stockOf b .count) (length (freeChain (readTable b)))) (ne-eqb (stockOf b .last) (joint (readTable b)) (λ q. k (e ∙ q ∙ f .2))))) g
 
-    pub is-whole : (t u : Bool) (x y : ℕ) → t ≡ headerFits b → not t ≡ false → u ≡ padsFit b logs slots → not u ≡ false → n ≤ slots → count ≡ slots - n → lack ≤ count → x ≡ stockOf b .count → x ≡ count → y ≡ stockOf b .last → y ≡ last
+    pub is-whole : (t u : Bool) (x y : ℕ) → t ≡ headerFits b → not t ≡ false → u ≡ padsFrom b start slots → not u ≡ false → n ≤ slots → count ≡ slots - n → lack ≤ count → x ≡ stockOf b .count → x ≡ count → y ≡ stockOf b .last → y ≡ last
         → check.Whole count last others ≡ checkOf b g
     unfolding checkOf checked whole wholeImage stockFits
     is-whole t u x y e p q r k z d i j i′ j′ =
         let w : whole b ≡ true =
         and-yes _ (and-yes _ (and-yes _ (sym e ∙ not-false t p) ∙ (sym (q ∙ pads-as) ∙ not-false u r))
-        ∙ (and-yes _ (and-yes _ (and-yes _ (f .0) ∙ h .0)
-        ∙ eq-eqb (length (meets (readTable b))) (length (readTable b .slots)) (total ∙ omega (arith, len b logs slots c)))
+        ∙ (and-yes _ (all-met (readTable b) count last n lack others g met held (omega (arith, counted)))
         ∙ le-leb (lackAll (readTable b)) (length (freeChain (readTable b))) (omega (arith, f .1, h .2))))
         ∙ (and-yes _ (eq-eqb (stockOf b .count) (length (freeChain (readTable b))) (sym i ∙ j ∙ sym (f .1))) ∙ eq-eqb (stockOf b .last) (joint (readTable b)) (sym i′ ∙ j′ ∙ sym (f .2))) in
         sym (ap (λ (x : Bool). checked x (freeChain (readTable b)) (lackBut (readTable b) g)) w ∙ found (f .1) (f .2) (h .3))

@@ -1,5 +1,5 @@
 -- The test `whole` and the conditions `Whole` agree, both ways.
-use Prim.Native.Nat.{ℕ, zero, suc, _+_, _-_, _≤_, _<_}
+use Prim.Native.Nat.{ℕ, zero, suc, _+_, _-_, _*_, _≤_, _<_}
 use mathlib.Core.Path.{_≡_, refl, sym, ap, ap₂, _∙_}
 use mathlib.Core.Logic.{_⊎_, inl, inr}
 use mathlib.Core.List.{List, [], _∷_}
@@ -12,7 +12,7 @@ use Rattle.octets.specs.Octets.{part, same, zeros}
 use Rattle.octets.proofs.Same.{same-eq, eq-same}
 use Rattle.layout.specs.declared.Row.{Row}
 use Rattle.layout.specs.Image.{Slot, Image, slotAt}
-use Rattle.layout.specs.Layout.{mark, zeroOffset, padOffset, logsOf, slotsOf, tableSize, readTable, stockOf}
+use Rattle.layout.specs.Layout.{mark, zeroOffset, slotSize, rowOffset, logsOf, slotsOf, tableSize, readTable, stockOf}
 use Rattle.layout.proofs.TableLaws.{length-slots}
 use Rattle.table.specs.Chains.{reaches, chain, lastOf, positionsOf}
 use Rattle.table.specs.Free.{freeChain}
@@ -20,13 +20,13 @@ use Rattle.table.specs.Reserve.{lackFrom, lackBut, lackAll}
 use Rattle.table.specs.WholeImage.{all, freeOk, fresh, risingFrom, started, rowOk, rowsOk, heldBy, meets, linked, wholeImage}
 use Rattle.layout.specs.Tests.{blank}
 use Rattle.table.specs.Whole.{whole, stockFits}
-use Rattle.layout.specs.Tests.{constantsFit, headerFits, allBelow, padsFit}
-use Rattle.table.specs.Conditions.{Blank, Each, Rising, Fresh, Started, Rows, totalOf, lackWith, Whole}
+use Rattle.layout.specs.Tests.{constantsFit, headerFits, allBelow, padsFrom, padsFit}
+use Rattle.table.specs.Conditions.{Links, Blank, Each, Rising, Fresh, Started, Rows, totalOf, lackWith, Whole}
 use Rattle.layout.specs.Fits.{Range}
 use Rattle.layout.proofs.TestLaws.{and-yes, and-split}
 use Rattle.table.proofs.WalkLaws.{chain-none}
 use Rattle.layout.proofs.HeaderLaws.{in-range, range-in, header-parts}
-use Rattle.table.proofs.CheckLaws.{length-meets}
+use Rattle.table.proofs.LinkedLaws.{length-meets}
 use Rattle.table.proofs.LinkLaws.{links-reach, reach-links}
 use Rattle.table.proofs.ReserveLaws.{lack-in}
 
@@ -159,21 +159,25 @@ rows-test slots top g (r ∷ rs) (c ∷ cs) q h l =
 
 -- zero bytes of slots
 
-pads-conditions : (b : List ℕ) (logs n : ℕ) → padsFit b logs n ≡ true → (i : ℕ) → i < n → part b (padOffset logs i) 1 ≡ zeros 1
-unfolding padsFit allBelow
-pads-conditions b logs zero e i h = absurd (omega arith)
-pads-conditions b logs (suc n) e i h =
-    let t = and-split (same (part b (padOffset logs n) 1) (zeros 1)) (padsFit b logs n) e in
-    go (λ k. pads-conditions b logs n (t .1) i k) (same-eq (part b (padOffset logs n) 1) (zeros 1) (t .0)) (eqb i n) refl
-  where
-    go : (i < n → part b (padOffset logs i) 1 ≡ zeros 1) → part b (padOffset logs n) 1 ≡ zeros 1 → (q : Bool) → eqb i n ≡ q → part b (padOffset logs i) 1 ≡ zeros 1
-    go below at true q = ap (λ (j : ℕ). part b (padOffset logs j) 1) (eqb-true i n q) ∙ at
-    go below at false q = below (omega (arith, eqb-false i n q))
+module _ (b : List ℕ) (start : ℕ) where
+  abbrev Pad : ℕ → Type 0
+  Pad i = part b (start + slotSize * i + 1) 1 ≡ zeros 1
 
-pub pads-test : (b : List ℕ) (logs n : ℕ) → ((i : ℕ) → i < n → part b (padOffset logs i) 1 ≡ zeros 1) → padsFit b logs n ≡ true
-unfolding padsFit allBelow
-pads-test b logs zero h = refl
-pads-test b logs (suc n) h = and-yes _ (eq-same (part b (padOffset logs n) 1) (zeros 1) (h n (omega arith))) ∙ pads-test b logs n (λ i k. h i (omega arith))
+  pub pads-conditions : (n : ℕ) → padsFrom b start n ≡ true → (i : ℕ) → i < n → Pad i
+  unfolding padsFrom allBelow
+  pads-conditions zero e i h = absurd (omega arith)
+  pads-conditions (suc n) e i h =
+      let t = and-split (same (part b (start + slotSize * n + 1) 1) (zeros 1)) (padsFrom b start n) e in
+      go (λ k. pads-conditions n (t .1) i k) (same-eq (part b (start + slotSize * n + 1) 1) (zeros 1) (t .0)) (eqb i n) refl
+    where
+      go : (i < n → Pad i) → Pad n → (q : Bool) → eqb i n ≡ q → Pad i
+      go below at true q = ap (λ (j : ℕ). part b (start + slotSize * j + 1) 1) (eqb-true i n q) ∙ at
+      go below at false q = below (omega (arith, eqb-false i n q))
+
+  pub pads-test : (n : ℕ) → ((i : ℕ) → i < n → Pad i) → padsFrom b start n ≡ true
+  unfolding padsFrom allBelow
+  pads-test zero h = refl
+  pads-test (suc n) h = and-yes _ (eq-same (part b (start + slotSize * n + 1) 1) (zeros 1) (h n (omega arith))) ∙ pads-test n (λ i k. h i (omega arith))
 
 -- the header
 
@@ -191,52 +195,83 @@ pub header-test : (b : List ℕ) → constantsFit b ≡ true → Range (logsOf b
 unfolding headerFits
 header-test b e r l = and-yes _ (and-yes _ e ∙ range-in (logsOf b) (slotsOf b) r) ∙ eq-eqb (length b) (tableSize (logsOf b) (slotsOf b)) l
 
--- the test tells the conditions
+-- the clauses on chains, of an image
 
-pub whole-conditions : (b : List ℕ) → whole b ≡ true → Whole b
-unfolding whole wholeImage freeOk stockFits lackAll lackBut
-whole-conditions b e =
-    let m : Image = readTable b in
-    let a = and-split (headerFits b && padsFit b (logsOf b) (slotsOf b) && wholeImage m) (stockFits b) e in
-    let k₂ = and-split (eqb (stockOf b .count) (length (freeChain m))) (eqb (stockOf b .last) (lastOf (freeChain m))) (a .1) in
-    let s = and-split (headerFits b && padsFit b (logsOf b) (slotsOf b)) (wholeImage m) (a .0) in
-    let t = and-split (headerFits b) (padsFit b (logsOf b) (slotsOf b)) (s .0) in
-    let p = header-parts b (t .0) in
-    let k = constants-conditions b (p .0) in
-    let n = and-split (linked m) (leb (lackAll m) (length (freeChain m))) (s .1) in
-    let u = and-split (freeOk m && rowsOk (m .slots) 0 (m .rows)) (eqb (length (meets m)) (length (m .slots))) (n .0) in
+pub record Linked (m : Image) : Type 0 where
+  pub free : Links (m .slots) 0 (m .free) (freeChain m) 0
+  pub blank : Each (λ (s : ℕ). Blank (slotAt (m .slots) s)) (freeChain m)
+  pub chains : List (List ℕ)
+  pub rows : Rows (m .slots) 0 (m .rows) chains
+  pub total : length (freeChain m) + totalOf chains ≡ length (m .slots)
+  pub lack : lackWith (m .rows) chains ≡ lackAll m
+
+pub linked-conditions : (m : Image) → linked m ≡ true → Linked m
+unfolding freeOk lackAll lackBut
+linked-conditions m e =
+    let u = and-split (freeOk m && rowsOk (m .slots) 0 (m .rows)) (eqb (length (meets m)) (length (m .slots))) e in
     let v = and-split (freeOk m) (rowsOk (m .slots) 0 (m .rows)) (u .0) in
     let f = and-split (reaches (m .slots) 0 (m .free)) (all (λ (s : ℕ). blank (slotAt (m .slots) s)) (chain (m .slots) 0 (m .free))) (v .0) in
     let r = rows-conditions (m .slots) (length (m .rows)) 0 (m .rows) (omega arith) (v .1) in
     record {
+      free = reach-links (m .slots) 0 (m .free) (f .0);
+      blank = all-each (m .slots) (freeChain m) (f .1);
+      chains = r .0;
+      rows = r .1;
+      total = ap (λ (n : ℕ). length (freeChain m) + n) (r .2) ∙ sym (length-meets m) ∙ eqb-true (length (meets m)) (length (m .slots)) (u .1);
+      lack = r .3;
+    }
+
+-- the test, the free chain that it finds, and what the logs lack
+pub conditions-linked : (m : Image) (freed : List ℕ) (chains : List (List ℕ)) → Links (m .slots) 0 (m .free) freed 0 → Each (λ (s : ℕ). Blank (slotAt (m .slots) s)) freed
+    → Rows (m .slots) 0 (m .rows) chains → length freed + totalOf chains ≡ length (m .slots) → (linked m ≡ true) × (freeChain m ≡ freed) × (lackAll m ≡ lackWith (m .rows) chains)
+unfolding freeOk lackAll lackBut
+conditions-linked m freed chains l b rows t =
+    let f = links-reach (m .slots) 0 (m .free) freed l (omega arith) in
+    let r = rows-test (m .slots) (length (m .rows)) 0 (m .rows) chains (omega arith) rows (omega arith) in (
+      and-yes _ (and-yes _ (and-yes _ (f .0) ∙ (ap (all (λ (s : ℕ). blank (slotAt (m .slots) s))) (f .1) ∙ each-all (m .slots) freed b)) ∙ r .0)
+          ∙ eq-eqb (length (meets m)) (length (m .slots)) (length-meets m ∙ ap₂ _+_ (ap length (f .1)) (r .1) ∙ t),
+      f .1,
+      r .2,
+    )
+
+-- the test tells the conditions
+
+pub whole-conditions : (b : List ℕ) → whole b ≡ true → Whole b
+unfolding whole wholeImage stockFits
+whole-conditions b e =
+    let m : Image = readTable b in
+    let a = and-split (headerFits b && padsFit b && wholeImage m) (stockFits b) e in
+    let k₂ = and-split (eqb (stockOf b .count) (length (freeChain m))) (eqb (stockOf b .last) (lastOf (freeChain m))) (a .1) in
+    let s = and-split (headerFits b && padsFit b) (wholeImage m) (a .0) in
+    let t = and-split (headerFits b) (padsFit b) (s .0) in
+    let p = header-parts b (t .0) in
+    let k = constants-conditions b (p .0) in
+    let n = and-split (linked m) (leb (lackAll m) (length (freeChain m))) (s .1) in
+    let l = linked-conditions m (n .0) in
+    record {
       sized = p .2;
       marked = k .0;
       zero = k .1;
-      pads = pads-conditions b (logsOf b) (slotsOf b) (t .1);
+      pads = pads-conditions b (rowOffset (logsOf b)) (slotsOf b) (t .1);
       counts = in-range (logsOf b) (slotsOf b) (p .1);
       freed = freeChain m;
-      free = reach-links (m .slots) 0 (m .free) (f .0);
-      blank = all-each (m .slots) (freeChain m) (f .1);
+      free = l .free;
+      blank = l .blank;
       number = eqb-true (stockOf b .count) (length (freeChain m)) (k₂ .0);
       last = eqb-true (stockOf b .last) (lastOf (freeChain m)) (k₂ .1);
-      chains = r .0;
-      rows = r .1;
-      total = ap (λ (n : ℕ). length (freeChain m) + n) (r .2) ∙ sym (length-meets m) ∙ eqb-true (length (meets m)) (length (m .slots)) (u .1) ∙ length-slots b;
-      enough = omega (arith, r .3, leb-true (lackAll m) (length (freeChain m)) (n .1));
+      chains = l .chains;
+      rows = l .rows;
+      total = l .total ∙ length-slots b;
+      enough = omega (arith, l .lack, leb-true (lackAll m) (length (freeChain m)) (n .1));
     }
 
 -- and the conditions the test
 
 pub conditions-whole : (b : List ℕ) → Whole b → whole b ≡ true
-unfolding whole wholeImage freeOk stockFits lackAll lackBut
+unfolding whole wholeImage stockFits
 conditions-whole b w =
     let m : Image = readTable b in
-    let n : length (m .slots) ≡ slotsOf b = length-slots b in
-    let t : length (w .freed) + totalOf (w .chains) ≡ slotsOf b = w .total in
-    let f = links-reach (m .slots) 0 (m .free) (w .freed) (w .free) (omega arith) in
-    let r = rows-test (m .slots) (length (m .rows)) 0 (m .rows) (w .chains) (omega arith) (w .rows) (omega arith) in
-    and-yes _ (and-yes _ (and-yes _ (header-test b (constants-test b (w .marked) (w .zero)) (w .counts) (w .sized)) ∙ pads-test b (logsOf b) (slotsOf b) (w .pads))
-    ∙ (and-yes _ (and-yes _ (and-yes _ (and-yes _ (f .0) ∙ (ap (all (λ (s : ℕ). blank (slotAt (m .slots) s))) (f .1) ∙ each-all (m .slots) (w .freed) (w .blank))) ∙ r .0)
-    ∙ eq-eqb (length (meets m)) (length (m .slots)) (length-meets m ∙ ap₂ _+_ (ap length (f .1)) (r .1) ∙ t ∙ sym n))
-    ∙ le-leb (lackAll m) (length (freeChain m)) (omega (arith, r .2, w .enough, ap length (f .1)))))
-    ∙ (and-yes _ (eq-eqb (stockOf b .count) (length (freeChain m)) (w .number ∙ sym (ap length (f .1)))) ∙ eq-eqb (stockOf b .last) (lastOf (freeChain m)) (w .last ∙ sym (ap lastOf (f .1))))
+    let l = conditions-linked m (w .freed) (w .chains) (w .free) (w .blank) (w .rows) (w .total ∙ sym (length-slots b)) in
+    and-yes _ (and-yes _ (and-yes _ (header-test b (constants-test b (w .marked) (w .zero)) (w .counts) (w .sized)) ∙ pads-test b (rowOffset (logsOf b)) (slotsOf b) (w .pads))
+    ∙ (and-yes _ (l .0) ∙ le-leb (lackAll m) (length (freeChain m)) (omega (arith, l .2, w .enough, ap length (l .1)))))
+    ∙ (and-yes _ (eq-eqb (stockOf b .count) (length (freeChain m)) (w .number ∙ sym (ap length (l .1)))) ∙ eq-eqb (stockOf b .last) (lastOf (freeChain m)) (w .last ∙ sym (ap lastOf (l .1))))

@@ -14,8 +14,8 @@ use Rattle.octets.specs.Octets.{splice}
 use Rattle.octets.proofs.Parts.{length-splice, put-back, splice-nil, splice-then, splice-whole}
 use Rattle.bigendian.proofs.Laws.{length-be}
 use Rattle.layout.specs.Lists.{flat}
-use Rattle.layout.specs.Image.{Slot, freshRow, freeSlot}
-use Rattle.layout.specs.Layout.{headerSize, rowSize, slotSize, rowOffset, tableSize, stocked, rowBytes, slotBytes, headerBytes, writeWith}
+use Rattle.layout.specs.Image.{Slot, Image, freshRow, freeSlot}
+use Rattle.layout.specs.Layout.{headerSize, rowSize, slotSize, rowOffset, tableSize, Stock, stocked, rowBytes, slotBytes, headerBytes, writeWith}
 use Rattle.layout.proofs.ListLaws.{length-flat, length-tabulate, getD-tabulate, every-tabulate}
 use Rattle.layout.proofs.FieldLaws.{length-rowBytes, length-headerBytes}
 use Rattle.octets.proofs.Zeros.{length-zeros}
@@ -152,28 +152,40 @@ pub none-queued : (slots s : ℕ) → slots ≤ s → 0 ≡ queuedNext slots s
 unfolding queuedNext
 none-queued slots s h = sym (ap (λ (t : Bool). cond t (suc s) 0) (le-ltb s slots h))
 
--- header, rows and slots, written one after the other
+-- header, rows and slots of an image, written one after the other
+pub parts-written : (stock : Stock) (m : Image) → length (m .key) ≡ 32 → ((i : ℕ) → length (slotBytes (getD (m .slots) i (freeSlot 0))) ≡ slotSize) → (o : List ℕ) {o₁ o₂ o₃ : List ℕ}
+    → length o ≡ tableSize (length (m .rows)) (length (m .slots)) → o₁ ≡ splice o 0 (headerBytes (length (m .rows)) (length (m .slots)) (m .keeper) (m .free) stock (m .key))
+    → o₂ ≡ splice o₁ headerSize (flat rowBytes (m .rows)) → o₃ ≡ splice o₂ (rowOffset (length (m .rows))) (flat slotBytes (m .slots)) → o₃ ≡ writeWith stock m
+unfolding writeWith
+parts-written stock m k sizes o {o₁} {o₂} {o₃} e w₁ w₂ w₃ =
+    let H : List ℕ = headerBytes (length (m .rows)) (length (m .slots)) (m .keeper) (m .free) stock (m .key) in
+    let R : List ℕ = flat rowBytes (m .rows) in
+    let S : List ℕ = flat slotBytes (m .slots) in
+    let lh : length H ≡ headerSize = length-headerBytes (length (m .rows)) (length (m .slots)) (m .keeper) (m .free) stock (m .key) k in
+    let lr : length R ≡ rowSize * length (m .rows) = length-flat rowBytes rowSize (freshRow 0) (m .rows) (λ i. length-rowBytes (getD (m .rows) i (freshRow 0))) in
+    let ls : length S ≡ slotSize * length (m .slots) = length-flat slotBytes slotSize (freeSlot 0) (m .slots) sizes in
+    let v₂ : o₂ ≡ splice o 0 (H ++ R) = splice-then o H R headerSize w₁ lh (omega arith) w₂ in
+    let l₂ : length (H ++ R) ≡ rowOffset (length (m .rows)) = length-append H R ∙ omega arith in
+    let v₃ : o₃ ≡ splice o 0 ((H ++ R) ++ S) = splice-then o (H ++ R) S (rowOffset (length (m .rows))) v₂ l₂ (omega arith) w₃ in
+    v₃ ∙ splice-whole o ((H ++ R) ++ S) (length-append (H ++ R) S ∙ omega arith) ∙ append-assoc H R S
+
+-- the same of a formatted table, its parts lent one after the other
 pub three : (o h r s : List ℕ) (slots keeper : ℕ) (key reserves : List ℕ) → length o ≡ tableSize (length reserves) slots → length key ≡ 32
     → h ≡ headerBytes (length reserves) slots keeper 1 (stocked slots slots) key → r ≡ flat rowBytes (map freshRow reserves) → s ≡ flat slotBytes (queue slots)
     → putMid (rowOffset (length reserves)) (tableSize (length reserves) slots - rowOffset (length reserves)) (putMid headerSize (rowOffset (length reserves) - headerSize) (putMid 0 headerSize o h) r) s
     ≡ writeWith (stocked slots slots) (formatted slots keeper key reserves)
-unfolding writeWith formatted
+unfolding formatted
 three o h r s slots keeper key reserves e k eh er es =
-    let logs : ℕ = length reserves in
-    let H : List ℕ = headerBytes logs slots keeper 1 (stocked slots slots) key in
-    let R : List ℕ = flat rowBytes (map freshRow reserves) in
-    let S : List ℕ = flat slotBytes (queue slots) in
+    let m : Image = formatted slots keeper key reserves in
+    let g : length (m .rows) ≡ length reserves = length-map reserves freshRow in
+    let n : length (m .slots) ≡ slots = length-queue slots in
+    let R : List ℕ = flat rowBytes (m .rows) in
+    let lr : length R ≡ rowSize * length reserves = length-flat rowBytes rowSize (freshRow 0) (m .rows) (fresh-sizes reserves) ∙ ap (λ (i : ℕ). rowSize * i) g in
+    let ls : length (flat slotBytes (queue slots)) ≡ slotSize * slots = length-flat slotBytes slotSize (freeSlot 0) (queue slots) (queue-sizes slots) ∙ ap (λ (i : ℕ). slotSize * i) n in
     let o₁ : List ℕ = putMid 0 headerSize o h in
-    let o₂ : List ℕ = putMid headerSize (rowOffset logs - headerSize) o₁ r in
-    let lh : length H ≡ headerSize = length-headerBytes logs slots keeper 1 (stocked slots slots) key k in
-    let lr : length R ≡ rowSize * logs = length-flat rowBytes rowSize (freshRow 0) (map freshRow reserves) (fresh-sizes reserves) ∙ ap (λ (n : ℕ). rowSize * n) (length-map reserves freshRow) in
-    let ls : length S ≡ slotSize * slots = length-flat slotBytes slotSize (freeSlot 0) (queue slots) (queue-sizes slots) ∙ ap (λ (n : ℕ). slotSize * n) (length-queue slots) in
-    let w₁ : o₁ ≡ splice o 0 H = put-back o h H 0 headerSize eh lh in
-    let w₂ : o₂ ≡ splice o 0 (H ++ R) = splice-then o H R headerSize w₁ lh (omega arith) (put-back o₁ r R headerSize (rowSize * logs) er lr) in
-    let l₂ : length (H ++ R) ≡ rowOffset logs = length-append H R ∙ omega arith in
-    let w₃ : putMid (rowOffset logs) (tableSize logs slots - rowOffset logs) o₂ s ≡ splice o 0 ((H ++ R) ++ S) =
-    splice-then o (H ++ R) S (rowOffset logs) w₂ l₂ (omega arith) (put-back o₂ s S (rowOffset logs) (slotSize * slots) es ls) in
-    w₃
-    ∙ splice-whole o ((H ++ R) ++ S) (length-append (H ++ R) S ∙ omega arith)
-    ∙ append-assoc H R S
-    ∙ ap₂ (λ (g n : ℕ). headerBytes g n keeper 1 (stocked slots slots) key ++ (R ++ S)) (sym (length-map reserves freshRow)) (sym (length-queue slots))
+    let o₂ : List ℕ = putMid headerSize (rowOffset (length reserves) - headerSize) o₁ r in
+    parts-written (stocked slots slots) m k (queue-sizes slots) o (e ∙ sym (ap₂ tableSize g n))
+    (put-back o h (headerBytes (length reserves) slots keeper 1 (stocked slots slots) key) 0 headerSize eh (length-headerBytes (length reserves) slots keeper 1 (stocked slots slots) key k)
+    ∙ ap₂ (λ (i j : ℕ). splice o 0 (headerBytes i j keeper 1 (stocked slots slots) key)) (sym g) (sym n))
+    (put-back o₁ r R headerSize (rowSize * length reserves) er lr)
+    (put-back o₂ s (flat slotBytes (queue slots)) (rowOffset (length reserves)) (slotSize * slots) es ls ∙ ap (λ (i : ℕ). splice o₂ (rowOffset i) (flat slotBytes (queue slots))) (sym g))

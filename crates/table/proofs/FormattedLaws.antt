@@ -17,7 +17,8 @@ use Rattle.layout.specs.Image.{Slot, Image, slotAt, rowAt, freeSlot, freshRow}
 use Rattle.layout.specs.Layout.{Stock, stocked, readTable, writeWith}
 use Rattle.layout.specs.Fits.{RowFits, SlotFits, Fits}
 use Rattle.layout.proofs.ListLaws.{every-tabulate}
-use Rattle.layout.proofs.TableLaws.{fresh-fits, free-fits}
+use Rattle.layout.proofs.TableLaws.{fresh-fits}
+use Rattle.layout.proofs.CellLaws.{free-fits}
 use Rattle.table.specs.Chains.{walk, reaches, chain, lastOf}
 use Rattle.table.specs.Free.{freeChain, stockIn, writeTable, countUp, queuedNext, queue}
 use Rattle.table.specs.Format.{formatted, formatRefusal, formatBytes}
@@ -29,7 +30,7 @@ use Rattle.layout.specs.Fits.{Range}
 use Rattle.layout.proofs.TestLaws.{and-yes}
 use Rattle.table.proofs.WalkLaws.{reached, slotsMet, walk-end, go-on, chain-short, chain-none}
 use Rattle.table.proofs.LinkLaws.{chain-within}
-use Rattle.table.proofs.CheckLaws.{length-meets}
+use Rattle.table.proofs.LinkedLaws.{length-meets}
 use Rattle.table.proofs.FillLaws.{length-queue, getD-queue, next-queued, none-queued, reserve-fits}
 use Rattle.table.proofs.FormatLaws.{format-passes}
 use Rattle.table.proofs.ReserveLaws.{lack-in}

@@ -3,6 +3,7 @@ pub mod WalkLaws
 pub mod WalkedLaws
 pub mod TurnLaws
 pub mod HeldLaws
+pub mod LinkedLaws
 pub mod CheckLaws
 pub mod SumLaws
 pub mod FillLaws
@@ -10,6 +11,11 @@ pub mod FormatLaws
 pub mod LinkLaws
 pub mod ReserveLaws
 pub mod ConditionLaws
+pub mod ConditionLaws01
 pub mod WholeLaws
+pub mod HeaderLaws01
+pub mod CheckLaws01
+pub mod CarryLaws
+pub mod CarryFillLaws
 pub mod FormattedLaws
 pub mod ScreenLaws

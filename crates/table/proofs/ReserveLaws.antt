@@ -1,15 +1,17 @@
 -- What logs lack of their reserves: all lack what the others lack and what one lacks; and on a whole table the free slots are no fewer.
 use Prim.Native.Nat.{ℕ, zero, suc, _+_, _-_, _≤_, _<_}
-use mathlib.Core.Path.{_≡_, refl, ap, _∙_}
+use mathlib.Core.Path.{_≡_, refl, ap, ap₂, _∙_}
 use mathlib.Core.Logic.{_≢_}
 use mathlib.Core.List.{List, [], _∷_}
-use mathlib.Core.Bool.{Bool, true, false, cond}
+use mathlib.Core.Bool.{Bool, true, false, cond, _&&_}
 use native.Mathlib.Omega.{arith}
-use borrow.Author.Tests.{eq-eqb, ne-eqb, leb-true, eqb-true, eqb-false}
+use borrow.Author.Tests.{eq-eqb, ne-eqb, le-leb, leb-true, eqb-true, eqb-false}
 use lib.Dec.{eqb, leb}
 use lib.ListN.{length}
 use Rattle.layout.specs.declared.Row.{Row}
 use Rattle.layout.specs.Image.{Slot, Image, rowAt}
+use Rattle.layout.specs.Fits.{Unreserved}
+use Rattle.octets.proofs.Tests.{and-true}
 use Rattle.layout.proofs.TestLaws.{and-split}
 use Rattle.table.specs.Free.{freeChain}
 use Rattle.table.specs.Reserve.{heldIn, lackIn, lackFrom, lackBut, lackAll}
@@ -54,6 +56,26 @@ module _ (slots : List Slot) where
       let n = lack-in g k r (λ x. omega arith) in
       let s = lack-with top g (suc k) i rs (omega arith) (omega arith) (omega arith) in
       omega arith
+
+  -- logs without reserves lack nothing
+  lack-none : (g k : ℕ) (rs : List Row) → ((i : ℕ) → rowAt rs i .reserve ≡ 0) → lackFrom slots g k rs ≡ 0
+  unfolding lackFrom
+  lack-none g k [] h = refl
+  lack-none g k (r ∷ rs) h = ap₂ _+_ (own (eqb k g)) (lack-none g (suc k) rs (λ i. h (suc i)))
+    where
+      own : (t : Bool) → cond t 0 (lackIn slots k r) ≡ 0
+      own true = refl
+      own false = omega (arith, h zero)
+
+pub lack-unreserved : (m : Image) → Unreserved m → lackAll m ≡ 0
+unfolding lackAll lackBut
+lack-unreserved m u = lack-none (m .slots) (length (m .rows)) 0 (m .rows) u
+
+-- so without reserves an image is whole that is linked
+pub unreserved-whole : (m : Image) → Unreserved m → wholeImage m ≡ linked m
+unfolding wholeImage
+unreserved-whole m u =
+    ap (λ (t : Bool). linked m && t) (le-leb (lackAll m) (length (freeChain m)) (omega (arith, lack-unreserved m u))) ∙ and-true (linked m)
 
 module _ (m : Image) (g : ℕ) (h : g < length (m .rows)) where
   -- all logs lack what the others lack, and what log g does

@@ -9,9 +9,8 @@ use borrow.Author.Tests.{eq-eqb, ne-eqb, le-leb, lt-leb}
 use lib.ListN.{length}
 use lib.Dec.{eqb, leb}
 use Rattle.layout.specs.Image.{Slot, slotAt}
-use Rattle.layout.specs.Layout.{readTable}
-use Rattle.layout.specs.Fits.{Counted}
-use Rattle.layout.proofs.TableLaws.{length-rows, length-slots}
+use Rattle.layout.specs.Layout.{cellsFrom}
+use Rattle.layout.proofs.CellLaws.{length-cells}
 use Rattle.table.specs.Chains.{walk, chain}
 use Rattle.layout.proofs.TestLaws.{and-yes, and-no}
 
@@ -107,14 +106,6 @@ pub chain-none : (slots : List Slot) (o s : ℕ) → s ≡ 0 → chain slots o s
 unfolding chain
 chain-none slots o s e = ap slotsMet (ap (walk slots o (length slots)) e ∙ walk-end slots o (length slots))
 
--- a table of k slots
-pub len : (b : List ℕ) (logs k : ℕ) → Counted b logs k → length (readTable b .slots) ≡ k
-len b logs k h = length-slots b ∙ sym (h .slots-are)
-
--- and before a walk, none of them met
-pub size : (b : List ℕ) (logs k : ℕ) → Counted b logs k → length (readTable b .slots) ≡ k - 0
-size b logs k h = omega (arith, len b logs k h)
-
--- a table of so many logs
-pub rows-len : (b : List ℕ) (logs k : ℕ) → Counted b logs k → length (readTable b .rows) ≡ logs
-rows-len b logs k h = length-rows b ∙ sym (h .logs-are)
+-- before a walk along k slots, none of them met
+pub none-met : (b : List ℕ) (start k : ℕ) → length (cellsFrom b start k) ≡ k - 0
+none-met b start k = omega (arith, length-cells b start k)

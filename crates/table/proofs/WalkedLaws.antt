@@ -10,13 +10,12 @@ use borrow.Author.Tests.{ne-eqb, le-leb, lt-leb}
 use lib.ListN.{length}
 use lib.Dec.{eqb, leb}
 use Rattle.layout.specs.declared.Row.{Row}
-use Rattle.layout.specs.Image.{Slot, Image, slotAt}
+use Rattle.layout.specs.Image.{Slot, slotAt}
 use Rattle.table.specs.declared.Walk.{Walk}
 use Rattle.table.specs.declared.Walk.the-variants.{Met, Broken}
 use Rattle.table.specs.Chains.{walk, reaches, chain, lastOf, positionsOf}
-use Rattle.table.specs.Free.{freeChain}
-use Rattle.table.specs.Walks.{walkOf, rowWalk, startedWalk}
-use Rattle.table.specs.WholeImage.{all, freeOk, fresh, risingFrom, started, rowOk}
+use Rattle.table.specs.Walks.{walkOf, freeWalk, rowWalk, startedWalk}
+use Rattle.table.specs.WholeImage.{all, fresh, risingFrom, started, rowOk}
 use Rattle.layout.specs.Tests.{blank}
 use Rattle.layout.proofs.TestLaws.{and-yes, and-no, and-not}
 use Rattle.table.proofs.FreshLaws.{fresh-empty}
@@ -63,16 +62,16 @@ module _ (slots : List Slot) where
   free-filled n last s none h = refl
   free-filled n last s (some c) h = ap (λ (b : Bool). onlyIf b (Met (n + suc (length c)) (lastOr s c))) (and-no (all (λ (s : ℕ). blank (slotAt slots s)) c) h)
 
-pub free-first : (m : Image) → walkOf (freeOk m) (freeChain m) ≡ freeRest (m .slots) 0 0 (walk (m .slots) 0 (length (m .slots)) (m .free))
-unfolding freeOk reaches chain lastOf
-free-first m = go (walk (m .slots) 0 (length (m .slots)) (m .free))
+pub free-first : (slots : List Slot) (s : ℕ) → freeWalk slots s ≡ freeRest slots 0 0 (walk slots 0 (length slots) s)
+unfolding reaches chain lastOf
+free-first slots s = go (walk slots 0 (length slots) s)
   where
-    go : (w : Option (List ℕ)) → walkOf (reached w && all (λ (s : ℕ). blank (slotAt (m .slots) s)) (slotsMet w)) (slotsMet w) ≡ freeRest (m .slots) 0 0 w
+    go : (w : Option (List ℕ)) → walkOf (reached w && all (λ (s : ℕ). blank (slotAt slots s)) (slotsMet w)) (slotsMet w) ≡ freeRest slots 0 0 w
     go none = refl
-    go (some []) = only-walk (all (λ (s : ℕ). blank (slotAt (m .slots) s)) []) []
+    go (some []) = only-walk (all (λ (s : ℕ). blank (slotAt slots s)) []) []
     go (some (x ∷ c)) =
-        only-walk (all (λ (s : ℕ). blank (slotAt (m .slots) s)) (x ∷ c)) (x ∷ c)
-        ∙ ap (λ (z : ℕ). onlyIf (all (λ (s : ℕ). blank (slotAt (m .slots) s)) (x ∷ c)) (Met (0 + suc (length c)) z)) (last-or x c)
+        only-walk (all (λ (s : ℕ). blank (slotAt slots s)) (x ∷ c)) (x ∷ c)
+        ∙ ap (λ (z : ℕ). onlyIf (all (λ (s : ℕ). blank (slotAt slots s)) (x ∷ c)) (Met (0 + suc (length c)) z)) (last-or x c)
 
 -- a log's chain: what is left to compute after n slots, the last of which is `last` at position `floor`
 module _ (slots : List Slot) (r : Row) where

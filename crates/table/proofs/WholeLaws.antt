@@ -9,7 +9,7 @@ use Rattle.octets.specs.Octets.{Bytes}
 use lib.Dec.{eqb}
 use lib.ListN.{length}
 use Rattle.layout.specs.Image.{Image}
-use Rattle.layout.specs.Layout.{Stock, stocked, logsOf, slotsOf, readTable, stockOf, writeWith}
+use Rattle.layout.specs.Layout.{Stock, stocked, rowOffset, logsOf, slotsOf, readTable, stockOf, writeWith}
 use Rattle.layout.specs.Fits.{Fits, StockFits, Formed}
 use Rattle.layout.proofs.TableLaws.{logs-written, slots-written, read-with, stock-with, formed-with, write-read as write-with}
 use Rattle.table.specs.declared.Check.the-variants as check
@@ -35,8 +35,8 @@ whole-range b e = whole-conditions b e .counts
 whole-parts : (b : List ℕ) → whole b ≡ true → (wholeImage (readTable b) ≡ true) × (stockFits b ≡ true)
 unfolding whole
 whole-parts b e =
-    let s = and-split (headerFits b && padsFit b (logsOf b) (slotsOf b) && wholeImage (readTable b)) (stockFits b) e in
-    (and-split (headerFits b && padsFit b (logsOf b) (slotsOf b)) (wholeImage (readTable b)) (s .0) .1, s .1)
+    let s = and-split (headerFits b && padsFit b && wholeImage (readTable b)) (stockFits b) e in
+    (and-split (headerFits b && padsFit b) (wholeImage (readTable b)) (s .0) .1, s .1)
 
 pub whole-image : (b : List ℕ) → whole b ≡ true → wholeImage (readTable b) ≡ true
 whole-image b e = whole-parts b e .0
@@ -82,7 +82,7 @@ formed-whole : (b : List ℕ) → Formed b → Range (logsOf b) (slotsOf b) → 
 unfolding whole stockFits
 formed-whole b f r k =
     and-true _ (and-yes _ (eq-eqb (stockOf b .count) (length (freeChain (readTable b))) (ap (λ (x : Stock). x .count) k)) ∙ eq-eqb (stockOf b .last) (joint (readTable b)) (ap (λ (x : Stock). x .last) k))
-    ∙ and-yes _ (and-yes _ (header-test b (constants-test b (f .marked) (f .zero)) r (f .sized)) ∙ pads-test b (logsOf b) (slotsOf b) (f .pads))
+    ∙ and-yes _ (and-yes _ (header-test b (constants-test b (f .marked) (f .zero)) r (f .sized)) ∙ pads-test b (rowOffset (logsOf b)) (slotsOf b) (f .pads))
   where
     and-true : (x : Bool) {y : Bool} → y ≡ true → x && y ≡ x
     and-true true e = e

@@ -1,9 +1,12 @@
+pub mod Carry
 pub mod Chains
 pub mod Conditions
+pub mod Conditions01
 pub mod Format
 pub mod Free
 pub mod Reserve
 pub mod Screen
 pub mod Walks
 pub mod Whole
+pub mod Whole01
 pub mod WholeImage

@@ -8,15 +8,20 @@ use Rattle.table.specs.declared.Walk.the-variants.{Met, Broken}
 use Rattle.table.specs.declared.Held.{Held}
 use Rattle.table.specs.declared.Held.the-variants as held
 use Rattle.layout.specs.declared.Row.{Row}
-use Rattle.layout.specs.Image.{Slot, Image}
+use Rattle.layout.specs.Image.{Slot, Image, slotAt}
+use Rattle.layout.specs.Tests.{blank}
 use Rattle.table.specs.Chains.{lastOf, reaches, chain, positionsOf}
 use Rattle.table.specs.Reserve.{lackBut, lackAll}
-use Rattle.table.specs.WholeImage.{rowOk, rowsOk, heldBy, started}
+use Rattle.table.specs.WholeImage.{all, rowOk, rowsOk, heldBy, started}
 
 -- one chain
 abbrev pub walkOf : Bool → List ℕ → Walk
 walkOf true c = Met (length c) (lastOf c)
 walkOf false c = Broken
+
+-- the free chain, from slot s on
+abbrev pub freeWalk : List Slot → ℕ → Walk
+freeWalk slots s = let c = chain slots 0 s in walkOf (reaches slots 0 s && all (λ (t : ℕ). blank (slotAt slots t)) c) c
 
 -- all logs' chains, what the logs lack of their reserves, and what all but one lack
 abbrev pub heldOf : Bool → List ℕ → ℕ → ℕ → Held

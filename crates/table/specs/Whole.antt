@@ -6,7 +6,7 @@ use mathlib.Core.Bool.{Bool, true, false, not, _&&_}
 use lib.ListN.{length}
 use lib.Dec.{eqb}
 use Rattle.refusal.specs.Order.{fault, firstFault}
-use Rattle.layout.specs.Layout.{logsOf, slotsOf, readTable, stockOf}
+use Rattle.layout.specs.Layout.{readTable, stockOf}
 use Rattle.layout.specs.Tests.{headerFits, padsFit}
 use Rattle.table.specs.declared.Check.{Check}
 use Rattle.table.specs.declared.Check.the-variants as variants
@@ -21,7 +21,7 @@ stockFits b = eqb (stockOf b .count) (length (freeChain (readTable b))) && eqb (
 
 -- "A table is whole if the length, constants and counts are as above, and: .. Anything else is torn."
 unfoldable pub whole : List ℕ → Bool
-whole b = headerFits b && padsFit b (logsOf b) (slotsOf b) && wholeImage (readTable b) && stockFits b
+whole b = headerFits b && padsFit b && wholeImage (readTable b) && stockFits b
 
 -- number 1: "table not whole"
 unfoldable pub wholeRefusal : List ℕ → Option ℕ

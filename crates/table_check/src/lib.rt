@@ -1,15 +1,17 @@
 // Whether a table is whole (document 01, "A table is whole if ..", the number and last free slot of requests [1] and [4], and the
 // reserves of request [5]).
-mod walks;
+pub mod walks;
 
 use crate::walks::free_walk;
 use crate::walks::held_walk;
+use layout::places::row_offset;
 use layout_header::count_of;
+use layout_header::free_of;
 use layout_header::header_fits;
 use layout_header::last_of;
 use layout_header::logs_of;
 use layout_header::slots_of;
-use layout_slots::pads_fit;
+use layout_slots::pads_from;
 use refusal::Outcome;
 use refusal::Refusal;
 use table::Check;
@@ -30,10 +32,12 @@ pub fn check(table: &[u8], log: u64) -> Check
     }
     let logs = logs_of(table);
     let slots = slots_of(table);
-    if !pads_fit(table, logs, slots) {
+    let start = row_offset(logs);
+    if !pads_from(table, start, slots) {
         return Check::Torn;
     }
-    let Walk::Met { count, last } = free_walk(table, logs, slots) else {
+    let first = free_of(table);
+    let Walk::Met { count, last } = free_walk(table, start, slots, first) else {
         return Check::Torn;
     };
     let Held::Slots { held, lack, others } = held_walk(table, logs, slots, log) else {

@@ -1,20 +1,20 @@
-// Chains of slots, each walked once, no further than the table has slots.
+// Chains of slots, each walked once, no further than the table has slots. The slots start at the given place, so that tables of
+// document 01's layout are walked by the same code.
 use layout::Row;
-use layout_header::free_of;
+use layout::places::row_offset;
 use layout_rows::row_at;
-use layout_slots::is_blank;
-use layout_slots::link_at;
+use layout_slots::blank_from;
+use layout_slots::link_from;
 use table::Held;
 use table::Walk;
 ghost use mathlib.Core.Path.{_≡_};
 ghost use mathlib.Core.Bool.{cond};
 ghost use Prim.Native.Nat.{_-_, _≤_, _<_};
 ghost use lib.Dec.{eqb};
-ghost use Rattle.layout.specs.Layout.{readTable};
-ghost use Rattle.layout.specs.Fits.{Counted};
-ghost use Rattle.table.specs.Free.{freeChain};
-ghost use Rattle.table.specs.Walks.{walkOf, heldWalk, rowWalk, startedWalk};
-ghost use Rattle.table.specs.WholeImage.{fresh, freeOk};
+ghost use Rattle.layout.specs.Layout.{cellsFrom, readTable};
+ghost use Rattle.layout.specs.Fits.{Counted, Slotted};
+ghost use Rattle.table.specs.Walks.{freeWalk, heldWalk, rowWalk, startedWalk};
+ghost use Rattle.table.specs.WholeImage.{fresh};
 
 // Whether a row is a fresh log's.
 fn is_fresh(row: Row) -> bool
@@ -32,12 +32,12 @@ fn is_fresh(row: Row) -> bool
     row.last == 0
 }
 
-// The free chain.
-pub fn free_walk(table: &[u8], logs: usize, slots: usize) -> Walk
-    requires { ⌜ Counted (now table) logs slots ⌝ }
-    ensures { λ r. ⌜ r ≡ walkOf (freeOk (readTable (now (table .entry)))) (freeChain (readTable (now (table .entry)))) ⌝ }
+// The free chain, from its first slot on.
+pub fn free_walk(table: &[u8], start: usize, slots: usize, first: usize) -> Walk
+    requires { ⌜ Slotted (now table) start slots ⌝ }
+    ensures { λ r. ⌜ r ≡ freeWalk (cellsFrom (now (table .entry)) start slots) first ⌝ }
 {
-    let mut s = free_of(table);
+    let mut s = first;
     let mut n = 0;
     let mut last = 0;
     while s != 0 {
@@ -47,11 +47,11 @@ pub fn free_walk(table: &[u8], logs: usize, slots: usize) -> Walk
         if slots < s {
             return Walk::Broken;
         }
-        let l = link_at(table, logs, slots, s);
+        let l = link_from(table, start, slots, s);
         if l.owner != 0 {
             return Walk::Broken;
         }
-        if !is_blank(table, logs, slots, s) {
+        if !blank_from(table, start, slots, s) {
             return Walk::Broken;
         }
         last = s;
@@ -62,11 +62,11 @@ pub fn free_walk(table: &[u8], logs: usize, slots: usize) -> Walk
 }
 
 // The chain of log g, whose row has 1 ≤ L ≤ H.
-pub fn log_walk(table: &[u8], logs: usize, slots: usize, g: usize, row: Row) -> Walk
-    requires { ⌜ Counted (now table) logs slots ⌝ }
+pub fn log_walk(table: &[u8], start: usize, slots: usize, g: usize, row: Row) -> Walk
+    requires { ⌜ Slotted (now table) start slots ⌝ }
     requires { ⌜ g < 16 ⌝ }
     requires { ⌜ (1 ≤ row .low) × (row .low ≤ row .high) ⌝ }
-    ensures { λ r. ⌜ r ≡ startedWalk (readTable (now (table .entry)) .slots) g row ⌝ }
+    ensures { λ r. ⌜ r ≡ startedWalk (cellsFrom (now (table .entry)) start slots) g row ⌝ }
 {
     let mut s = row.first;
     let mut n = 0;
@@ -79,7 +79,7 @@ pub fn log_walk(table: &[u8], logs: usize, slots: usize, g: usize, row: Row) -> 
         if slots < s {
             return Walk::Broken;
         }
-        let l = link_at(table, logs, slots, s);
+        let l = link_from(table, start, slots, s);
         if l.owner != g + 1 {
             return Walk::Broken;
         }
@@ -101,10 +101,10 @@ pub fn log_walk(table: &[u8], logs: usize, slots: usize, g: usize, row: Row) -> 
 }
 
 // The chain of log g, whose row is given.
-pub fn row_walk(table: &[u8], logs: usize, slots: usize, g: usize, row: Row) -> Walk
-    requires { ⌜ Counted (now table) logs slots ⌝ }
+pub fn row_walk(table: &[u8], start: usize, slots: usize, g: usize, row: Row) -> Walk
+    requires { ⌜ Slotted (now table) start slots ⌝ }
     requires { ⌜ g < 16 ⌝ }
-    ensures { λ r. ⌜ r ≡ rowWalk (readTable (now (table .entry)) .slots) g row ⌝ }
+    ensures { λ r. ⌜ r ≡ rowWalk (cellsFrom (now (table .entry)) start slots) g row ⌝ }
 {
     if is_fresh(row) {
         return Walk::Met { count: 0, last: 0 };
@@ -115,7 +115,7 @@ pub fn row_walk(table: &[u8], logs: usize, slots: usize, g: usize, row: Row) -> 
     if row.high < row.low {
         return Walk::Broken;
     }
-    log_walk(table, logs, slots, g, row)
+    log_walk(table, start, slots, g, row)
 }
 
 // What a log lacks of its reserve.
@@ -135,18 +135,19 @@ fn unless_own(g: usize, log: u64, lack: usize) -> usize
     lack
 }
 
-// The chains of all logs, with what they lack of their reserves, and what all but the given log lack.
+// The chains of all logs of a table, with what they lack of their reserves, and what all but the given log lack.
 pub fn held_walk(table: &[u8], logs: usize, slots: usize, log: u64) -> Held
     requires { ⌜ Counted (now table) logs slots ⌝ }
     ensures { λ r. ⌜ r ≡ heldWalk (readTable (now (table .entry))) log ⌝ }
 {
+    let start = row_offset(logs);
     let mut held = 0;
     let mut lack = 0;
     let mut others = 0;
     let mut g = 0;
     while g < logs {
         let row = row_at(table, logs, slots, g);
-        let Walk::Met { count, last: _ } = row_walk(table, logs, slots, g, row) else {
+        let Walk::Met { count, last: _ } = row_walk(table, start, slots, g, row) else {
             return Held::Broken;
         };
         let short = lacking(row.reserve, count);
