@@ -247,8 +247,8 @@ static inline int all_zero(const uint8_t *p, size_t words)
 /* The walks give how many slots a chain has, or this. */
 static const uint32_t no_chain = UINT32_MAX;
 
-/* The free chain from slot i on, and its last slot, 0 if it has none. Slot i stands at base + 76 i. A chain that goes on for more
- * than S slots has a loop. */
+/* The free chain from slot i on, and its last slot, 0 if it has none. Slot 1 stands at base. A chain that goes on for more than
+ * S slots has a loop. */
 static inline uint32_t walk_free(const uint8_t *base, uint32_t slots, uint32_t i, uint32_t *last)
 {
     uint32_t count = 0;
@@ -256,7 +256,7 @@ static inline uint32_t walk_free(const uint8_t *base, uint32_t slots, uint32_t i
     while (i != 0) {
         if (i > slots || ++count > slots)
             return no_chain;
-        const uint8_t *s = base + SLOT * (size_t)i;
+        const uint8_t *s = base + SLOT * ((size_t)i - 1);
         if (s[S_OWNER] != 0 || s[S_ZERO] != 0 || !all_zero(s + S_POSITION, 9))
             return no_chain;
         *last = i;
@@ -278,7 +278,7 @@ static inline uint32_t walk_log(const uint8_t *base, uint32_t slots, uint32_t g,
     do {
         if (i > slots)
             return no_chain;
-        const uint8_t *s = base + SLOT * (size_t)i;
+        const uint8_t *s = base + SLOT * ((size_t)i - 1);
         uint64_t position = get64(s + S_POSITION);
         if (s[S_OWNER] != g + 1 || s[S_ZERO] != 0 || position <= above)
             return no_chain;
@@ -305,7 +305,7 @@ static inline uint32_t whole(const uint8_t *t, size_t bytes, tally *seen)
     uint32_t logs = t[H_LOGS], slots = get16(t + H_SLOTS);
     if (logs < 1 || logs > MAX_LOGS || slots < 1 || slots > MAX_SLOTS || bytes != KEEPER_TABLE_BYTES(logs, slots))
         return 0;
-    const uint8_t *base = t + HEADER + ROW * logs - SLOT;
+    const uint8_t *base = t + HEADER + ROW * logs;
 
     uint32_t last, free = walk_free(base, slots, get16(t + H_FREE), &last);
     if (free == no_chain || free != get16(t + H_COUNT) || last != get16(t + H_FREE_LAST))
@@ -392,10 +392,10 @@ static uint32_t whole_01(const uint8_t *t, size_t bytes, uint32_t *free, uint32_
     if (bytes < HEADER_01 || memcmp(t, mark_01, 4) != 0 || t[H_ZERO] != 0 || get16(t + H_COUNT) != 0)
         return 0;
     uint32_t logs = t[H_LOGS], slots = get16(t + H_SLOTS);
-    size_t rows = HEADER_01 + ROW_01 * (size_t)logs;
-    if (logs < 1 || logs > MAX_LOGS || slots < 1 || slots > MAX_SLOTS || bytes != rows + SLOT * (size_t)slots)
+    size_t first = HEADER_01 + ROW_01 * (size_t)logs; /* where the slots start */
+    if (logs < 1 || logs > MAX_LOGS || slots < 1 || slots > MAX_SLOTS || bytes != first + SLOT * (size_t)slots)
         return 0;
-    const uint8_t *base = t + rows - SLOT;
+    const uint8_t *base = t + first;
     uint32_t count = *free = walk_free(base, slots, get16(t + H_FREE), last);
     if (count == no_chain)
         return 0;
