@@ -9,8 +9,7 @@ use lib.ListN.{getD}
 use borrow.Author.Tests.{ne-eqb}
 use Rattle.refusal.specs.Answer.{Answer, answer}
 use Rattle.refusal.specs.Number.{numberOf}
-use Rattle.refusal.specs.declared.Refusal.{Refusal}
-use Rattle.refusal.specs.declared.Refusal.the-variants.{Torn, NoLog, Position, Spent, Full, Length, Counts, NoReceipt, Tag, OtherQuestion, Roster, TooFew, NoRun, Line, Promised, Profile}
+use Rattle.refusal.proofs.NumberLaws.{numberOf-positive}
 use Rattle.receipt.specs.Verdict.{verdictAnswer}
 use Rattle.receipt.specs.declared.Verdict.{Verdict}
 use Rattle.receipt.specs.declared.Verdict.the-variants as verdict
@@ -21,25 +20,6 @@ use Rattle.sentence.specs.Text.{numbersIn}
 use Rattle.sentence.specs.Words.{Subject, receipt, certificate}
 use Rattle.sentence.specs.Sentence.{Said, accepted, certified, refused, receiptSaid, stationSaid, membersBelow, sentenceOf, numbersSaid, Fits}
 use Rattle.sentence.proofs.Distinct.{initial, initial-is, sentence-numbers, sentence-injective}
-
--- a refusal's number is not 0, and it is a byte
-pub refusal-number : (why : Refusal) → (0 < numberOf why) × (numberOf why < 256)
-refusal-number Torn = (omega arith, omega arith)
-refusal-number NoLog = (omega arith, omega arith)
-refusal-number Position = (omega arith, omega arith)
-refusal-number Spent = (omega arith, omega arith)
-refusal-number Full = (omega arith, omega arith)
-refusal-number Length = (omega arith, omega arith)
-refusal-number Counts = (omega arith, omega arith)
-refusal-number NoReceipt = (omega arith, omega arith)
-refusal-number Tag = (omega arith, omega arith)
-refusal-number OtherQuestion = (omega arith, omega arith)
-refusal-number Roster = (omega arith, omega arith)
-refusal-number TooFew = (omega arith, omega arith)
-refusal-number NoRun = (omega arith, omega arith)
-refusal-number Line = (omega arith, omega arith)
-refusal-number Promised = (omega arith, omega arith)
-refusal-number Profile = (omega arith, omega arith)
 
 not-zero : (n : ℕ) → 0 < n → eqb n 0 ≡ false
 not-zero n h = ne-eqb n 0 (λ e. omega arith)
@@ -67,12 +47,12 @@ spoken (refused s n) = n ∷ []
 verdict-spoken : (v : Verdict) → spoken (receiptSaid (verdictAnswer v)) ≡ numbersOfAnswer (verdictAnswer v)
 unfolding spoken
 verdict-spoken (verdict.Accepted keeper log position kind reference blocks) = refl
-verdict-spoken (verdict.Refused why blocks) = ap spoken (receipt-refused (numberOf why) [] (refusal-number why .0))
+verdict-spoken (verdict.Refused why blocks) = ap spoken (receipt-refused (numberOf why) [] (numberOf-positive why))
 
 station-spoken : (s : Station) → spoken (stationSaid (stationAnswer s)) ≡ numbersOfAnswer (stationAnswer s)
 unfolding spoken
 station-spoken (station.Certified place mask blocks) = refl
-station-spoken (station.Refused why blocks) = ap spoken (station-refused (numberOf why) [] (refusal-number why .0))
+station-spoken (station.Refused why blocks) = ap spoken (station-refused (numberOf why) [] (numberOf-positive why))
 
 -- the sentence of a receipt's verdict shows its number and its values, in order, and nothing else
 pub receipt-numbers : (v : Verdict) → Fits (receiptSaid (verdictAnswer v)) → numbersIn (sentenceOf (receiptSaid (verdictAnswer v))) ≡ verdictAnswer v .number ∷ verdictAnswer v .values
@@ -80,7 +60,7 @@ receipt-numbers v f = sentence-numbers (receiptSaid (verdictAnswer v)) f ∙ go 
   where
     go : (v : Verdict) → numbersSaid (receiptSaid (verdictAnswer v)) ≡ verdictAnswer v .number ∷ verdictAnswer v .values
     go (verdict.Accepted keeper log position kind reference blocks) = refl
-    go (verdict.Refused why blocks) = ap numbersSaid (receipt-refused (numberOf why) [] (refusal-number why .0))
+    go (verdict.Refused why blocks) = ap numbersSaid (receipt-refused (numberOf why) [] (numberOf-positive why))
 
 -- the values of a certificate's verdict with the mask as its members
 abbrev pub withMembers : Station → List ℕ
@@ -92,7 +72,7 @@ station-numbers s f = sentence-numbers (stationSaid (stationAnswer s)) f ∙ go 
   where
     go : (s : Station) → numbersSaid (stationSaid (stationAnswer s)) ≡ stationAnswer s .number ∷ withMembers s
     go (station.Certified place mask blocks) = refl
-    go (station.Refused why blocks) = ap numbersSaid (station-refused (numberOf why) [] (refusal-number why .0))
+    go (station.Refused why blocks) = ap numbersSaid (station-refused (numberOf why) [] (numberOf-positive why))
 
 -- ---- no two verdicts that differ
 
@@ -126,8 +106,8 @@ subjects-differ v s e =
   where
     of-receipt : (v : Verdict) → initial (receiptSaid (verdictAnswer v)) ≡ 114
     of-receipt (verdict.Accepted keeper log position kind reference blocks) = refl
-    of-receipt (verdict.Refused why blocks) = ap initial (receipt-refused (numberOf why) [] (refusal-number why .0))
+    of-receipt (verdict.Refused why blocks) = ap initial (receipt-refused (numberOf why) [] (numberOf-positive why))
 
     of-station : (s : Station) → initial (stationSaid (stationAnswer s)) ≡ 99
     of-station (station.Certified place mask blocks) = refl
-    of-station (station.Refused why blocks) = ap initial (station-refused (numberOf why) [] (refusal-number why .0))
+    of-station (station.Refused why blocks) = ap initial (station-refused (numberOf why) [] (numberOf-positive why))

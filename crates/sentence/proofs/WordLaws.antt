@@ -45,6 +45,9 @@ refusals-short = refl
 pub kind-short : (kind : ℕ) → Short 10 (wordAt kindWords kind)
 kind-short kind = word-at 10 kindWords kinds-short kind
 
+pub refusal-short : (n : ℕ) → Short 47 (wordAt refusalWords n)
+refusal-short n = word-at 47 refusalWords refusals-short n
+
 -- each meaning
 unfoldable allMean : List Meaning → Bool
 allMean [] = true
@@ -52,7 +55,7 @@ allMean (m ∷ ms) = short 47 (m .words) && allMean ms
 
 meaning-in : (ms : List Meaning) → allMean ms ≡ true → (n : ℕ) → Short 47 (meaningIn ms n)
 unfolding allMean meaningIn
-meaning-in [] h n = word-at 47 refusalWords refusals-short n
+meaning-in [] h n = refusal-short n
 meaning-in (m ∷ ms) h n = go (eqb n (m .number)) (meaning-in ms (and-right (short 47 (m .words)) (allMean ms) h) n)
   where
     go : (t : Bool) → Short 47 (meaningIn ms n) → Short 47 (cond t (m .words) (meaningIn ms n))

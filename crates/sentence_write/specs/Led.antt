@@ -1,7 +1,7 @@
 -- The member list as a loop writes it: each member with what leads to it. proofs/LedLaws shows that it is `agreed`.
 use Prim.Native.Nat.{ℕ, zero, suc, _/_, _%_, _^_}
 use Prim.Native.String.{String}
-use mathlib.Core.Bool.{Bool, cond}
+use mathlib.Core.Bool.{cond}
 use mathlib.Core.List.{List, [], _∷_, _++_}
 use lib.Dec.{eqb}
 use Rattle.decimal.specs.Decimal.{decimalOf}
@@ -9,9 +9,9 @@ use Rattle.sentence.specs.Text.{ascii, Piece, words, number, textOf}
 use Rattle.sentence.specs.Words.{wordAt, kindWords}
 use Rattle.sentence.specs.Sentence.{membersBelow}
 
--- whether bit i of a mask is set
-unfoldable pub bit : ℕ → ℕ → Bool
-bit mask i = eqb (mask / 2 ^ i % 2) 1
+-- bit i of a mask
+unfoldable pub bit : ℕ → ℕ → ℕ
+bit mask i = mask / 2 ^ i % 2
 
 -- what stands before a member: k members stand before it, and there are `all`
 unfoldable pub lead : ℕ → ℕ → String
@@ -22,9 +22,9 @@ unfoldable pub led : ℕ → ℕ → List ℕ → List Piece
 led all k [] = []
 led all k (n ∷ ns) = words (lead all k) ∷ number n ∷ led all (suc k) ns
 
--- a member and what leads to it
-unfoldable pub memberText : ℕ → ℕ → ℕ → List ℕ
-memberText all k n = ascii (lead all k) ++ decimalOf n
+-- member i and what leads to it, where its bit is set
+unfoldable pub memberText : ℕ → ℕ → ℕ → ℕ → List ℕ
+memberText all k mask i = cond (eqb (mask / 2 ^ i % 2) 1) (ascii (lead all k) ++ decimalOf i) []
 
 -- the members below i
 unfoldable pub listText : ℕ → ℕ → ℕ → List ℕ

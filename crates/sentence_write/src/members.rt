@@ -9,12 +9,12 @@ ghost use Rattle.sentence_write.specs.Led.{bit, memberText};
 use super::pieces::put_number;
 use super::pieces::put_words;
 
-// Whether a member's bit is set.
-fn is_member(mask: u32, i: u32) -> bool
+// Bit i of a mask.
+fn bit_of(mask: u32, i: u32) -> u32
     requires { ⌜ i < 32 ⌝ }
-    ensures { λ r. ⌜ r ≡ bit mask i ⌝ }
+    ensures { λ r. ⌜ (r ≡ bit mask i) × (r < 2) ⌝ }
 {
-    (mask >> i) & 1 == 1
+    (mask >> i) & 1
 }
 
 // How many members there are.
@@ -24,27 +24,28 @@ fn count(mask: u32) -> u32
     let mut n: u32 = 0;
     let mut i: u32 = 0;
     while i < 32 {
-        if is_member(mask, i) {
-            n += 1;
-        }
+        n += bit_of(mask, i);
         i += 1;
     }
     n
 }
 
-// A member and what leads to it: `before` members stand before it, and there are `all`.
-fn put_member(out: &mut [u8], at: usize, all: u32, before: u32, i: u64) -> usize
-    requires { ⌜ at + 40 ≤ length (now out) ⌝ }
-    ensures { λ r. ⌜ r ≡ at + length (memberText all before i) ⌝ }
-    ensures { λ _. ⌜ now (out .exit) ≡ splice (now (out .entry)) at (memberText all before i) ⌝ }
+// Member i and what leads to it, if it is one: `before` members stand before it, and there are `all`.
+fn put_member(out: &mut [u8], at: usize, mask: u32, i: u32, all: u32, before: u32) -> usize
+    requires { ⌜ (at + 40 ≤ length (now out)) × (i < 32) ⌝ }
+    ensures { λ r. ⌜ r ≡ at + length (memberText all before mask i) ⌝ }
+    ensures { λ _. ⌜ now (out .exit) ≡ splice (now (out .entry)) at (memberText all before mask i) ⌝ }
 {
+    if bit_of(mask, i) == 0 {
+        return at;
+    }
     if before != 0 {
-        return put_number(out, at, b", ", i);
+        return put_number(out, at, b", ", i as u64);
     }
     if all == 1 {
-        return put_number(out, at, b", agreed by member ", i);
+        return put_number(out, at, b", agreed by member ", i as u64);
     }
-    put_number(out, at, b", agreed by members ", i)
+    put_number(out, at, b", agreed by members ", i as u64)
 }
 
 // The member list.
@@ -61,10 +62,8 @@ pub fn put_members(out: &mut [u8], at: usize, mask: u32) -> usize
     let mut before: u32 = 0;
     let mut i: u32 = 0;
     while i < 32 {
-        if is_member(mask, i) {
-            to = put_member(out, to, all, before, i as u64);
-            before += 1;
-        }
+        to = put_member(out, to, mask, i, all, before);
+        before += bit_of(mask, i);
         i += 1;
     }
     to

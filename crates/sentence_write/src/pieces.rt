@@ -56,8 +56,8 @@ pub fn put_kind(out: &mut [u8], at: usize, kind: u64) -> usize
 
 // The papers' word for a number returned.
 fn put_word(out: &mut [u8], at: usize, number: u8) -> usize
-    requires { ⌜ at + 14 ≤ length (now out) ⌝ }
-    ensures { λ r. ⌜ (r ≡ at + length (ascii (wordAt refusalWords number))) × (r ≤ at + 14) ⌝ }
+    requires { ⌜ at + 47 ≤ length (now out) ⌝ }
+    ensures { λ r. ⌜ (r ≡ at + length (ascii (wordAt refusalWords number))) × (r ≤ at + 47) ⌝ }
     ensures { λ _. ⌜ now (out .exit) ≡ splice (now (out .entry)) at (ascii (wordAt refusalWords number)) ⌝ }
 {
     match number {

@@ -1,3 +1,6 @@
+use Rattle.sentence.specs.Text.{ascii}
+use Rattle.sentence.specs.Words.{certificate, meanings, meaningIn}
+use Rattle.sentence_write.proofs.PieceLaws.{reason-told, certificate-other}
 use borrow.Author.Needs.{needs}
 use Rattle.sentence_write.proofs.pieces.put_certificate_reason.Statement.{statement}
 use Rattle.sentence_write.proofs.pieces.put_certificate_reason.Tie as tie
@@ -56,7 +59,8 @@ same-length c = search needs
 
 -- src/pieces.rt:102:1
 returns : tie.Need-returns
-returns c = ?
+unfolding meanings meaningIn ascii
+returns c = reason-told (c .before .before .before .before .before .before .before .args .out .now) (c .before .before .before .before .before .before .before .args .at) (c .before .before .before .before .before .before .before .args .number) certificate 7 (c .before .before .before .before .before .match .keys1) (c .before .before .put-words .ensures)
 
 -- src/pieces.rt:102:1
 same-length-2 : tie.Need-same-length-2
@@ -64,7 +68,8 @@ same-length-2 c = search needs
 
 -- src/pieces.rt:102:1
 returns-2 : tie.Need-returns-2
-returns-2 c = ?
+unfolding meanings meaningIn ascii
+returns-2 c = reason-told (c .before .before .before .before .before .before .before .args .out .now) (c .before .before .before .before .before .before .before .args .at) (c .before .before .before .before .before .before .before .args .number) certificate 17 (c .before .before .before .before .before .match .keys2) (c .before .before .put-words2 .ensures)
 
 -- src/pieces.rt:102:1
 same-length-3 : tie.Need-same-length-3
@@ -72,7 +77,8 @@ same-length-3 c = search needs
 
 -- src/pieces.rt:102:1
 returns-3 : tie.Need-returns-3
-returns-3 c = ?
+unfolding meanings meaningIn ascii
+returns-3 c = reason-told (c .before .before .before .before .before .before .before .args .out .now) (c .before .before .before .before .before .before .before .args .at) (c .before .before .before .before .before .before .before .args .number) certificate 12 (c .before .before .before .before .before .match .keys3) (c .before .before .put-words3 .ensures)
 
 -- src/pieces.rt:102:1
 same-length-4 : tie.Need-same-length-4
@@ -80,7 +86,8 @@ same-length-4 c = search needs
 
 -- src/pieces.rt:102:1
 returns-4 : tie.Need-returns-4
-returns-4 c = ?
+unfolding meanings meaningIn ascii
+returns-4 c = reason-told (c .before .before .before .before .before .before .before .args .out .now) (c .before .before .before .before .before .before .before .args .at) (c .before .before .before .before .before .before .before .args .number) certificate 9 (c .before .before .before .before .before .match .keys4) (c .before .before .put-words4 .ensures)
 
 -- src/pieces.rt:102:1
 same-length-5 : tie.Need-same-length-5
@@ -88,7 +95,8 @@ same-length-5 c = search needs
 
 -- src/pieces.rt:102:1
 returns-5 : tie.Need-returns-5
-returns-5 c = ?
+unfolding meanings meaningIn ascii
+returns-5 c = reason-told (c .before .before .before .before .before .before .before .args .out .now) (c .before .before .before .before .before .before .before .args .at) (c .before .before .before .before .before .before .before .args .number) certificate 13 (c .before .before .before .before .before .match .keys5) (c .before .before .put-words5 .ensures)
 
 -- src/pieces.rt:102:1
 same-length-6 : tie.Need-same-length-6
@@ -96,7 +104,7 @@ same-length-6 c = search needs
 
 -- src/pieces.rt:102:1
 returns-6 : tie.Need-returns-6
-returns-6 c = ?
+returns-6 c = certificate-other (c .before .before .before .before .before .before .args .out .now) (c .before .before .before .before .before .before .args .at) (c .before .before .before .before .before .before .args .number) (c .before .before .before .before .match .rest) (c .before .before .put-word .ensures)
 
 pub put-certificate-reason-spec : {M : Type 1} → statement M
 put-certificate-reason-spec =

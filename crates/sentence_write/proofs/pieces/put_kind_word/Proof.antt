@@ -1,3 +1,6 @@
+use Rattle.sentence.specs.Words.{kindWords, refusalWords}
+use Rattle.sentence.specs.Text.{ascii}
+use Rattle.sentence_write.proofs.PieceLaws.{kind-told, kind-unknown}
 use borrow.Author.Needs.{needs}
 use Rattle.sentence_write.proofs.pieces.put_kind_word.Statement.{statement}
 use Rattle.sentence_write.proofs.pieces.put_kind_word.Tie as tie
@@ -51,7 +54,8 @@ same-length c = search needs
 
 -- src/pieces.rt:32:1
 returns : tie.Need-returns
-returns c = ?
+unfolding kindWords ascii
+returns c = kind-told (c .before .before .before .before .before .before .before .args .out .now) (c .before .before .before .before .before .before .before .args .at) (c .before .before .before .before .before .before .before .args .kind) 0 (c .before .before .before .before .before .match .keys1) (c .before .before .put-words .ensures)
 
 -- src/pieces.rt:32:1
 same-length-2 : tie.Need-same-length-2
@@ -59,7 +63,8 @@ same-length-2 c = search needs
 
 -- src/pieces.rt:32:1
 returns-2 : tie.Need-returns-2
-returns-2 c = ?
+unfolding kindWords ascii
+returns-2 c = kind-told (c .before .before .before .before .before .before .before .args .out .now) (c .before .before .before .before .before .before .before .args .at) (c .before .before .before .before .before .before .before .args .kind) 1 (c .before .before .before .before .before .match .keys2) (c .before .before .put-words2 .ensures)
 
 -- src/pieces.rt:32:1
 same-length-3 : tie.Need-same-length-3
@@ -67,7 +72,8 @@ same-length-3 c = search needs
 
 -- src/pieces.rt:32:1
 returns-3 : tie.Need-returns-3
-returns-3 c = ?
+unfolding kindWords ascii
+returns-3 c = kind-told (c .before .before .before .before .before .before .before .args .out .now) (c .before .before .before .before .before .before .before .args .at) (c .before .before .before .before .before .before .before .args .kind) 2 (c .before .before .before .before .before .match .keys3) (c .before .before .put-words3 .ensures)
 
 -- src/pieces.rt:32:1
 same-length-4 : tie.Need-same-length-4
@@ -75,7 +81,8 @@ same-length-4 c = search needs
 
 -- src/pieces.rt:32:1
 returns-4 : tie.Need-returns-4
-returns-4 c = ?
+unfolding kindWords ascii
+returns-4 c = kind-told (c .before .before .before .before .before .before .before .args .out .now) (c .before .before .before .before .before .before .before .args .at) (c .before .before .before .before .before .before .before .args .kind) 3 (c .before .before .before .before .before .match .keys4) (c .before .before .put-words4 .ensures)
 
 -- src/pieces.rt:32:1
 same-length-5 : tie.Need-same-length-5
@@ -83,7 +90,8 @@ same-length-5 c = search needs
 
 -- src/pieces.rt:32:1
 returns-5 : tie.Need-returns-5
-returns-5 c = ?
+unfolding ascii
+returns-5 c = kind-unknown (c .before .before .before .before .before .before .before .args .out .now) (c .before .before .before .before .before .before .before .args .at) (c .before .before .before .before .before .before .before .args .kind) (c .before .before .before .before .before .match .rest) (c .before .before .put-words5 .ensures)
 
 pub put-kind-word-spec : {M : Type 1} → statement M
 put-kind-word-spec =

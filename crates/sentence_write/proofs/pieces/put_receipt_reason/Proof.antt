@@ -1,3 +1,6 @@
+use Rattle.sentence.specs.Text.{ascii}
+use Rattle.sentence.specs.Words.{receipt, meanings, meaningIn}
+use Rattle.sentence_write.proofs.PieceLaws.{reason-told, receipt-other}
 use borrow.Author.Needs.{needs}
 use Rattle.sentence_write.proofs.pieces.put_receipt_reason.Statement.{statement}
 use Rattle.sentence_write.proofs.pieces.put_receipt_reason.Tie as tie
@@ -48,7 +51,8 @@ same-length c = search needs
 
 -- src/pieces.rt:87:1
 returns : tie.Need-returns
-returns c = ?
+unfolding meanings meaningIn ascii
+returns c = reason-told (c .before .before .before .before .before .before .before .args .out .now) (c .before .before .before .before .before .before .before .args .at) (c .before .before .before .before .before .before .before .args .number) receipt 7 (c .before .before .before .before .before .match .keys1) (c .before .before .put-words .ensures)
 
 -- src/pieces.rt:87:1
 same-length-2 : tie.Need-same-length-2
@@ -56,7 +60,8 @@ same-length-2 c = search needs
 
 -- src/pieces.rt:87:1
 returns-2 : tie.Need-returns-2
-returns-2 c = ?
+unfolding meanings meaningIn ascii
+returns-2 c = reason-told (c .before .before .before .before .before .before .before .args .out .now) (c .before .before .before .before .before .before .before .args .at) (c .before .before .before .before .before .before .before .args .number) receipt 9 (c .before .before .before .before .before .match .keys2) (c .before .before .put-words2 .ensures)
 
 -- src/pieces.rt:87:1
 same-length-3 : tie.Need-same-length-3
@@ -64,7 +69,8 @@ same-length-3 c = search needs
 
 -- src/pieces.rt:87:1
 returns-3 : tie.Need-returns-3
-returns-3 c = ?
+unfolding meanings meaningIn ascii
+returns-3 c = reason-told (c .before .before .before .before .before .before .before .args .out .now) (c .before .before .before .before .before .before .before .args .at) (c .before .before .before .before .before .before .before .args .number) receipt 10 (c .before .before .before .before .before .match .keys3) (c .before .before .put-words3 .ensures)
 
 -- src/pieces.rt:87:1
 same-length-4 : tie.Need-same-length-4
@@ -72,7 +78,8 @@ same-length-4 c = search needs
 
 -- src/pieces.rt:87:1
 returns-4 : tie.Need-returns-4
-returns-4 c = ?
+unfolding meanings meaningIn ascii
+returns-4 c = reason-told (c .before .before .before .before .before .before .before .args .out .now) (c .before .before .before .before .before .before .before .args .at) (c .before .before .before .before .before .before .before .args .number) receipt 11 (c .before .before .before .before .before .match .keys4) (c .before .before .put-words4 .ensures)
 
 -- src/pieces.rt:87:1
 same-length-5 : tie.Need-same-length-5
@@ -80,7 +87,7 @@ same-length-5 c = search needs
 
 -- src/pieces.rt:87:1
 returns-5 : tie.Need-returns-5
-returns-5 c = ?
+returns-5 c = receipt-other (c .before .before .before .before .before .before .args .out .now) (c .before .before .before .before .before .before .args .at) (c .before .before .before .before .before .before .args .number) (c .before .before .before .before .match .rest) (c .before .before .put-word .ensures)
 
 pub put-receipt-reason-spec : {M : Type 1} → statement M
 put-receipt-reason-spec =

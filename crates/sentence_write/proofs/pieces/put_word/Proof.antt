@@ -1,3 +1,6 @@
+use Rattle.sentence.specs.Words.{kindWords, refusalWords}
+use Rattle.sentence.specs.Text.{ascii}
+use Rattle.sentence_write.proofs.PieceLaws.{word-told, word-unknown}
 use borrow.Author.Needs.{needs}
 use Rattle.sentence_write.proofs.pieces.put_word.Statement.{statement}
 use Rattle.sentence_write.proofs.pieces.put_word.Tie as tie
@@ -163,7 +166,8 @@ same-length c = search needs
 
 -- src/pieces.rt:58:1
 returns : tie.Need-returns
-returns c = ?
+unfolding refusalWords ascii
+returns c = word-told (c .before .before .before .before .before .before .before .args .out .now) (c .before .before .before .before .before .before .before .args .at) (c .before .before .before .before .before .before .before .args .number) 1 (c .before .before .before .before .before .match .keys1) (c .before .before .put-words .ensures)
 
 -- src/pieces.rt:58:1
 same-length-2 : tie.Need-same-length-2
@@ -171,7 +175,8 @@ same-length-2 c = search needs
 
 -- src/pieces.rt:58:1
 returns-2 : tie.Need-returns-2
-returns-2 c = ?
+unfolding refusalWords ascii
+returns-2 c = word-told (c .before .before .before .before .before .before .before .args .out .now) (c .before .before .before .before .before .before .before .args .at) (c .before .before .before .before .before .before .before .args .number) 2 (c .before .before .before .before .before .match .keys2) (c .before .before .put-words2 .ensures)
 
 -- src/pieces.rt:58:1
 same-length-3 : tie.Need-same-length-3
@@ -179,7 +184,8 @@ same-length-3 c = search needs
 
 -- src/pieces.rt:58:1
 returns-3 : tie.Need-returns-3
-returns-3 c = ?
+unfolding refusalWords ascii
+returns-3 c = word-told (c .before .before .before .before .before .before .before .args .out .now) (c .before .before .before .before .before .before .before .args .at) (c .before .before .before .before .before .before .before .args .number) 3 (c .before .before .before .before .before .match .keys3) (c .before .before .put-words3 .ensures)
 
 -- src/pieces.rt:58:1
 same-length-4 : tie.Need-same-length-4
@@ -187,7 +193,8 @@ same-length-4 c = search needs
 
 -- src/pieces.rt:58:1
 returns-4 : tie.Need-returns-4
-returns-4 c = ?
+unfolding refusalWords ascii
+returns-4 c = word-told (c .before .before .before .before .before .before .before .args .out .now) (c .before .before .before .before .before .before .before .args .at) (c .before .before .before .before .before .before .before .args .number) 4 (c .before .before .before .before .before .match .keys4) (c .before .before .put-words4 .ensures)
 
 -- src/pieces.rt:58:1
 same-length-5 : tie.Need-same-length-5
@@ -195,7 +202,8 @@ same-length-5 c = search needs
 
 -- src/pieces.rt:58:1
 returns-5 : tie.Need-returns-5
-returns-5 c = ?
+unfolding refusalWords ascii
+returns-5 c = word-told (c .before .before .before .before .before .before .before .args .out .now) (c .before .before .before .before .before .before .before .args .at) (c .before .before .before .before .before .before .before .args .number) 5 (c .before .before .before .before .before .match .keys5) (c .before .before .put-words5 .ensures)
 
 -- src/pieces.rt:58:1
 same-length-6 : tie.Need-same-length-6
@@ -203,7 +211,8 @@ same-length-6 c = search needs
 
 -- src/pieces.rt:58:1
 returns-6 : tie.Need-returns-6
-returns-6 c = ?
+unfolding refusalWords ascii
+returns-6 c = word-told (c .before .before .before .before .before .before .before .args .out .now) (c .before .before .before .before .before .before .before .args .at) (c .before .before .before .before .before .before .before .args .number) 7 (c .before .before .before .before .before .match .keys6) (c .before .before .put-words6 .ensures)
 
 -- src/pieces.rt:58:1
 same-length-7 : tie.Need-same-length-7
@@ -211,7 +220,8 @@ same-length-7 c = search needs
 
 -- src/pieces.rt:58:1
 returns-7 : tie.Need-returns-7
-returns-7 c = ?
+unfolding refusalWords ascii
+returns-7 c = word-told (c .before .before .before .before .before .before .before .args .out .now) (c .before .before .before .before .before .before .before .args .at) (c .before .before .before .before .before .before .before .args .number) 8 (c .before .before .before .before .before .match .keys7) (c .before .before .put-words7 .ensures)
 
 -- src/pieces.rt:58:1
 same-length-8 : tie.Need-same-length-8
@@ -219,7 +229,8 @@ same-length-8 c = search needs
 
 -- src/pieces.rt:58:1
 returns-8 : tie.Need-returns-8
-returns-8 c = ?
+unfolding refusalWords ascii
+returns-8 c = word-told (c .before .before .before .before .before .before .before .args .out .now) (c .before .before .before .before .before .before .before .args .at) (c .before .before .before .before .before .before .before .args .number) 9 (c .before .before .before .before .before .match .keys8) (c .before .before .put-words8 .ensures)
 
 -- src/pieces.rt:58:1
 same-length-9 : tie.Need-same-length-9
@@ -227,7 +238,8 @@ same-length-9 c = search needs
 
 -- src/pieces.rt:58:1
 returns-9 : tie.Need-returns-9
-returns-9 c = ?
+unfolding refusalWords ascii
+returns-9 c = word-told (c .before .before .before .before .before .before .before .args .out .now) (c .before .before .before .before .before .before .before .args .at) (c .before .before .before .before .before .before .before .args .number) 10 (c .before .before .before .before .before .match .keys9) (c .before .before .put-words9 .ensures)
 
 -- src/pieces.rt:58:1
 same-length-10 : tie.Need-same-length-10
@@ -235,7 +247,8 @@ same-length-10 c = search needs
 
 -- src/pieces.rt:58:1
 returns-10 : tie.Need-returns-10
-returns-10 c = ?
+unfolding refusalWords ascii
+returns-10 c = word-told (c .before .before .before .before .before .before .before .args .out .now) (c .before .before .before .before .before .before .before .args .at) (c .before .before .before .before .before .before .before .args .number) 11 (c .before .before .before .before .before .match .keys10) (c .before .before .put-words10 .ensures)
 
 -- src/pieces.rt:58:1
 same-length-11 : tie.Need-same-length-11
@@ -243,7 +256,8 @@ same-length-11 c = search needs
 
 -- src/pieces.rt:58:1
 returns-11 : tie.Need-returns-11
-returns-11 c = ?
+unfolding refusalWords ascii
+returns-11 c = word-told (c .before .before .before .before .before .before .before .args .out .now) (c .before .before .before .before .before .before .before .args .at) (c .before .before .before .before .before .before .before .args .number) 12 (c .before .before .before .before .before .match .keys11) (c .before .before .put-words11 .ensures)
 
 -- src/pieces.rt:58:1
 same-length-12 : tie.Need-same-length-12
@@ -251,7 +265,8 @@ same-length-12 c = search needs
 
 -- src/pieces.rt:58:1
 returns-12 : tie.Need-returns-12
-returns-12 c = ?
+unfolding refusalWords ascii
+returns-12 c = word-told (c .before .before .before .before .before .before .before .args .out .now) (c .before .before .before .before .before .before .before .args .at) (c .before .before .before .before .before .before .before .args .number) 13 (c .before .before .before .before .before .match .keys12) (c .before .before .put-words12 .ensures)
 
 -- src/pieces.rt:58:1
 same-length-13 : tie.Need-same-length-13
@@ -259,7 +274,8 @@ same-length-13 c = search needs
 
 -- src/pieces.rt:58:1
 returns-13 : tie.Need-returns-13
-returns-13 c = ?
+unfolding refusalWords ascii
+returns-13 c = word-told (c .before .before .before .before .before .before .before .args .out .now) (c .before .before .before .before .before .before .before .args .at) (c .before .before .before .before .before .before .before .args .number) 14 (c .before .before .before .before .before .match .keys13) (c .before .before .put-words13 .ensures)
 
 -- src/pieces.rt:58:1
 same-length-14 : tie.Need-same-length-14
@@ -267,7 +283,8 @@ same-length-14 c = search needs
 
 -- src/pieces.rt:58:1
 returns-14 : tie.Need-returns-14
-returns-14 c = ?
+unfolding refusalWords ascii
+returns-14 c = word-told (c .before .before .before .before .before .before .before .args .out .now) (c .before .before .before .before .before .before .before .args .at) (c .before .before .before .before .before .before .before .args .number) 15 (c .before .before .before .before .before .match .keys14) (c .before .before .put-words14 .ensures)
 
 -- src/pieces.rt:58:1
 same-length-15 : tie.Need-same-length-15
@@ -275,7 +292,8 @@ same-length-15 c = search needs
 
 -- src/pieces.rt:58:1
 returns-15 : tie.Need-returns-15
-returns-15 c = ?
+unfolding refusalWords ascii
+returns-15 c = word-told (c .before .before .before .before .before .before .before .args .out .now) (c .before .before .before .before .before .before .before .args .at) (c .before .before .before .before .before .before .before .args .number) 16 (c .before .before .before .before .before .match .keys15) (c .before .before .put-words15 .ensures)
 
 -- src/pieces.rt:58:1
 same-length-16 : tie.Need-same-length-16
@@ -283,7 +301,8 @@ same-length-16 c = search needs
 
 -- src/pieces.rt:58:1
 returns-16 : tie.Need-returns-16
-returns-16 c = ?
+unfolding refusalWords ascii
+returns-16 c = word-told (c .before .before .before .before .before .before .before .args .out .now) (c .before .before .before .before .before .before .before .args .at) (c .before .before .before .before .before .before .before .args .number) 17 (c .before .before .before .before .before .match .keys16) (c .before .before .put-words16 .ensures)
 
 -- src/pieces.rt:58:1
 same-length-17 : tie.Need-same-length-17
@@ -291,7 +310,8 @@ same-length-17 c = search needs
 
 -- src/pieces.rt:58:1
 returns-17 : tie.Need-returns-17
-returns-17 c = ?
+unfolding refusalWords ascii
+returns-17 c = word-told (c .before .before .before .before .before .before .before .args .out .now) (c .before .before .before .before .before .before .before .args .at) (c .before .before .before .before .before .before .before .args .number) 18 (c .before .before .before .before .before .match .keys17) (c .before .before .put-words17 .ensures)
 
 -- src/pieces.rt:58:1
 same-length-18 : tie.Need-same-length-18
@@ -299,7 +319,8 @@ same-length-18 c = search needs
 
 -- src/pieces.rt:58:1
 returns-18 : tie.Need-returns-18
-returns-18 c = ?
+unfolding refusalWords ascii
+returns-18 c = word-told (c .before .before .before .before .before .before .before .args .out .now) (c .before .before .before .before .before .before .before .args .at) (c .before .before .before .before .before .before .before .args .number) 19 (c .before .before .before .before .before .match .keys18) (c .before .before .put-words18 .ensures)
 
 -- src/pieces.rt:58:1
 same-length-19 : tie.Need-same-length-19
@@ -307,7 +328,8 @@ same-length-19 c = search needs
 
 -- src/pieces.rt:58:1
 returns-19 : tie.Need-returns-19
-returns-19 c = ?
+unfolding ascii
+returns-19 c = word-unknown (c .before .before .before .before .before .before .before .args .out .now) (c .before .before .before .before .before .before .before .args .at) (c .before .before .before .before .before .before .before .args .number) (c .before .before .before .before .before .match .rest) (c .before .before .put-words19 .ensures)
 
 pub put-word-spec : {M : Type 1} → statement M
 put-word-spec =
