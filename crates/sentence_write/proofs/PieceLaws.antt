@@ -5,7 +5,6 @@ use mathlib.Core.Path.{_≡_, refl, sym, ap, ap₂, subst, _∙_}
 use mathlib.Core.Logic.{_⊎_, inl, inr, _≢_}
 use mathlib.Core.List.{List, [], _∷_, _++_, append-assoc}
 use native.Mathlib.Omega.{arith}
-use native.Mathlib.Nat.{zero-le}
 use lib.ListN.{length, length-append}
 use borrow.Author.Tests.{ne-eqb}
 use Rattle.octets.specs.Octets.{splice}
@@ -108,7 +107,7 @@ unlisted n h = go (equal-or-not n 0) (equal-or-not n 6)
     go : (n ≡ 0) ⊎ (n ≡ 0 → ⊥) → (n ≡ 6) ⊎ (n ≡ 6 → ⊥) → "unknown" ≡ wordAt refusalWords n
     go (inl e) b = ap (wordAt refusalWords) (sym e)
     go (inr a) (inl e) = ap (wordAt refusalWords) (sym e)
-    go (inr a) (inr b) = word-beyond refusalWords n (past 19 n (past 18 n (past 17 n (past 16 n (past 15 n (past 14 n (past 13 n (past 12 n (past 11 n (past 10 n (past 9 n (past 8 n (past 7 n (past 6 n (past 5 n (past 4 n (past 3 n (past 2 n (past 1 n (past 0 n zero-le a) (h .0 .0 .0 .0 .0 .0 .0 .0 .0 .0 .0 .0 .0 .0 .0 .0 .0 .1)) (h .0 .0 .0 .0 .0 .0 .0 .0 .0 .0 .0 .0 .0 .0 .0 .0 .1)) (h .0 .0 .0 .0 .0 .0 .0 .0 .0 .0 .0 .0 .0 .0 .0 .1)) (h .0 .0 .0 .0 .0 .0 .0 .0 .0 .0 .0 .0 .0 .0 .1)) (h .0 .0 .0 .0 .0 .0 .0 .0 .0 .0 .0 .0 .0 .1)) b) (h .0 .0 .0 .0 .0 .0 .0 .0 .0 .0 .0 .0 .1)) (h .0 .0 .0 .0 .0 .0 .0 .0 .0 .0 .0 .1)) (h .0 .0 .0 .0 .0 .0 .0 .0 .0 .0 .1)) (h .0 .0 .0 .0 .0 .0 .0 .0 .0 .1)) (h .0 .0 .0 .0 .0 .0 .0 .0 .1)) (h .0 .0 .0 .0 .0 .0 .0 .1)) (h .0 .0 .0 .0 .0 .0 .1)) (h .0 .0 .0 .0 .0 .1)) (h .0 .0 .0 .0 .1)) (h .0 .0 .0 .1)) (h .0 .0 .1)) (h .0 .1)) (h .1))
+    go (inr a) (inr b) = word-beyond refusalWords n (past 19 n (past 18 n (past 17 n (past 16 n (past 15 n (past 14 n (past 13 n (past 12 n (past 11 n (past 10 n (past 9 n (past 8 n (past 7 n (past 6 n (past 5 n (past 4 n (past 3 n (past 2 n (past 1 n (past 0 n (omega arith) a) (h .0 .0 .0 .0 .0 .0 .0 .0 .0 .0 .0 .0 .0 .0 .0 .0 .0 .1)) (h .0 .0 .0 .0 .0 .0 .0 .0 .0 .0 .0 .0 .0 .0 .0 .0 .1)) (h .0 .0 .0 .0 .0 .0 .0 .0 .0 .0 .0 .0 .0 .0 .0 .1)) (h .0 .0 .0 .0 .0 .0 .0 .0 .0 .0 .0 .0 .0 .0 .1)) (h .0 .0 .0 .0 .0 .0 .0 .0 .0 .0 .0 .0 .0 .1)) b) (h .0 .0 .0 .0 .0 .0 .0 .0 .0 .0 .0 .0 .1)) (h .0 .0 .0 .0 .0 .0 .0 .0 .0 .0 .0 .1)) (h .0 .0 .0 .0 .0 .0 .0 .0 .0 .0 .1)) (h .0 .0 .0 .0 .0 .0 .0 .0 .0 .1)) (h .0 .0 .0 .0 .0 .0 .0 .0 .1)) (h .0 .0 .0 .0 .0 .0 .0 .1)) (h .0 .0 .0 .0 .0 .0 .1)) (h .0 .0 .0 .0 .0 .1)) (h .0 .0 .0 .0 .1)) (h .0 .0 .0 .1)) (h .0 .0 .1)) (h .0 .1)) (h .1))
 
 pub word-unknown : (o : List ℕ) (at n : ℕ) {e : List ℕ} {r : ℕ} → Unlike (19 ∷ 18 ∷ 17 ∷ 16 ∷ 15 ∷ 14 ∷ 13 ∷ 12 ∷ 11 ∷ 10 ∷ 9 ∷ 8 ∷ 7 ∷ 5 ∷ 4 ∷ 3 ∷ 2 ∷ 1 ∷ []) n → Wrote o e (ascii "unknown") at r → WroteShort 47 o e (ascii (wordAt refusalWords n)) at r
 word-unknown o at n h f = told-as (wordAt refusalWords) 47 refusal-short o at n "unknown" (unlisted n h) f

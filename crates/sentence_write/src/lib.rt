@@ -18,10 +18,8 @@ use receipt::Verdict;
 use refusal::Outcome;
 use refusal::Refusal;
 use sentence::SENTENCE;
-use sentences::put_accepted;
-use sentences::put_certificate_refused;
-use sentences::put_certified;
-use sentences::put_receipt_refused;
+use sentences::put_certificate;
+use sentences::put_receipt;
 
 // The sentence of the verifier's answer: its number, and the values that come with 0. Refused with 7: a buffer that is not 200 bytes.
 pub fn write_receipt_values(
@@ -40,11 +38,7 @@ pub fn write_receipt_values(
         return Outcome::Refused(Refusal::Length);
     }
     let mut text = [0u8; 256];
-    if number == 0 {
-        put_accepted(&mut text, keeper, log, position, kind, reference);
-    } else {
-        put_receipt_refused(&mut text, number);
-    }
+    put_receipt(&mut text, number, keeper, log, position, kind, reference);
     put(out, 0, &text[0..200]);
     Outcome::Done
 }
@@ -59,11 +53,7 @@ pub fn write_certificate_values(out: &mut [u8], number: u8, place: u64, mask: u3
         return Outcome::Refused(Refusal::Length);
     }
     let mut text = [0u8; 256];
-    if number == 0 {
-        put_certified(&mut text, place, mask);
-    } else {
-        put_certificate_refused(&mut text, number);
-    }
+    put_certificate(&mut text, number, place, mask);
     put(out, 0, &text[0..200]);
     Outcome::Done
 }

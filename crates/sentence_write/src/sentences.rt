@@ -4,7 +4,9 @@ ghost use Prim.Native.Nat.{_≤_};
 ghost use lib.ListN.{length};
 ghost use Rattle.octets.specs.Octets.{splice};
 ghost use Rattle.sentence.specs.Words.{receipt, certificate};
-ghost use Rattle.sentence.specs.Sentence.{accepted, certified, refused, sentenceOf};
+ghost use mathlib.Core.List.{[], _∷_};
+ghost use Rattle.refusal.specs.Answer.{answer};
+ghost use Rattle.sentence.specs.Sentence.{accepted, certified, refused, receiptSaid, stationSaid, sentenceOf};
 use super::members::put_members;
 use super::pieces::put_certificate_reason;
 use super::pieces::put_kind;
@@ -14,7 +16,7 @@ use super::pieces::put_words;
 use octets::wide;
 
 // A receipt accepted.
-pub fn put_accepted(
+fn put_accepted(
     out: &mut [u8],
     keeper: u64,
     log: u64,
@@ -34,7 +36,7 @@ pub fn put_accepted(
 }
 
 // A certificate that stands.
-pub fn put_certified(out: &mut [u8], place: u64, mask: u32)
+fn put_certified(out: &mut [u8], place: u64, mask: u32)
     requires { ⌜ 256 ≤ length (now out) ⌝ }
     ensures { λ _. ⌜ now (out .exit) ≡ splice (now (out .entry)) 0 (sentenceOf (certified place mask)) ⌝ }
 {
@@ -44,7 +46,7 @@ pub fn put_certified(out: &mut [u8], place: u64, mask: u32)
 }
 
 // A receipt refused.
-pub fn put_receipt_refused(out: &mut [u8], number: u8)
+fn put_receipt_refused(out: &mut [u8], number: u8)
     requires { ⌜ 256 ≤ length (now out) ⌝ }
     ensures { λ _. ⌜ now (out .exit) ≡ splice (now (out .entry)) 0 (sentenceOf (refused receipt number)) ⌝ }
 {
@@ -55,7 +57,7 @@ pub fn put_receipt_refused(out: &mut [u8], number: u8)
 }
 
 // A certificate refused.
-pub fn put_certificate_refused(out: &mut [u8], number: u8)
+fn put_certificate_refused(out: &mut [u8], number: u8)
     requires { ⌜ 256 ≤ length (now out) ⌝ }
     ensures { λ _. ⌜ now (out .exit) ≡ splice (now (out .entry)) 0 (sentenceOf (refused certificate number)) ⌝ }
 {
@@ -63,4 +65,36 @@ pub fn put_certificate_refused(out: &mut [u8], number: u8)
     let b = put_words(out, a, b"): ");
     let c = put_certificate_reason(out, b, number);
     put_words(out, c, b".");
+}
+
+// The verifier's answer: 0 with its values, or a refusal's number.
+pub fn put_receipt(
+    out: &mut [u8],
+    number: u8,
+    keeper: u64,
+    log: u64,
+    position: u64,
+    kind: u64,
+    reference: u64,
+)
+    requires { ⌜ 256 ≤ length (now out) ⌝ }
+    ensures { λ _. ⌜ now (out .exit) ≡ splice (now (out .entry)) 0 (sentenceOf (receiptSaid (answer number (keeper ∷ log ∷ position ∷ kind ∷ reference ∷ [])))) ⌝ }
+{
+    if number == 0 {
+        put_accepted(out, keeper, log, position, kind, reference);
+        return;
+    }
+    put_receipt_refused(out, number);
+}
+
+// The answer on a certificate: 0 with the place and the members, or a refusal's number.
+pub fn put_certificate(out: &mut [u8], number: u8, place: u64, mask: u32)
+    requires { ⌜ 256 ≤ length (now out) ⌝ }
+    ensures { λ _. ⌜ now (out .exit) ≡ splice (now (out .entry)) 0 (sentenceOf (stationSaid (answer number (place ∷ mask ∷ [])))) ⌝ }
+{
+    if number == 0 {
+        put_certified(out, place, mask);
+        return;
+    }
+    put_certificate_refused(out, number);
 }

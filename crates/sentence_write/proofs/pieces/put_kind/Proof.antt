@@ -1,3 +1,5 @@
+use Rattle.sentence.specs.Text.{ascii}
+use Rattle.sentence_write.proofs.TextLaws.{kind-wrote}
 use borrow.Author.Needs.{needs}
 use Rattle.sentence_write.proofs.pieces.put_kind.Statement.{statement}
 use Rattle.sentence_write.proofs.pieces.put_kind.Tie as tie
@@ -33,7 +35,8 @@ same-length c = search needs
 
 -- src/pieces.rt:47:1
 returns : tie.Need-returns
-returns c = ?
+unfolding ascii
+returns c = kind-wrote (c .before .before .before .before .before .before .before .before .before .before .before .before .before .before .before .args .out .now) (c .before .before .before .before .before .before .before .before .before .before .before .before .before .before .before .args .at) (c .before .before .before .before .before .before .before .before .before .before .before .before .before .before .before .args .kind) (c .before .before .before .before .before .before .before .before .before .before .before .before .before .before .before .pre) (c .before .before .before .before .before .before .before .before .before .before .before .put-words .ensures) (c .before .before .before .before .before .before .before .put-kind-word .ensures) (c .before .before .put-number .ensures)
 
 pub put-kind-spec : {M : Type 1} → statement M
 put-kind-spec =

@@ -1,3 +1,5 @@
+use Rattle.sentence.specs.Text.{ascii}
+use Rattle.sentence_write.proofs.TextLaws.{accepted-wrote}
 use borrow.Author.Needs.{needs}
 use Rattle.sentence_write.proofs.sentences.put_accepted.Statement.{statement}
 use Rattle.sentence_write.proofs.sentences.put_accepted.Tie as tie
@@ -57,7 +59,8 @@ same-length c = search needs
 
 -- src/sentences.rt:17:1
 returns : tie.Need-returns
-returns c = ?
+unfolding ascii
+returns c = accepted-wrote (c .before .before .before .before .before .before .before .before .before .before .before .before .before .before .before .before .before .before .before .before .before .before .before .before .before .before .before .before .before .before .args .out .now) (c .before .before .before .before .before .before .before .before .before .before .before .before .before .before .before .before .before .before .before .before .before .before .before .before .before .before .before .before .before .before .pre) (c .before .before .before .before .before .before .before .before .before .before .before .before .before .before .before .before .before .before .before .before .before .before .before .before .before .before .before .before .before .before .args .keeper) (c .before .before .before .before .before .before .before .before .before .before .before .before .before .before .before .before .before .before .before .before .before .before .before .before .before .before .before .before .before .before .args .log) (c .before .before .before .before .before .before .before .before .before .before .before .before .before .before .before .before .before .before .before .before .before .before .before .before .before .before .before .before .before .before .args .position) (c .before .before .before .before .before .before .before .before .before .before .before .before .before .before .before .before .before .before .before .before .before .before .before .before .before .before .before .before .before .before .args .kind) (c .before .before .before .before .before .before .before .before .before .before .before .before .before .before .before .before .before .before .before .before .before .before .before .before .before .before .before .before .before .before .args .reference) (c .before .before .before .before .before .before .before .before .before .before .before .before .before .before .before .before .before .before .before .before .before .before .before .before .before .before .put-number .ensures) (c .before .before .before .before .before .before .before .before .before .before .before .before .before .before .before .before .before .before .before .before .before .put-number2 .ensures) (c .before .before .before .before .before .before .before .before .before .before .before .before .before .before .before .before .put-number3 .ensures) (c .before .before .before .before .before .before .before .before .before .before .before .before .put-kind .ensures) (c .before .before .before .before .before .before .before .put-number4 .ensures) (c .before .before .put-words .ensures)
 
 pub put-accepted-spec : {M : Type 1} → statement M
 put-accepted-spec =

@@ -1,3 +1,5 @@
+use Rattle.sentence.specs.Text.{ascii}
+use Rattle.sentence_write.proofs.TextLaws.{certified-wrote}
 use borrow.Author.Needs.{needs}
 use Rattle.sentence_write.proofs.sentences.put_certified.Statement.{statement}
 use Rattle.sentence_write.proofs.sentences.put_certified.Tie as tie
@@ -33,7 +35,8 @@ same-length c = search needs
 
 -- src/sentences.rt:37:1
 returns : tie.Need-returns
-returns c = ?
+unfolding ascii
+returns c = certified-wrote (c .before .before .before .before .before .before .before .before .before .before .before .before .before .before .before .args .out .now) (c .before .before .before .before .before .before .before .before .before .before .before .before .before .before .before .pre) (c .before .before .before .before .before .before .before .before .before .before .before .before .before .before .before .args .place) (c .before .before .before .before .before .before .before .before .before .before .before .before .before .before .before .args .mask) (c .before .before .before .before .before .before .before .before .before .before .before .put-number .ensures) (c .before .before .before .before .before .before .before .put-members .ensures) (c .before .before .put-words .ensures)
 
 pub put-certified-spec : {M : Type 1} → statement M
 put-certified-spec =
