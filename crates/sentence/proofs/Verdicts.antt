@@ -31,7 +31,6 @@ receipt-refused n vs h = rw (not-zero n h)
 pub station-refused : (n : ℕ) (vs : List ℕ) → 0 < n → stationSaid (answer n vs) ≡ refused certificate n
 station-refused n vs h = rw (not-zero n h)
 
-
 -- ---- the numbers
 
 -- number and values of a verdict

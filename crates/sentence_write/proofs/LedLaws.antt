@@ -203,10 +203,10 @@ listing-more o out at mask all to before i b {e} {r} h l f g q =
     let size : length e ≡ length o = ap length (w .1) ∙ length-splice o (x ++ y) at (omega (arith, length-append x y)) in
     (omega arith, ap (λ (n : ℕ). before + n) (q .0) ∙ count-more mask i before (f .1), wrote-as o (x ++ y) (listText all (i + 1) mask) at (sym m) w, size)
 
-pub listing-all : (o out : List ℕ) (at mask all to before i : ℕ) → (all ≡ 0 → ⊥) → all ≡ length (membersBelow 32 mask) → (i < 32 → ⊥) → Listing o at mask all out to before i
+pub listing-all : (o out : List ℕ) (at mask all to before i : ℕ) → (all ≡ 0 → ⊥) → all ≡ length (membersBelow 32 mask) → 32 ≤ i → Listing o at mask all out to before i
     → WroteShort 146 o out (textOf (agreed (membersBelow 32 mask))) at to
 listing-all o out at mask all to before i h e l f =
-    let n : i ≡ 32 = let z = f .0 in omega (arith, l) in
+    let n : i ≡ 32 = let z = f .0 in omega arith in
     let w : Wrote o out (textOf (agreed (membersBelow 32 mask))) at to = wrote-as o (listText all i mask) (textOf (agreed (membersBelow 32 mask))) at (ap (λ (j : ℕ). listText all j mask) n ∙ list-agreed all mask e h) (f .2) in
     ((w .0, omega (arith, f .2 .0, list-size all i mask (f .0))), w .1)
 

@@ -20,6 +20,15 @@ use Rattle.sentence.specs.Text.{ascii, Piece, words, number, pieceText, textOf}
 use Rattle.sentence.specs.Words.{Subject, receipt, certificate, wordAt, kindWords, reason}
 use Rattle.sentence.specs.Sentence.{Said, accepted, certified, refused, receiptSaid, stationSaid, membersBelow, agreed, piecesOf, sentenceOf, sentenceRefusal, padded, beginning}
 use Rattle.refusal.specs.Answer.{answer}
+use Rattle.refusal.specs.Number.{numberOf}
+use Rattle.refusal.specs.declared.Refusal.{Refusal}
+use Rattle.refusal.proofs.NumberLaws.{numberOf-positive}
+use Rattle.receipt.specs.Verdict.{verdictAnswer}
+use Rattle.receipt.specs.declared.Verdict.{Verdict}
+use Rattle.receipt.specs.declared.Verdict.the-variants as verdict
+use Rattle.quorum.specs.Certificate.{stationAnswer}
+use Rattle.quorum.specs.declared.Station.{Station}
+use Rattle.quorum.specs.declared.Station.the-variants as station
 use Rattle.sentence.proofs.Verdicts.{receipt-refused, station-refused}
 use Rattle.sentence.proofs.SizeLaws.{sentence-size}
 use Rattle.sentence.proofs.WordLaws.{kind-short, reason-short}
@@ -208,3 +217,28 @@ module _ (o : List ℕ) (n place mask : ℕ) where
 
   pub station-other : {e : List ℕ} → (n ≡ 0 → ⊥) → e ≡ splice o 0 (sentenceOf (refused certificate n)) → e ≡ splice o 0 (sentenceOf (stationSaid (answer n (place ∷ mask ∷ []))))
   station-other h f = let z : n ≢ 0 = h in f ∙ ap (λ (x : Said). splice o 0 (sentenceOf x)) (sym (station-refused n (place ∷ mask ∷ []) (omega arith)))
+
+-- ---- verdicts
+
+-- what a call answers and leaves, of one thing said that is another
+pub said-as : (o : List ℕ) (x y : Said) {e : List ℕ} {m : ℕ} → x ≡ y → (m ≡ answerOf (sentenceRefusal o)) × (e ≡ afterwards (sentenceRefusal o) (padded (sentenceOf x)) o)
+    → (m ≡ answerOf (sentenceRefusal o)) × (e ≡ afterwards (sentenceRefusal o) (padded (sentenceOf y)) o)
+said-as o x y q f = (f .0, f .1 ∙ ap (λ (s : Said). afterwards (sentenceRefusal o) (padded (sentenceOf s)) o) q)
+
+pub accepted-said : (v : Verdict) (keeper log position kind reference blocks l d : ℕ) → v ≡ verdict.Accepted keeper log position kind reference blocks → l ≡ log → d ≡ kind
+    → receiptSaid (answer 0 (keeper ∷ l ∷ position ∷ d ∷ reference ∷ [])) ≡ receiptSaid (verdictAnswer v)
+accepted-said v keeper log position kind reference blocks l d e p q =
+    ap₂ (λ (a b : ℕ). accepted keeper a position b reference) p q ∙ sym (ap (λ (x : Verdict). receiptSaid (verdictAnswer x)) e)
+
+pub refused-said : (v : Verdict) (why : Refusal) (blocks n : ℕ) (vs : List ℕ) → v ≡ verdict.Refused why blocks → n ≡ numberOf why → receiptSaid (answer n vs) ≡ receiptSaid (verdictAnswer v)
+refused-said v why blocks n vs e q =
+    ap (λ (k : ℕ). receiptSaid (answer k vs)) q ∙ receipt-refused (numberOf why) vs (numberOf-positive why) ∙ sym (receipt-refused (numberOf why) [] (numberOf-positive why))
+    ∙ sym (ap (λ (x : Verdict). receiptSaid (verdictAnswer x)) e)
+
+pub certified-said : (s : Station) (place mask blocks : ℕ) → s ≡ station.Certified place mask blocks → stationSaid (answer 0 (place ∷ mask ∷ [])) ≡ stationSaid (stationAnswer s)
+certified-said s place mask blocks e = sym (ap (λ (x : Station). stationSaid (stationAnswer x)) e)
+
+pub uncertified-said : (s : Station) (why : Refusal) (blocks n : ℕ) (vs : List ℕ) → s ≡ station.Refused why blocks → n ≡ numberOf why → stationSaid (answer n vs) ≡ stationSaid (stationAnswer s)
+uncertified-said s why blocks n vs e q =
+    ap (λ (k : ℕ). stationSaid (answer k vs)) q ∙ station-refused (numberOf why) vs (numberOf-positive why) ∙ sym (station-refused (numberOf why) [] (numberOf-positive why))
+    ∙ sym (ap (λ (x : Station). stationSaid (stationAnswer x)) e)

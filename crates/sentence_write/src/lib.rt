@@ -1,6 +1,6 @@
 // Verdicts written as sentences (document 02 [9]).
-mod pieces;
 mod members;
+mod pieces;
 mod sentences;
 
 ghost use mathlib.Core.Path.{_≡_};
@@ -72,7 +72,15 @@ pub fn write_receipt(out: &mut [u8], verdict: Verdict) -> Outcome
             reference,
             blocks: _,
         } => write_receipt_values(out, 0, keeper, wide(log), position, wide(kind), reference),
-        Verdict::Refused { why, blocks: _ } => write_receipt_values(out, why.number(), 0, 0, 0, 0, 0),
+        Verdict::Refused { why, blocks: _ } => write_receipt_values(
+            out,
+            why.number(),
+            0,
+            0,
+            0,
+            0,
+            0,
+        ),
     }
 }
 

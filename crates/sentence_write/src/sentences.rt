@@ -16,14 +16,7 @@ use super::pieces::put_words;
 use octets::wide;
 
 // A receipt accepted.
-fn put_accepted(
-    out: &mut [u8],
-    keeper: u64,
-    log: u64,
-    position: u64,
-    kind: u64,
-    reference: u64,
-)
+fn put_accepted(out: &mut [u8], keeper: u64, log: u64, position: u64, kind: u64, reference: u64)
     requires { ⌜ 256 ≤ length (now out) ⌝ }
     ensures { λ _. ⌜ now (out .exit) ≡ splice (now (out .entry)) 0 (sentenceOf (accepted keeper log position kind reference)) ⌝ }
 {

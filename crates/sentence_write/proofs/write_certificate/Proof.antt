@@ -1,46 +1,39 @@
+-- `sentence_write::write_certificate` meets its contract. Assumes nothing.
+use Rattle.quorum.specs.Certificate.{stationAnswer}
+use Rattle.sentence.specs.Sentence.{stationSaid}
+use Rattle.refusal.specs.Answer.{answer}
+use mathlib.Core.List.{[], _∷_}
+use Rattle.sentence_write.proofs.TextLaws.{said-as, certified-said, uncertified-said}
 use borrow.Author.Needs.{needs}
 use Rattle.sentence_write.proofs.write_certificate.Statement.{statement}
 use Rattle.sentence_write.proofs.write_certificate.Tie as tie
-use Rattle.sentence_write.proofs.write_certificate.Reads as reads
-use Rattle.sentence_write.proofs.write_certificate.Lts as lts
-use Rattle.refusal.proofs.Refusal.number.Reads as number-reads
-use Rattle.sentence_write.proofs.write_certificate_values.Reads as write-certificate-values-reads
 
--- src/lib.rt:96:13
 enum-known-station : tie.Need-enum-known-station
 enum-known-station c = search needs
 
--- src/lib.rt:99:14
 write-certificate-values-requires : tie.Need-write-certificate-values-requires
 write-certificate-values-requires c κs = search needs
 
--- src/lib.rt:100:28
 enum-known-station-2 : tie.Need-enum-known-station-2
 enum-known-station-2 c = search needs
 
--- src/lib.rt:100:78
 number-requires : tie.Need-number-requires
 number-requires c κs = search needs
 
--- src/lib.rt:100:48
 write-certificate-values-requires-2 : tie.Need-write-certificate-values-requires-2
 write-certificate-values-requires-2 c κs = search needs
 
--- src/lib.rt:90:1
 same-length : tie.Need-same-length
 same-length c = search needs
 
--- src/lib.rt:90:1
 returns : tie.Need-returns
-returns c = ?
+returns c = let v = c .before .before .before .before .before .station .given in said-as (c .before .before .before .before .before .before .before .before .args .out .now) (stationSaid (answer 0 (v .0 .0 ∷ v .0 .1 .0 ∷ []))) (stationSaid (stationAnswer (c .before .before .before .before .before .before .before .before .args .station))) (certified-said (c .before .before .before .before .before .before .before .before .args .station) (v .0 .0) (v .0 .1 .0) (v .0 .1 .1 .0) (v .1)) (c .before .before .write-certificate-values .ensures)
 
--- src/lib.rt:90:1
 same-length-2 : tie.Need-same-length-2
 same-length-2 c = search needs
 
--- src/lib.rt:90:1
 returns-2 : tie.Need-returns-2
-returns-2 c = ?
+returns-2 c = let v = c .before .before .before .before .before .before .station2 .given in said-as (c .before .before .before .before .before .before .before .before .before .args .out .now) (stationSaid (answer (c .before .before .before .number .result) (0 ∷ 0 ∷ []))) (stationSaid (stationAnswer (c .before .before .before .before .before .before .before .before .before .args .station))) (uncertified-said (c .before .before .before .before .before .before .before .before .before .args .station) (v .0 .0) (v .0 .1 .0) (c .before .before .before .number .result) (0 ∷ 0 ∷ []) (v .1) (c .before .before .before .number .ensures)) (c .before .before .write-certificate-values2 .ensures)
 
 pub write-certificate-spec : {M : Type 1} → statement M
 write-certificate-spec =

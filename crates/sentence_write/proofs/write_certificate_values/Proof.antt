@@ -1,46 +1,40 @@
+-- `sentence_write::write_certificate_values` meets its contract. Assumes nothing.
+use Rattle.octets.specs.Octets.{zeros}
+use Rattle.sentence.specs.Sentence.{stationSaid, sentenceOf, padded}
+use Rattle.refusal.specs.Answer.{answer}
+use mathlib.Core.List.{[], _∷_}
+use Rattle.sentence_write.proofs.TextLaws.{refused-length, written}
 use borrow.Author.Needs.{needs}
 use Rattle.sentence_write.proofs.write_certificate_values.Statement.{statement}
 use Rattle.sentence_write.proofs.write_certificate_values.Tie as tie
-use Rattle.sentence_write.proofs.write_certificate_values.Reads as reads
-use Rattle.sentence_write.proofs.write_certificate_values.Lts as lts
-use Rattle.octets.proofs.put.Reads as put-reads
-use Rattle.sentence_write.proofs.sentences.put_certificate.Reads as put-certificate-reads
 
--- src/lib.rt:53:9
 returns : tie.Need-returns
-returns c = ?
+returns c = refused-length (c .before .before .args .out .now) (padded (sentenceOf (stationSaid (answer (c .before .before .args .number) (c .before .before .args .place ∷ c .before .before .args .mask ∷ []))))) (c .if1 .taken)
 
--- src/lib.rt:56:21
 slice-aggregate-put-certificate : tie.Need-slice-aggregate-put-certificate
 slice-aggregate-put-certificate c = search needs
 
--- src/lib.rt:56:5
 put-certificate-requires : tie.Need-put-certificate-requires
 put-certificate-requires c κs = search needs
 
--- src/lib.rt:57:17
 sub-put : tie.Need-sub-put
 sub-put c = search needs
 
--- src/lib.rt:57:17
 part-put-start : tie.Need-part-put-start
 part-put-start c = search needs
 
--- src/lib.rt:57:17
 part-put-end : tie.Need-part-put-end
 part-put-end c = search needs
 
--- src/lib.rt:57:5
 put-requires : tie.Need-put-requires
 put-requires c κs = search needs
 
--- src/lib.rt:48:1
 same-length : tie.Need-same-length
 same-length c = search needs
 
--- src/lib.rt:48:1
 returns-2 : tie.Need-returns-2
-returns-2 c = ?
+unfolding zeros
+returns-2 c = written (c .before .before .before .before .before .before .before .before .before .before .before .args .out .now) (c .before .before .put .last .0) (c .before .before .before .before .before .before .before .put-certificate .last .0) (stationSaid (answer (c .before .before .before .before .before .before .before .before .before .before .before .args .number) (c .before .before .before .before .before .before .before .before .before .before .before .args .place ∷ c .before .before .before .before .before .before .before .before .before .before .before .args .mask ∷ []))) (c .before .before .before .before .before .before .before .before .before .if1 .left) (c .before .before .before .before .before .before .before .put-certificate .ensures) (c .before .before .put .ensures)
 
 pub write-certificate-values-spec : {M : Type 1} → statement M
 write-certificate-values-spec =

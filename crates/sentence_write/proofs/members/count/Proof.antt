@@ -1,16 +1,13 @@
-use Prim.Native.Nat.{ℕ, _+_}
+-- `sentence_write::members::count` meets its contract. Assumes nothing.
+use Prim.Native.Nat.{ℕ, _+_, _≤_, _-_}
 use Rattle.sentence.specs.Sentence.{membersBelow}
 use lib.ListN.{length}
 use mathlib.Core.Path.{_≡_, ap, _∙_}
-use Prim.Native.Nat.{_≤_, _-_}
 use native.Mathlib.Omega.{arith}
 use Rattle.sentence_write.proofs.LedLaws.{count-none, count-more, count-most}
 use borrow.Author.Needs.{needs}
 use Rattle.sentence_write.proofs.members.count.Statement.{statement}
 use Rattle.sentence_write.proofs.members.count.Tie as tie
-use Rattle.sentence_write.proofs.members.count.Reads as reads
-use Rattle.sentence_write.proofs.members.count.Lts as lts
-use Rattle.sentence_write.proofs.members.bit_of.Reads as bit-of-reads
 
 abbrev Inv-loop : tie.InvT-loop
 Inv-loop mask n₀ i₀ n i = (i ≤ 32) × (n ≡ length (membersBelow i mask))
@@ -18,31 +15,24 @@ Inv-loop mask n₀ i₀ n i = (i ≤ 32) × (n ≡ length (membersBelow i mask))
 abbrev μ-loop : tie.MeasureT-loop
 μ-loop mask n₀ i₀ n i = 32 - i
 
--- src/members.rt:26:5
 loop-holds : tie.Need-loop-holds Inv-loop μ-loop
 loop-holds c = (omega arith, count-none (c .args .mask))
 
--- src/members.rt:27:14
 bit-of-requires : tie.Need-bit-of-requires Inv-loop μ-loop
 bit-of-requires c κs = search needs
 
--- src/members.rt:27:9
 add-n : tie.Need-add-n Inv-loop μ-loop
 add-n c = omega (arith, c .before .before .loop .inv .1, count-most (c .before .before .before .args .mask) (c .before .before .loop .i), c .bit-of .ensures .1)
 
--- src/members.rt:28:9
 add-i : tie.Need-add-i Inv-loop μ-loop
 add-i c = search needs
 
--- src/members.rt:26:5
 loop-less : tie.Need-loop-less Inv-loop μ-loop
 loop-less c = omega arith
 
--- src/members.rt:26:5
 loop-again : tie.Need-loop-again Inv-loop μ-loop
 loop-again c = (omega arith, ap (λ (b : ℕ). c .before .before .loop .n + b) (c .bit-of .ensures .0) ∙ count-more (c .before .before .before .args .mask) (c .before .before .loop .i) (c .before .before .loop .n) (c .before .before .loop .inv .1))
 
--- src/members.rt:21:1
 returns : tie.Need-returns Inv-loop μ-loop
 returns c = let e : c .before .loop .i ≡ 32 = omega arith in c .before .loop .inv .1 ∙ ap (λ (k : ℕ). length (membersBelow k (c .before .before .args .mask))) e
 

@@ -1,4 +1,4 @@
-use mathlib.Core.Path.{_≡_}
+-- `sentence_write::members::put_members` meets its contract. Assumes nothing.
 use Prim.Native.Nat.{_-_}
 use native.Mathlib.Omega.{arith}
 use Rattle.sentence.specs.Text.{ascii}
@@ -6,12 +6,6 @@ use Rattle.sentence_write.proofs.LedLaws.{Listing, listing-none, listin
 use borrow.Author.Needs.{needs}
 use Rattle.sentence_write.proofs.members.put_members.Statement.{statement}
 use Rattle.sentence_write.proofs.members.put_members.Tie as tie
-use Rattle.sentence_write.proofs.members.put_members.Reads as reads
-use Rattle.sentence_write.proofs.members.put_members.Lts as lts
-use Rattle.sentence_write.proofs.members.bit_of.Reads as bit-of-reads
-use Rattle.sentence_write.proofs.members.count.Reads as count-reads
-use Rattle.sentence_write.proofs.members.put_member.Reads as put-member-reads
-use Rattle.sentence_write.proofs.pieces.put_words.Reads as put-words-reads
 
 abbrev Inv-loop : tie.InvT-loop
 Inv-loop out₀ at mask all to₀ before₀ i₀ out to before i = Listing out₀ at mask all out to before i
@@ -19,60 +13,46 @@ Inv-loop out₀ at mask all to₀ before₀ i₀ out to before i = Listing out�
 abbrev μ-loop : tie.MeasureT-loop
 μ-loop out₀ at mask all to₀ before₀ i₀ out to before i = 32 - i
 
--- src/members.rt:57:9
 count-requires : tie.Need-count-requires Inv-loop μ-loop
 count-requires c κs = search needs
 
--- src/members.rt:59:35
 slice-aggregate-put-words : tie.Need-slice-aggregate-put-words Inv-loop μ-loop
 slice-aggregate-put-words c = search needs
 
--- src/members.rt:59:9
 put-words-requires : tie.Need-put-words-requires Inv-loop μ-loop
 put-words-requires c κs = search needs
 
--- src/members.rt:59:9
 same-length : tie.Need-same-length Inv-loop μ-loop
 same-length c = search needs
 
--- src/members.rt:59:9
 returns : tie.Need-returns Inv-loop μ-loop
 unfolding ascii
 returns c = listing-never (c .before .before .before .before .before .before .before .before .args .out .now) (c .before .before .before .before .before .before .before .before .args .at) (c .before .before .before .before .before .before .before .before .args .mask) (c .before .before .before .before .before .before .count .result) (c .before .before .before .before .before .before .count .ensures) (c .before .before .before .before .before .if1 .taken) (c .before .before .put-words .ensures)
 
--- src/members.rt:64:5
 loop-holds : tie.Need-loop-holds Inv-loop μ-loop
 loop-holds c = listing-none (c .before .before .before .args .out .now) (c .before .before .before .args .at) (c .before .before .before .args .mask) (c .before .count .result)
 
--- src/members.rt:65:9
 put-member-requires : tie.Need-put-member-requires Inv-loop μ-loop
 put-member-requires c κs = (listing-room (c .before .before .before .before .before .before .args .out .now) (c .before .before .loop .out) (c .before .before .before .before .before .before .args .at) (c .before .before .before .before .before .before .args .mask) (c .before .before .before .before .count .result) (c .before .before .loop .to) (c .before .before .loop .before) (c .before .before .loop .i) (c .before .before .before .before .before .before .pre) (c .before .loop-test .taken) (c .before .before .loop .inv), c .before .loop-test .taken)
 
--- src/members.rt:66:19
 bit-of-requires : tie.Need-bit-of-requires Inv-loop μ-loop
 bit-of-requires c κs = search needs
 
--- src/members.rt:66:9
 add-before : tie.Need-add-before Inv-loop μ-loop
 add-before c = omega (arith, c .before .before .before .before .before .before .loop .inv .1, count-most (c .before .before .before .before .before .before .before .before .before .before .args .mask) (c .before .before .before .before .before .before .loop .i), c .bit-of .ensures .1, c .before .before .before .before .before .before .loop .inv .0)
 
--- src/members.rt:67:9
 add-i : tie.Need-add-i Inv-loop μ-loop
 add-i c = search needs
 
--- src/members.rt:64:5
 loop-less : tie.Need-loop-less Inv-loop μ-loop
 loop-less c = omega arith
 
--- src/members.rt:64:5
 loop-again : tie.Need-loop-again Inv-loop μ-loop
 loop-again c = listing-more (c .before .before .before .before .before .before .before .before .before .before .args .out .now) (c .before .before .before .before .before .before .loop .out) (c .before .before .before .before .before .before .before .before .before .before .args .at) (c .before .before .before .before .before .before .before .before .before .before .args .mask) (c .before .before .before .before .before .before .before .before .count .result) (c .before .before .before .before .before .before .loop .to) (c .before .before .before .before .before .before .loop .before) (c .before .before .before .before .before .before .loop .i) (c .bit-of .result) (c .before .before .before .before .before .before .before .before .before .before .pre) (c .before .before .before .before .before .loop-test .taken) (c .before .before .before .before .before .before .loop .inv) (c .before .before .before .put-member .ensures) (c .bit-of .ensures)
 
--- src/members.rt:52:1
 same-length-2 : tie.Need-same-length-2 Inv-loop μ-loop
 same-length-2 c = c .before .loop .inv .3
 
--- src/members.rt:52:1
 returns-2 : tie.Need-returns-2 Inv-loop μ-loop
 returns-2 c = listing-all (c .before .before .before .before .before .args .out .now) (c .before .loop .out) (c .before .before .before .before .before .args .at) (c .before .before .before .before .before .args .mask) (c .before .before .before .count .result) (c .before .loop .to) (c .before .loop .before) (c .before .loop .i) (c .before .before .if1 .left) (c .before .before .before .count .ensures) (c .loop-test .left) (c .before .loop .inv)
 

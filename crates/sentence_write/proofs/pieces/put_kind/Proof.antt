@@ -1,39 +1,28 @@
+-- `sentence_write::pieces::put_kind` meets its contract. Assumes nothing.
 use Rattle.sentence.specs.Text.{ascii}
 use Rattle.sentence_write.proofs.TextLaws.{kind-wrote}
 use borrow.Author.Needs.{needs}
 use Rattle.sentence_write.proofs.pieces.put_kind.Statement.{statement}
 use Rattle.sentence_write.proofs.pieces.put_kind.Tie as tie
-use Rattle.sentence_write.proofs.pieces.put_kind.Reads as reads
-use Rattle.sentence_write.proofs.pieces.put_kind.Lts as lts
-use Rattle.sentence_write.proofs.pieces.put_kind_word.Reads as put-kind-word-reads
-use Rattle.sentence_write.proofs.pieces.put_number.Reads as put-number-reads
-use Rattle.sentence_write.proofs.pieces.put_words.Reads as put-words-reads
 
--- src/pieces.rt:52:35
 slice-aggregate-put-words : tie.Need-slice-aggregate-put-words
 slice-aggregate-put-words c = search needs
 
--- src/pieces.rt:52:9
 put-words-requires : tie.Need-put-words-requires
 put-words-requires c κs = search needs
 
--- src/pieces.rt:53:9
 put-kind-word-requires : tie.Need-put-kind-word-requires
 put-kind-word-requires c κs = search needs
 
--- src/pieces.rt:54:25
 slice-aggregate-put-number : tie.Need-slice-aggregate-put-number
 slice-aggregate-put-number c = search needs
 
--- src/pieces.rt:54:5
 put-number-requires : tie.Need-put-number-requires
 put-number-requires c κs = search needs
 
--- src/pieces.rt:47:1
 same-length : tie.Need-same-length
 same-length c = search needs
 
--- src/pieces.rt:47:1
 returns : tie.Need-returns
 unfolding ascii
 returns c = kind-wrote (c .before .before .before .before .before .before .before .before .before .before .before .before .before .before .before .args .out .now) (c .before .before .before .before .before .before .before .before .before .before .before .before .before .before .before .args .at) (c .before .before .before .before .before .before .before .before .before .before .before .before .before .before .before .args .kind) (c .before .before .before .before .before .before .before .before .before .before .before .before .before .before .before .pre) (c .before .before .before .before .before .before .before .before .before .before .before .put-words .ensures) (c .before .before .before .before .before .before .before .put-kind-word .ensures) (c .before .before .put-number .ensures)

@@ -1,25 +1,18 @@
+-- `sentence_write::pieces::put_number` meets its contract. Assumes nothing.
 use Rattle.sentence_write.proofs.PieceLaws.{wrote-number, number-room}
 use borrow.Author.Needs.{needs}
 use Rattle.sentence_write.proofs.pieces.put_number.Statement.{statement}
 use Rattle.sentence_write.proofs.pieces.put_number.Tie as tie
-use Rattle.sentence_write.proofs.pieces.put_number.Reads as reads
-use Rattle.sentence_write.proofs.pieces.put_number.Lts as lts
-use Rattle.decimal.proofs.put.Reads as put-reads
-use Rattle.sentence_write.proofs.pieces.put_words.Reads as put-words-reads
 
--- src/pieces.rt:27:9
 put-words-requires : tie.Need-put-words-requires
 put-words-requires c κs = search needs
 
--- src/pieces.rt:28:5
 put-requires : tie.Need-put-requires
 put-requires c κs = number-room (c .before .before .before .before .before .before .before .args .out .now) (c .before .before .before .before .before .before .before .args .words .now) (c .before .before .before .before .before .before .before .args .n) (c .before .before .before .before .before .before .before .args .at) (c .before .before .before .put-words .ensures) (c .before .before .before .before .before .before .before .pre)
 
--- src/pieces.rt:22:1
 same-length : tie.Need-same-length
 same-length c = search needs
 
--- src/pieces.rt:22:1
 returns : tie.Need-returns
 returns c = wrote-number (c .before .before .before .before .before .before .before .before .before .before .args .out .now) (c .before .before .before .before .before .before .before .before .before .before .args .words .now) (c .before .before .before .before .before .before .before .before .before .before .args .n) (c .before .before .before .before .before .before .before .before .before .before .args .at) (c .before .before .before .before .before .before .put-words .ensures) (c .before .before .before .before .before .before .before .before .before .before .pre) (c .before .before .put .ensures)
 

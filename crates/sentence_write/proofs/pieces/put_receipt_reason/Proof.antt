@@ -1,91 +1,69 @@
+-- `sentence_write::pieces::put_receipt_reason` meets its contract. Assumes nothing.
 use Rattle.sentence.specs.Text.{ascii}
 use Rattle.sentence.specs.Words.{receipt, meanings, meaningIn}
 use Rattle.sentence_write.proofs.PieceLaws.{reason-told, receipt-other}
 use borrow.Author.Needs.{needs}
 use Rattle.sentence_write.proofs.pieces.put_receipt_reason.Statement.{statement}
 use Rattle.sentence_write.proofs.pieces.put_receipt_reason.Tie as tie
-use Rattle.sentence_write.proofs.pieces.put_receipt_reason.Reads as reads
-use Rattle.sentence_write.proofs.pieces.put_receipt_reason.Lts as lts
-use Rattle.sentence_write.proofs.pieces.put_word.Reads as put-word-reads
-use Rattle.sentence_write.proofs.pieces.put_words.Reads as put-words-reads
 
--- src/pieces.rt:93:33
 slice-aggregate-put-words : tie.Need-slice-aggregate-put-words
 slice-aggregate-put-words c = search needs
 
--- src/pieces.rt:93:14
 put-words-requires : tie.Need-put-words-requires
 put-words-requires c κs = search needs
 
--- src/pieces.rt:94:33
 slice-aggregate-put-words-2 : tie.Need-slice-aggregate-put-words-2
 slice-aggregate-put-words-2 c = search needs
 
--- src/pieces.rt:94:14
 put-words-requires-2 : tie.Need-put-words-requires-2
 put-words-requires-2 c κs = search needs
 
--- src/pieces.rt:95:34
 slice-aggregate-put-words-3 : tie.Need-slice-aggregate-put-words-3
 slice-aggregate-put-words-3 c = search needs
 
--- src/pieces.rt:95:15
 put-words-requires-3 : tie.Need-put-words-requires-3
 put-words-requires-3 c κs = search needs
 
--- src/pieces.rt:96:34
 slice-aggregate-put-words-4 : tie.Need-slice-aggregate-put-words-4
 slice-aggregate-put-words-4 c = search needs
 
--- src/pieces.rt:96:15
 put-words-requires-4 : tie.Need-put-words-requires-4
 put-words-requires-4 c κs = search needs
 
--- src/pieces.rt:97:14
 put-word-requires : tie.Need-put-word-requires
 put-word-requires c κs = search needs
 
--- src/pieces.rt:87:1
 same-length : tie.Need-same-length
 same-length c = search needs
 
--- src/pieces.rt:87:1
 returns : tie.Need-returns
 unfolding meanings meaningIn ascii
 returns c = reason-told (c .before .before .before .before .before .before .before .args .out .now) (c .before .before .before .before .before .before .before .args .at) (c .before .before .before .before .before .before .before .args .number) receipt 7 (c .before .before .before .before .before .match .keys1) (c .before .before .put-words .ensures)
 
--- src/pieces.rt:87:1
 same-length-2 : tie.Need-same-length-2
 same-length-2 c = search needs
 
--- src/pieces.rt:87:1
 returns-2 : tie.Need-returns-2
 unfolding meanings meaningIn ascii
 returns-2 c = reason-told (c .before .before .before .before .before .before .before .args .out .now) (c .before .before .before .before .before .before .before .args .at) (c .before .before .before .before .before .before .before .args .number) receipt 9 (c .before .before .before .before .before .match .keys2) (c .before .before .put-words2 .ensures)
 
--- src/pieces.rt:87:1
 same-length-3 : tie.Need-same-length-3
 same-length-3 c = search needs
 
--- src/pieces.rt:87:1
 returns-3 : tie.Need-returns-3
 unfolding meanings meaningIn ascii
 returns-3 c = reason-told (c .before .before .before .before .before .before .before .args .out .now) (c .before .before .before .before .before .before .before .args .at) (c .before .before .before .before .before .before .before .args .number) receipt 10 (c .before .before .before .before .before .match .keys3) (c .before .before .put-words3 .ensures)
 
--- src/pieces.rt:87:1
 same-length-4 : tie.Need-same-length-4
 same-length-4 c = search needs
 
--- src/pieces.rt:87:1
 returns-4 : tie.Need-returns-4
 unfolding meanings meaningIn ascii
 returns-4 c = reason-told (c .before .before .before .before .before .before .before .args .out .now) (c .before .before .before .before .before .before .before .args .at) (c .before .before .before .before .before .before .before .args .number) receipt 11 (c .before .before .before .before .before .match .keys4) (c .before .before .put-words4 .ensures)
 
--- src/pieces.rt:87:1
 same-length-5 : tie.Need-same-length-5
 same-length-5 c = search needs
 
--- src/pieces.rt:87:1
 returns-5 : tie.Need-returns-5
 returns-5 c = receipt-other (c .before .before .before .before .before .before .args .out .now) (c .before .before .before .before .before .before .args .at) (c .before .before .before .before .before .before .args .number) (c .before .before .before .before .match .rest) (c .before .before .put-word .ensures)
 

@@ -1,33 +1,24 @@
+-- `sentence_write::sentences::put_certificate` meets its contract. Assumes nothing.
 use Rattle.sentence_write.proofs.TextLaws.{station-zero, station-other}
 use borrow.Author.Needs.{needs}
 use Rattle.sentence_write.proofs.sentences.put_certificate.Statement.{statement}
 use Rattle.sentence_write.proofs.sentences.put_certificate.Tie as tie
-use Rattle.sentence_write.proofs.sentences.put_certificate.Reads as reads
-use Rattle.sentence_write.proofs.sentences.put_certificate.Lts as lts
-use Rattle.sentence_write.proofs.sentences.put_certificate_refused.Reads as put-certificate-refused-reads
-use Rattle.sentence_write.proofs.sentences.put_certified.Reads as put-certified-reads
 
--- src/sentences.rt:96:9
 put-certified-requires : tie.Need-put-certified-requires
 put-certified-requires c κs = search needs
 
--- src/sentences.rt:97:9
 same-length : tie.Need-same-length
 same-length c = search needs
 
--- src/sentences.rt:97:9
 returns : tie.Need-returns
 returns c = station-zero (c .before .before .before .before .before .before .args .out .now) (c .before .before .before .before .before .before .args .number) (c .before .before .before .before .before .before .args .place) (c .before .before .before .before .before .before .args .mask) (c .before .before .before .before .if1 .taken) (c .before .before .put-certified .ensures)
 
--- src/sentences.rt:99:5
 put-certificate-refused-requires : tie.Need-put-certificate-refused-requires
 put-certificate-refused-requires c κs = search needs
 
--- src/sentences.rt:91:1
 same-length-2 : tie.Need-same-length-2
 same-length-2 c = search needs
 
--- src/sentences.rt:91:1
 returns-2 : tie.Need-returns-2
 returns-2 c = station-other (c .before .before .before .before .before .before .args .out .now) (c .before .before .before .before .before .before .args .number) (c .before .before .before .before .before .before .args .place) (c .before .before .before .before .before .before .args .mask) (c .before .before .before .before .if1 .left) (c .before .before .put-certificate-refused .ensures)
 
