@@ -3,11 +3,11 @@
 // the others in hexadecimal.
 ghost use Prim.Native.Nat.{_≤_};
 ghost use lib.ListN.{length};
+use octets::wide;
 use printing::hex;
 use printing::number;
 use printing::text;
 use refusal::Outcome;
-use octets::wide;
 use sentence_write::write_certificate_values;
 use sentence_write::write_receipt_values;
 
@@ -31,7 +31,7 @@ fn show(outcome: Outcome, s: &[u8]) {
     number(wide(outcome.number()));
     text(b" ");
     let n = size(s);
-    text(&s[..n]);
+    text(&s[0..n]);
     text(b" ");
     hex(&s[n..]);
     text(b"\n");
