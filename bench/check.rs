@@ -3,9 +3,9 @@ use crate::old::{old_of, Entry, Field, Log, Said};
 use crate::sides::{KeeperResult, Random, Run, Side, Verdict, KEEPER, PLAIN};
 use crate::tables::*;
 
-pub const CALLS: [&str; 15] = [
+pub const CALLS: [&str; 17] = [
     "hash", "tag", "format", "check", "free", "carry", "append", "advance", "truncate", "lookup", "end", "verify",
-    "verify end", "certify", "compare",
+    "verify end", "certify", "receipt sentence", "certificate sentence", "compare",
 ];
 const HASH: usize = 0;
 const TAG: usize = 1;
@@ -21,7 +21,9 @@ const END: usize = 10;
 const VERIFY: usize = 11;
 const VERIFY_END: usize = 12;
 const CERTIFY: usize = 13;
-const COMPARE: usize = 14;
+const RECEIPT_SENTENCE: usize = 14;
+const CERTIFICATE_SENTENCE: usize = 15;
+const COMPARE: usize = 16;
 
 /// The numbers that calls return: 15 is for lines of a script.
 const NUMBERS: [usize; 16] = [0, 1, 2, 3, 4, 5, 7, 8, 9, 10, 11, 12, 13, 14, 16, 17];
@@ -55,7 +57,7 @@ impl Part {
     /// Whether an answer to the call has it.
     fn is_of(self, call: usize) -> bool {
         match self {
-            Part::Blocks => ![CHECK, FREE].contains(&call),
+            Part::Blocks => ![CHECK, FREE, RECEIPT_SENTENCE, CERTIFICATE_SENTENCE].contains(&call),
             Part::Reserve => [FORMAT, CARRY].contains(&call),
             Part::Promise => [APPEND, ADVANCE].contains(&call),
             Part::Old => call == CARRY,
@@ -412,6 +414,28 @@ impl Check {
         };
         let says = || format!("roster, nonce, certificate; profile {profile:?}, log {log}, position {n}");
         self.case(CERTIFY, &[roster, nonce, certificate], run, says)
+    }
+
+    fn receipt_sentence(&mut self, number: u8, v: &Verdict, bytes: usize) -> Checked<Answer> {
+        let sentence = self.random.bytes(bytes);
+        let run = |side: &Side, b: &mut [Lent], _: &mut [u64; 5]| {
+            let own = *v;
+            let returned = side.receipt_sentence(number, &own, b[0].get_mut());
+            assert_eq!(own, *v, "{}: wrote the verdict", side.name);
+            alone(returned)
+        };
+        let answer = self.case(RECEIPT_SENTENCE, &[&sentence], run, || format!("number {number}, {v:?}"))?;
+        sentence_fits(answer)
+    }
+
+    fn certificate_sentence(&mut self, number: u8, place: u64, mask: u32, bytes: usize) -> Checked<Answer> {
+        let sentence = self.random.bytes(bytes);
+        let run = |side: &Side, b: &mut [Lent], _: &mut [u64; 5]| {
+            alone(side.certificate_sentence(number, place, mask, b[0].get_mut()))
+        };
+        let says = || format!("number {number}, place {place}, mask {mask:#x}");
+        let answer = self.case(CERTIFICATE_SENTENCE, &[&sentence], run, says)?;
+        sentence_fits(answer)
     }
 
     fn compare(&mut self, run1: &Run, run2: &Run, collision_bytes: usize) -> Checked<Answer> {
@@ -1565,6 +1589,84 @@ impl Check {
         Ok(())
     }
 
+    /// Narrow and wide, and the least and most of some widths.
+    fn any_number(&mut self) -> u64 {
+        match self.random.below(4) {
+            0 => self.random.below(20),
+            1 => self.random.pick(&[0, 9, 10, 99, 100, 1 << 32, 9_999_999_999_999_999_999, u64::MAX - 1, u64::MAX]),
+            _ => {
+                let shift = self.random.below(64);
+                self.random.next() >> shift
+            }
+        }
+    }
+
+    /// What a call answered: mostly 0, else a refusal, or what no call answers.
+    fn any_answer(&mut self) -> u8 {
+        match self.random.below(8) {
+            0..=4 => 0,
+            5 | 6 => 1 + self.random.below(20) as u8,
+            _ => self.random.next() as u8,
+        }
+    }
+
+    /// Some of the wording's own lines, every number of a refusal, and verdicts at random.
+    fn sentences(&mut self, times: u64) -> Checked<()> {
+        let verdict = Verdict { keeper: 7, log: 0, position: 3, kind: 2, reference: 5 };
+        for (number, text) in [
+            (0, "The receipt is accepted (0): keeper 7 says of log 0 that position 3 is skipped (kind 2), reference 5."),
+            (10, "The receipt is refused (10): its tag is wrong."),
+            (6, "The receipt is refused (6): unknown."),
+        ] {
+            let answer = self.receipt_sentence(number, &verdict, 200)?;
+            says_exactly(&answer, text)?;
+        }
+        for (number, mask, text) in [
+            (0, 0b10011, "The certificate stands (0) on receipt 2, agreed by members 0, 1, 4."),
+            (0, 0b10000, "The certificate stands (0) on receipt 2, agreed by member 4."),
+            (13, 0b10011, "The certificate is refused (13): too few members agree."),
+        ] {
+            let answer = self.certificate_sentence(number, 2, mask, 200)?;
+            says_exactly(&answer, text)?;
+        }
+        for number in 0..=255 {
+            self.receipt_sentence(number, &verdict, 200)?;
+            self.certificate_sentence(number, 2, 0b10011, 200)?;
+        }
+        for bytes in (0..=201).chain([255, 256, 400]) {
+            self.receipt_sentence(0, &verdict, bytes)?;
+            self.certificate_sentence(13, 2, 0, bytes)?;
+        }
+        let widest = Verdict { keeper: u64::MAX, log: u64::MAX, position: u64::MAX, kind: u64::MAX, reference: u64::MAX };
+        self.receipt_sentence(0, &widest, 200)?;
+        self.certificate_sentence(0, u64::MAX, u32::MAX, 200)?;
+        for i in 0..32 {
+            self.certificate_sentence(0, 31, 1 << i, 200)?;
+            self.certificate_sentence(0, 31, u32::MAX >> i, 200)?;
+        }
+        for _ in 0..200 * times {
+            let (number, bytes) = (self.any_answer(), self.length(200));
+            let kind = if self.random.once_in(8) { self.any_number() } else { self.random.below(4) };
+            let v = Verdict {
+                keeper: self.any_number(),
+                log: if self.random.once_in(4) { self.any_number() } else { self.random.below(16) },
+                position: self.any_number(),
+                kind,
+                reference: self.any_number(),
+            };
+            self.receipt_sentence(number, &v, bytes)?;
+            let (number, place, bytes) = (self.any_answer(), self.any_number(), self.length(200));
+            let mask = match self.random.below(4) {
+                0 => 1 << self.random.below(32),
+                1 => (self.random.next() & self.random.next() & self.random.next()) as u32,
+                2 => (self.random.next() | self.random.next()) as u32,
+                _ => self.random.next() as u32,
+            };
+            self.certificate_sentence(number, place, mask, bytes)?;
+        }
+        Ok(())
+    }
+
     fn runs(&mut self, times: u64) -> Checked<()> {
         for i in 0..120 * times {
             let most = if i % 100 == 0 { 1500 } else { 12 };
@@ -1729,6 +1831,7 @@ impl Check {
         self.carries(times)?;
         self.tables(times)?;
         self.certificates(times)?;
+        self.sentences(times)?;
         self.runs(times)?;
         self.every_byte()?;
         self.every_link()
@@ -1764,6 +1867,25 @@ fn known(answer: &Answer, digest: &str) -> Checked<()> {
     }
 }
 
+/// The answer, if an accepted one left a sentence that ends with a full stop, and zero bytes after it.
+fn sentence_fits(answer: Answer) -> Checked<Answer> {
+    let text = &answer.lent[0];
+    let end = text.iter().position(|b| *b == 0).unwrap_or(text.len());
+    let whole = end > 0 && text[end - 1] == b'.' && text.is_ascii() && text[end..].iter().all(|b| *b == 0);
+    if answer.number == 0 && !whole {
+        return Err(format!("no sentence and zero bytes: {}", hex(text)));
+    }
+    Ok(answer)
+}
+
+fn says_exactly(answer: &Answer, text: &str) -> Checked<()> {
+    if answer.number == 0 && answer.lent[0].starts_with(text.as_bytes()) && answer.lent[0][text.len()..].iter().all(|b| *b == 0) {
+        Ok(())
+    } else {
+        Err(format!("the sentence is {}, not {text}", String::from_utf8_lossy(&answer.lent[0])))
+    }
+}
+
 /// Runs the check and prints what it covered. False if a difference was found or some number never came up.
 pub fn run(seed: u64, times: u64) -> bool {
     let mut check = Check::new(seed, None);
@@ -1773,13 +1895,13 @@ pub fn run(seed: u64, times: u64) -> bool {
         println!("{text}");
         return false;
     }
-    print!("  {:<11}{:>9}", "answers", 0);
+    print!("  {:<21}{:>9}", "answers", 0);
     for number in &NUMBERS[1..] {
         print!("{number:>7}");
     }
     println!();
     for (call, counts) in CALLS.iter().zip(&check.counts) {
-        print!("  {call:<11}{:>9}", counts[0]);
+        print!("  {call:<21}{:>9}", counts[0]);
         for number in &NUMBERS[1..] {
             match counts[*number] {
                 0 => print!("{:>7}", "-"),

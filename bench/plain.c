@@ -1,7 +1,9 @@
-/* The keeper in plain C: the bench's yardstick, and an independent reading of document 01 and requests [1] to [8]. Portable C,
+/* The keeper in plain C: the bench's yardstick, and an independent reading of document 01 and requests [1] to [9]. Portable C,
  * no intrinsics. Blocks are counted where they are compressed, and added up on the way out. */
 #include "plain.h"
 
+#include <inttypes.h>
+#include <stdio.h>
 #include <string.h>
 
 static inline keeper_result done(uint64_t blocks)
@@ -788,6 +790,71 @@ keeper_result plain_certify(uint64_t members, uint64_t needed, const uint8_t *ro
         }
     }
     return (keeper_result){KEEPER_TOO_FEW, blocks};
+}
+
+/* ---- verdicts in words (docs/SENTENCES.md) ---- */
+
+enum { SENTENCE = 200 };
+
+/* The words of documents 01 and 02 for their numbers; 6 has none. */
+static const char *word_of(uint8_t number)
+{
+    static const char *const words[] = {
+        "unknown", "torn", "no log",   "position", "spent",  "full",    "unknown", "length", "counts",   "no receipt",
+        "tag",     "other question", "roster", "too few", "no run", "line", "promised", "profile", "survey", "seed",
+    };
+    return number < sizeof words / sizeof words[0] ? words[number] : "unknown";
+}
+
+static uint8_t put_sentence(const char *text, uint8_t *sentence, size_t bytes)
+{
+    if (bytes != SENTENCE)
+        return KEEPER_LENGTH;
+    memset(sentence, 0, SENTENCE);
+    memcpy(sentence, text, strlen(text));
+    return KEEPER_DONE;
+}
+
+uint8_t plain_receipt_sentence(uint8_t number, const keeper_verdict *verdict, uint8_t *sentence, size_t sentence_bytes)
+{
+    static const char *const kinds[] = {"unassigned", "assigned", "skipped", "forgotten"};
+    char text[SENTENCE + 1];
+    if (number == KEEPER_DONE)
+        snprintf(text, sizeof text,
+                 "The receipt is accepted (0): keeper %" PRIu64 " says of log %" PRIu64 " that position %" PRIu64
+                 " is %s (kind %" PRIu64 "), reference %" PRIu64 ".",
+                 verdict->keeper, verdict->log, verdict->position, verdict->kind < 4 ? kinds[verdict->kind] : "unknown",
+                 verdict->kind, verdict->reference);
+    else
+        snprintf(text, sizeof text, "The receipt is refused (%d): %s.", number,
+                 number == KEEPER_LENGTH           ? "the key or nonce has a wrong length"
+                 : number == KEEPER_NO_RECEIPT     ? "it is not a possible receipt"
+                 : number == KEEPER_TAG            ? "its tag is wrong"
+                 : number == KEEPER_OTHER_QUESTION ? "it answers another question"
+                                                   : word_of(number));
+    return put_sentence(text, sentence, sentence_bytes);
+}
+
+uint8_t plain_certificate_sentence(uint8_t number, uint64_t place, uint32_t mask, uint8_t *sentence, size_t sentence_bytes)
+{
+    char text[SENTENCE + 1];
+    if (number == KEEPER_DONE) {
+        int many = (mask & (mask - 1)) != 0, at;
+        at = snprintf(text, sizeof text, "The certificate stands (0) on receipt %" PRIu64 ", agreed by %s", place,
+                      mask == 0 ? "none" : many ? "members" : "member");
+        for (int i = 0, before = 0; i < MAX_MEMBERS; i++)
+            if (mask >> i & 1)
+                at += snprintf(text + at, sizeof text - at, "%s%d", before++ ? ", " : " ", i);
+        snprintf(text + at, sizeof text - at, ".");
+    } else
+        snprintf(text, sizeof text, "The certificate is refused (%d): %s.", number,
+                 number == KEEPER_LENGTH       ? "the nonce has a wrong length"
+                 : number == KEEPER_PROFILE    ? "the profile is not permitted"
+                 : number == KEEPER_ROSTER     ? "the roster is not valid"
+                 : number == KEEPER_NO_RECEIPT ? "it is not a pile of whole receipts, or too long"
+                 : number == KEEPER_TOO_FEW    ? "too few members agree"
+                                               : word_of(number));
+    return put_sentence(text, sentence, sentence_bytes);
 }
 
 /* ---- runs ---- */

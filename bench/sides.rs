@@ -26,6 +26,8 @@ type Verify = unsafe extern "C" fn(In, usize, In, usize, In, usize, u64, u64, u6
 type VerifyEnd = unsafe extern "C" fn(In, usize, In, usize, In, usize, u64, u64, *mut Verdict) -> KeeperResult;
 type Certify =
     unsafe extern "C" fn(u64, u64, In, usize, In, usize, u64, u64, In, usize, Num, *mut u32) -> KeeperResult;
+type ReceiptSentence = unsafe extern "C" fn(u8, *const Verdict, Out, usize) -> u8;
+type CertificateSentence = unsafe extern "C" fn(u8, u64, u32, Out, usize) -> u8;
 type Compare =
     unsafe extern "C" fn(In, usize, u64, In, usize, In, usize, u64, In, usize, Out, usize, *mut u8) -> KeeperResult;
 
@@ -45,13 +47,15 @@ pub struct Side {
     verify_lookup: Verify,
     verify_end: VerifyEnd,
     certify: Certify,
+    receipt_sentence: ReceiptSentence,
+    certificate_sentence: CertificateSentence,
     compare: Compare,
 }
 
 macro_rules! side {
     ($side:ident, $label:expr, $hash:ident, $tag:ident, $format:ident, $check:ident, $free:ident, $carry:ident,
      $append:ident, $advance:ident, $truncate:ident, $lookup:ident, $end:ident, $verify_lookup:ident,
-     $verify_end:ident, $certify:ident, $compare:ident) => {
+     $verify_end:ident, $certify:ident, $receipt_sentence:ident, $certificate_sentence:ident, $compare:ident) => {
         extern "C" {
             fn $hash(message: In, message_bytes: usize, digest: Out, digest_bytes: usize) -> KeeperResult;
             fn $tag(key: In, key_bytes: usize, text: In, text_bytes: usize, tag: Out, tag_bytes: usize) -> KeeperResult;
@@ -89,6 +93,8 @@ macro_rules! side {
                 members: u64, needed: u64, roster: In, roster_bytes: usize, nonce: In, nonce_bytes: usize, log: u64,
                 position: u64, certificate: In, certificate_bytes: usize, place: Num, mask: *mut u32,
             ) -> KeeperResult;
+            fn $receipt_sentence(number: u8, verdict: *const Verdict, sentence: Out, sentence_bytes: usize) -> u8;
+            fn $certificate_sentence(number: u8, place: u64, mask: u32, sentence: Out, sentence_bytes: usize) -> u8;
             fn $compare(
                 start1: In, start1_bytes: usize, first1: u64, values1: In, values1_bytes: usize, start2: In,
                 start2_bytes: usize, first2: u64, values2: In, values2_bytes: usize, collision: Out,
@@ -111,6 +117,8 @@ macro_rules! side {
             verify_lookup: $verify_lookup,
             verify_end: $verify_end,
             certify: $certify,
+            receipt_sentence: $receipt_sentence,
+            certificate_sentence: $certificate_sentence,
             compare: $compare,
         };
     };
@@ -119,12 +127,12 @@ macro_rules! side {
 side!(
     KEEPER, "keeper", keeper_hash, keeper_tag, keeper_format, keeper_check, keeper_free, keeper_carry, keeper_append,
     keeper_advance, keeper_truncate, keeper_lookup, keeper_end, keeper_verify_lookup, keeper_verify_end, keeper_certify,
-    keeper_compare
+    keeper_receipt_sentence, keeper_certificate_sentence, keeper_compare
 );
 side!(
     PLAIN, "plain C", plain_hash, plain_tag, plain_format, plain_check, plain_free, plain_carry, plain_append,
     plain_advance, plain_truncate, plain_lookup, plain_end, plain_verify_lookup, plain_verify_end, plain_certify,
-    plain_compare
+    plain_receipt_sentence, plain_certificate_sentence, plain_compare
 );
 
 // What keeper.h asks holds of slices and references: pointers that are not null, bytes that can be read or written, and
@@ -230,6 +238,14 @@ impl Side {
                 certificate.as_ptr(), certificate.len(), place, mask,
             )
         }
+    }
+
+    pub fn receipt_sentence(&self, number: u8, verdict: &Verdict, sentence: &mut [u8]) -> u8 {
+        unsafe { (self.receipt_sentence)(number, verdict, sentence.as_mut_ptr(), sentence.len()) }
+    }
+
+    pub fn certificate_sentence(&self, number: u8, place: u64, mask: u32, sentence: &mut [u8]) -> u8 {
+        unsafe { (self.certificate_sentence)(number, place, mask, sentence.as_mut_ptr(), sentence.len()) }
     }
 
     pub fn compare(&self, run1: &Run, run2: &Run, collision: &mut [u8], verdict: &mut u8) -> KeeperResult {

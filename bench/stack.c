@@ -13,7 +13,7 @@ static uint8_t *at_call;
 static const uint64_t reserves[2] = {1, 2};
 static uint8_t table[KEEPER_TABLE_BYTES(2, 6)], key[100], nonce[32], value[32], receipt[160], end[160], collision[144];
 static uint8_t old[52 + 2 * 20 + 6 * 76], copy[sizeof table];
-static uint8_t roster[3 * KEEPER_MEMBER_BYTES], certificate[32 * 160], values[4 * 32];
+static uint8_t roster[3 * KEEPER_MEMBER_BYTES], certificate[32 * 160], values[4 * 32], sentence[KEEPER_SENTENCE_BYTES];
 static uint64_t low, high, examined, place;
 static uint32_t mask;
 static uint8_t found;
@@ -44,6 +44,8 @@ CALL(keeper_truncate, table, sizeof table, 0, 9, &low, &high)
 CALL(keeper_verify_lookup, key, 32, receipt, 160, nonce, 32, 7, 0, 9, &verdict)
 CALL(keeper_verify_end, key, 32, end, 160, nonce, 32, 7, 0, &verdict)
 CALL(keeper_certify, 3, 2, roster, sizeof roster, nonce, 32, 0, 9, certificate, sizeof certificate, &place, &mask)
+CALL_ALONE(keeper_receipt_sentence, 0, &verdict, sentence, sizeof sentence)
+CALL_ALONE(keeper_certificate_sentence, 0, 31, UINT32_MAX, sentence, sizeof sentence)
 CALL(keeper_compare, nonce, 32, 1, values, sizeof values, nonce, 32, 1, values, sizeof values, collision, 144, &found)
 
 static void measure(const char *name, void (*run)(void))
@@ -104,6 +106,8 @@ int main(void)
     certificate[160 + KEEPER_AT_KEEPER + 7] = 6;
     keeper_tag(roster + 48, 32, certificate + 160, KEEPER_AT_TAG, certificate + 160 + KEEPER_AT_TAG, 32);
     MEASURE(keeper_certify);
+    MEASURE(keeper_receipt_sentence);
+    MEASURE(keeper_certificate_sentence);
     MEASURE(keeper_compare);
     return 0;
 }

@@ -434,6 +434,34 @@ impl Table {
         }
     }
 
+    /// An accepted verdict of short numbers and one of long ones, and the least and most members.
+    fn sentences(&mut self) {
+        self.head("Verdicts in words", "plain C");
+        let short = Verdict { keeper: 7, log: 0, position: 3, kind: 2, reference: 5 };
+        let long = Verdict { keeper: u64::MAX, log: 15, position: u64::MAX - 1, kind: 2, reference: u64::MAX };
+        let (mut s1, mut s2) = ([0; 200], [0; 200]);
+        for (label, number, verdict) in
+            [("receipt accepted, short numbers", 0, &short), ("receipt accepted, long ones", 0, &long), ("receipt refused", 10, &short)]
+        {
+            let times = self.timer.pair(
+                || assert_eq!(KEEPER.receipt_sentence(number, black_box(verdict), &mut s1), 0),
+                || assert_eq!(PLAIN.receipt_sentence(number, black_box(verdict), &mut s2), 0),
+            );
+            assert_eq!(s1, s2);
+            self.row(label, &times, None, "");
+        }
+        for (label, number, mask) in
+            [("certificate, 1 member", 0, 16), ("certificate, 32 members", 0, u32::MAX), ("certificate refused", 13, 0)]
+        {
+            let times = self.timer.pair(
+                || assert_eq!(KEEPER.certificate_sentence(number, 2, black_box(mask), &mut s1), 0),
+                || assert_eq!(PLAIN.certificate_sentence(number, 2, black_box(mask), &mut s2), 0),
+            );
+            assert_eq!(s1, s2);
+            self.row(label, &times, None, "");
+        }
+    }
+
     fn runs(&mut self) {
         self.head("Comparison of two equal runs", "plain C");
         let mut random = Random(8);
@@ -504,6 +532,7 @@ pub fn run(quick: bool) -> bool {
     table.carries();
     table.verifiers();
     table.certificates();
+    table.sentences();
     table.runs();
     println!("\n{} rows, {} over their aim", table.rows, table.over.len());
     for row in &table.over {

@@ -35,7 +35,7 @@ extern "C" {
 #endif
 
 /* One more with each change of a prototype, a constant, a rule, or the bytes of a table or receipt. */
-#define KEEPER_VERSION 9
+#define KEEPER_VERSION 10
 
 /* Numbers returned. */
 enum {
@@ -67,7 +67,8 @@ enum {
     KEEPER_NONCE_BYTES = 32,
     KEEPER_RECEIPT_BYTES = 160,
     KEEPER_COLLISION_BYTES = 144,
-    KEEPER_MEMBER_BYTES = 40 /* an item of a roster: keeper number, big-endian, and key */
+    KEEPER_MEMBER_BYTES = 40,   /* an item of a roster: keeper number, big-endian, and key */
+    KEEPER_SENTENCE_BYTES = 200 /* a verdict in words; no terminating zero is among them */
 };
 
 /* The most of each. */
@@ -222,6 +223,20 @@ keeper_result keeper_verify_end(const uint8_t *key, size_t key_bytes, const uint
 keeper_result keeper_certify(uint64_t members, uint64_t needed, const uint8_t *roster, size_t roster_bytes,
                              const uint8_t *nonce, size_t nonce_bytes, uint64_t log, uint64_t position,
                              const uint8_t *certificate, size_t certificate_bytes, uint64_t *place, uint32_t *mask);
+
+/* Writes a verdict on a receipt as one English sentence in ASCII, for a duty book: number is what keeper_verify_lookup or
+ * keeper_verify_end returned, verdict what it filled. Number 0 says the verdict's five numbers, any other the refusal, whatever
+ * stands in the verdict. Verdicts that differ in a number have different sentences, also from every certificate's;
+ * docs/SENTENCES.md has the wording.
+ *
+ * The sentence stands at the buffer's start, and zero bytes fill the rest. It may take all KEEPER_SENTENCE_BYTES, so there need not
+ * be a terminating zero: print it by "%.200s". Hashes nothing. Refused: 7 for another length of sentence. */
+uint8_t keeper_receipt_sentence(uint8_t number, const keeper_verdict *verdict, uint8_t *sentence, size_t sentence_bytes);
+
+/* The same of a verdict on a certificate: number is what keeper_certify returned, place and mask what it filled. Members are
+ * named by their places in the roster, from 0. */
+uint8_t keeper_certificate_sentence(uint8_t number, uint64_t place, uint32_t mask, uint8_t *sentence,
+                                    size_t sentence_bytes);
 
 /* Compares two runs, each a start digest, a first position and values of 32 bytes at consecutive positions. A value's block
  * is its position, the value and the digest before it, 72 bytes, and its digest SHA-256 of the block, as an append makes it.

@@ -1,6 +1,6 @@
 /* A crest is put, looked up and verified; then what the receipt says is read out of its bytes. The crest's log has slots promised
  * to it, so another log that puts all it can leaves it room. The status screen reads the number of free slots before and after,
- * and the battery sheet gets the blocks hashed. */
+ * the battery sheet gets the blocks hashed, and the duty book the verdict in words. */
 #include "keeper.h"
 #include <inttypes.h>
 #include <stdio.h>
@@ -26,7 +26,7 @@ int main(void)
     const uint64_t reserves[2] = {[STAGE] = 4, [WATER_QUALITY] = 0};
     const uint8_t key[KEEPER_KEY_BYTES] = {1}, nonce[KEEPER_NONCE_BYTES] = {2};
     const uint8_t crest[KEEPER_VALUE_BYTES] = {[30] = 455 / 256, [31] = 455 % 256}, chatter[KEEPER_VALUE_BYTES] = {7};
-    uint8_t receipt[KEEPER_RECEIPT_BYTES], tag[KEEPER_DIGEST_BYTES];
+    uint8_t receipt[KEEPER_RECEIPT_BYTES], tag[KEEPER_DIGEST_BYTES], sentence[KEEPER_SENTENCE_BYTES];
     uint64_t low, high, examined, free_before, free_after;
     keeper_verdict verdict;
     keeper_result refused;
@@ -56,6 +56,9 @@ int main(void)
     printf("status screen: %" PRIu64 " slots free, after the append %" PRIu64 "\n", free_before, free_after);
     printf("verdict: kind %" PRIu64 ", log %" PRIu64 ", keeper %" PRIu64 ", position %" PRIu64 ", reference %" PRIu64 "\n",
            verdict.kind, verdict.log, verdict.keeper, verdict.position, verdict.reference);
+    if (keeper_receipt_sentence((uint8_t)verified.number, &verdict, sentence, sizeof sentence) != KEEPER_DONE)
+        return 1;
+    printf("duty book: %.*s\n", (int)sizeof sentence, (const char *)sentence);
     printf("receipt: kind %d, log %d, keeper %" PRIu64 ", position %" PRIu64 ", reference %" PRIu64 ", %.6s\n",
            receipt[KEEPER_AT_KIND], receipt[KEEPER_AT_LOG], number_at(receipt + KEEPER_AT_KEEPER),
            number_at(receipt + KEEPER_AT_POSITION), number_at(receipt + KEEPER_AT_REFERENCE),

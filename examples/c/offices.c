@@ -1,6 +1,6 @@
 /* Three forecast offices along a river. A station of three keepers records the crest; every office has the station's roster,
  * wants two of the keepers to agree, and asks with a nonce of its own. The first office's certificate stands though a keeper
- * shows another value, the second's falls short, and the third compares two runs of readings. */
+ * shows another value, the second's falls short, both told in words, and the third compares two runs of readings. */
 #include "keeper.h"
 #include <inttypes.h>
 #include <stdio.h>
@@ -59,20 +59,21 @@ static int fetched(int k, const uint8_t *nonce, uint8_t *receipt)
 
 static void certify(const char *office, const uint8_t *nonce, const uint8_t *receipts, size_t count)
 {
-    uint64_t place;
-    uint32_t mask;
+    uint8_t sentence[KEEPER_SENTENCE_BYTES];
+    uint64_t place = 0;
+    uint32_t mask = 0;
     keeper_result answer = keeper_certify(KEEPERS, NEEDED, roster, sizeof roster, nonce, KEEPER_NONCE_BYTES, STAGE, CREST,
                                           receipts, count * KEEPER_RECEIPT_BYTES, &place, &mask);
-    printf("%s: %zu receipts, %" PRIu64 " blocks hashed, answer %" PRIu64, office, count, answer.blocks, answer.number);
+    keeper_certificate_sentence((uint8_t)answer.number, place, mask, sentence, sizeof sentence);
+    printf("%s: %zu receipts, %" PRIu64 " blocks hashed. %.*s", office, count, answer.blocks, (int)sizeof sentence,
+           (const char *)sentence);
     if (answer.number == KEEPER_DONE) {
         const uint8_t *receipt = receipts + place * KEEPER_RECEIPT_BYTES;
-        printf(", certified value %" PRIu64 " in receipt %" PRIu64 ", shown by keepers",
-               number_in(receipt + KEEPER_AT_VALUE, KEEPER_VALUE_BYTES), place);
+        printf(" The value is %" PRIu64 ", shown by keepers", number_in(receipt + KEEPER_AT_VALUE, KEEPER_VALUE_BYTES));
         for (int k = 0; k < KEEPERS; k++)
             if (mask >> k & 1)
                 printf(" %" PRIu64, number_in(roster + k * KEEPER_MEMBER_BYTES, 8));
-    } else if (answer.number == KEEPER_TOO_FEW) {
-        printf(" (too few); value %" PRIu64 " is not certified", number_in(receipts + KEEPER_AT_VALUE, KEEPER_VALUE_BYTES));
+        printf(".");
     }
     printf("\n");
 }

@@ -14,10 +14,10 @@ Exit status: 0 every receipt was accepted, 1 one was not, 2 the file or the comm
 import ctypes
 import sys
 
-# include/keeper.h: the numbers of the verifier, the kinds, and where a receipt has its value
-WORDS = {0: "done", 7: "length", 9: "no receipt", 10: "tag", 11: "other question"}
-KINDS = ["unassigned", "assigned", "skipped", "forgotten"]
+# include/keeper.h: the kinds that show an entry, where a receipt has its value, and the bytes of a sentence
+ASSIGNED, SKIPPED = 1, 2
 VALUE = slice(64, 96)
+SENTENCE_BYTES = 200
 
 
 class Result(ctypes.Structure):
@@ -37,6 +37,8 @@ def load(path):
     library.keeper_verify_end.argtypes = buffer * 3 + [number] * 2 + result
     for call in (library.keeper_verify_lookup, library.keeper_verify_end):
         call.restype = Result
+    library.keeper_receipt_sentence.argtypes = [ctypes.c_uint8] + result + buffer
+    library.keeper_receipt_sentence.restype = ctypes.c_uint8
     return library
 
 
@@ -47,6 +49,14 @@ def verify(library, key, receipt, nonce, keeper, log, position=None):
     if position is None:
         return library.keeper_verify_end(*buffers, keeper, log, verdict), verdict
     return library.keeper_verify_lookup(*buffers, keeper, log, position, verdict), verdict
+
+
+def in_words(library, result, verdict):
+    """The verdict as a sentence."""
+    sentence = ctypes.create_string_buffer(SENTENCE_BYTES)
+    if library.keeper_receipt_sentence(result.number, verdict, sentence, len(sentence)):
+        raise RuntimeError("the library wants another length of sentence")
+    return sentence.raw.rstrip(b"\0").decode("ascii")
 
 
 def number(text):
@@ -64,13 +74,10 @@ def answer(library, keys, fields):
     if numbers[0] not in keys:
         raise ValueError(f"no key of keeper {numbers[0]} stands before it")
     result, verdict = verify(library, keys[numbers[0]], receipt, nonce, *numbers)
-    asked = ",".join(fields[:-2])
-    if result.number:
-        return f"{asked}: refused, {result.number} ({WORDS[result.number]})", False, result.blocks
-    found = f"{KINDS[verdict.kind]}, position {verdict.position}, reference {verdict.reference}"
-    if KINDS[verdict.kind] in ("assigned", "skipped"):  # a skipped one shows the entry at its reference
-        found += f", value {int.from_bytes(receipt[VALUE], 'big')}"
-    return f"{asked}: {found}", True, result.blocks
+    found = f"{','.join(fields[:-2])}: {in_words(library, result, verdict)}"
+    if result.number == 0 and verdict.kind in (ASSIGNED, SKIPPED):  # a skipped one shows the entry at its reference
+        found += f" Value {int.from_bytes(receipt[VALUE], 'big')}."
+    return found, result.number == 0, result.blocks
 
 
 def main():

@@ -24,6 +24,7 @@ use Rattle.receipt.specs.Writer.{writeRefusal}
 use Rattle.receipt.specs.Verdict.{carried, unread, verifyRefusal, verdict}
 use Rattle.receipt.specs.declared.Question.{Question}
 use Rattle.quorum.specs.Certificate.{unread as unreadPile, firstPlace, named, certificateRefusal, certificate}
+use Rattle.sentence.specs.Sentence.{sentenceRefusal}
 use Rattle.a2m.specs.Call.{Call, Reply, refused, done, found, ended}
 use Rattle.a2m.specs.TableCalls.{tableStep}
 use Rattle.a2m.proofs.NeverSix.{table-answer}
@@ -109,6 +110,15 @@ module _ (n k : ℕ) (roster nonce : List ℕ) (log position : ℕ) (cert : List
   pub certify-number : certificate n k roster nonce log position cert .number ≢ 6
   unfolding certificate
   certify-number = never-numbered 6 not-done (certificateRefusal n k roster nonce log position cert) (named roster nonce log position cert (firstPlace roster nonce log position cert k)) certify-refusal
+
+-- ---- verdicts in words
+
+sentence-refusal : (out : List ℕ) → sentenceRefusal out ≢ some 6
+unfolding sentenceRefusal
+sentence-refusal out = never 6 _ refl
+
+pub sentence-number : (out : List ℕ) → answerOf (sentenceRefusal out) ≢ 6
+sentence-number out = never-answered 6 not-done (sentenceRefusal out) (sentence-refusal out)
 
 -- ---- runs
 

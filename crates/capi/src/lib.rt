@@ -3,5 +3,6 @@
 pub mod calls;
 pub mod comparing;
 pub mod hashes;
+pub mod sentences;
 pub mod tables;
 pub mod verdicts;
