@@ -37,6 +37,20 @@ early (closes g s x) = turnedAway (advance g (packed s lastReading) (zeros 32) x
 unfoldable pub madeOf : Request → Option Call
 madeOf q = elim (early q) [ none ↦ some (callOf q) | some k ↦ none ]
 
+-- "demand 3 counts them as the calls they make": the calls of a list of requests, without those turned away
+unfoldable pub made : List Request → List Call
+made [] = []
+made (q ∷ qs) = elim (madeOf q) [ none ↦ made qs | some c ↦ c ∷ made qs ]
+
+-- what those calls gave, and between them what a request that is turned away gives
+abbrev next : {A : Type 0} → (List A → List A) → List A → List A
+next more [] = []
+next more (a ∷ rest) = a ∷ more rest
+
+unfoldable pub woven : {A : Type 0} → (ℕ → A) → List Request → List A → List A
+woven away [] rest = []
+woven away (q ∷ qs) rest = elim (early q) [ none ↦ next (woven away qs) rest | some k ↦ away k ∷ woven away qs rest ]
+
 -- a step of calls as one of requests: "A refusal changes no lent byte", and its blocks are "0 for a table call"
 unfoldable pub requestStep : {S : Type 0} → (S → Call → Effect S) → S → Request → Effect S
 requestStep step s q = elim (early q) [ none ↦ step s (callOf q) | some k ↦ effect (refused k) 0 s ]

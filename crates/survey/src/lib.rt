@@ -1,6 +1,6 @@
 // Surveys: a survey number of 24 bits and a reading number of 40 bits make a position.
 ghost use mathlib.Core.Path.{_≡_};
-ghost use Rattle.survey.specs.Packing.{packing, packingAnswer, surveyOf, readingOf};
+ghost use Rattle.survey.specs.Packing.{packing, packingAnswer, lastReading, surveyOf, readingOf};
 use refusal::Refusal;
 
 pub struct Survey(pub u64);
@@ -48,4 +48,11 @@ pub fn split(position: Packed) -> Place
         survey: Survey(n / READINGS),
         reading: Reading(n % READINGS),
     }
+}
+
+// The reading that closes a survey: the last of its 40 bits.
+pub fn last_reading() -> Reading
+    ensures { λ r. ⌜ r .0 ≡ lastReading ⌝ }
+{
+    Reading(READINGS - 1)
 }
