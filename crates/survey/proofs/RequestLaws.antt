@@ -20,10 +20,6 @@ use Rattle.survey.proofs.PackingLaws.{packed-fits, fits}
 -- ---- one request
 
 module _ (c : Call) (w : Bool) where
-  pub not-away : turnedAway c w ≡ none → (wrongLength c ≡ false) × (w ≡ false)
-  unfolding turnedAway
-  not-away h = let p = peel 7 (wrongLength c) (fault 18 w ∷ []) h in (p .0, peel 18 w [] (p .1) .0)
-
   pub away-length : wrongLength c ≡ true → turnedAway c w ≡ some 7
   unfolding turnedAway firstFault
   away-length h = rw h
@@ -35,6 +31,10 @@ module _ (c : Call) (w : Bool) where
   pub stays : wrongLength c ≡ false → w ≡ false → turnedAway c w ≡ none
   unfolding turnedAway firstFault
   stays h k = rw (h, k)
+
+  pub not-away : turnedAway c w ≡ none → (wrongLength c ≡ false) × (w ≡ false)
+  unfolding turnedAway
+  not-away h = let p = peel 7 (wrongLength c) (fault 18 w ∷ []) h in (p .0, peel 18 w [] (p .1) .0)
 
   pub only : (k : ℕ) → turnedAway c w ≡ some k → (k ≡ 7) ⊎ (k ≡ 18)
   unfolding turnedAway firstFault
