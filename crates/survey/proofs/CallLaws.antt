@@ -1,19 +1,11 @@
 -- How a call by survey and reading on a table ends, for each way out: turned away with 7 or 18, or as the call that it makes. Over plain values: b is the
 -- table before, a the one after; old is the lent receipt before, out the one after.
 use Prim.Native.Nat.{ℕ}
-<<<<<<< HEAD
-use mathlib.Core.Path.{_≡_, sym, ap, ap₂, subst, _∙_}
-use mathlib.Core.Logic.{_≢_}
-use mathlib.Core.Bool.{Bool, true, false, not, _||_}
-use mathlib.Core.List.{List, [], _∷_}
-use mathlib.Core.Option.{none, some}
-=======
 use mathlib.Core.Path.{_≡_, refl, sym, ap, ap₂, subst, _∙_}
 use mathlib.Core.Logic.{_≢_}
 use mathlib.Core.Bool.{Bool, true, false, not, _||_}
 use mathlib.Core.List.{List, [], _∷_}
 use mathlib.Core.Option.{Option, none, some}
->>>>>>> f1a615fbba0da692f7fee0eb1ea6af0f31999d7c
 use lib.ListN.{length}
 use lib.Dec.{eqb}
 use borrow.Author.Tests.{eq-eqb, ne-eqb}
@@ -25,11 +17,8 @@ use Rattle.a2m.specs.Call.{advance, lookup, Reply, refused, Effect}
 use Rattle.a2m.specs.ImageCalls.{wrongLength}
 use Rattle.a2m.specs.TableCalls.{tableStep}
 use Rattle.a2m.specs.Opened.{receiptAfter}
-<<<<<<< HEAD
-=======
 use Rattle.a2m.proofs.AnswerLaws.{refused-blocks}
 use Rattle.a2m.proofs.Unchanged.{refused-unchanged}
->>>>>>> f1a615fbba0da692f7fee0eb1ea6af0f31999d7c
 use Rattle.a2m.proofs.CallLaws.{Steps, advance-sized}
 use Rattle.a2m.proofs.ReadLaws.{Reads, lookup-sized}
 use Rattle.survey.specs.Packing.{packed, tooWide, lastReading, packing}
@@ -62,8 +51,6 @@ module _ (b : List ℕ) (q : Request) where
   made-reads : early q ≡ none → (r : Reply) (k : ℕ) (out old : List ℕ) → Reads b (callOf q) r k out old → RequestReads b q r k out old
   made-reads h r k out old p = subst (λ (f : Effect (List ℕ)). (r ≡ f .reply) × ((k ≡ f .blocks) × (out ≡ receiptAfter (f .reply) old))) (sym (made-step tableStep b q h)) p
 
-<<<<<<< HEAD
-=======
   -- "A refusal changes no lent byte", and by request [2] hashed nothing
   pub refused-request : (k : ℕ) → requestStep tableStep b q .reply ≡ refused k → (requestStep tableStep b q .state ≡ b) × (requestStep tableStep b q .blocks ≡ 0)
   refused-request k h = go (early q) refl
@@ -75,7 +62,6 @@ module _ (b : List ℕ) (q : Request) where
           (ap (λ (f : Effect (List ℕ)). f .state) m ∙ u .0, ap (λ (f : Effect (List ℕ)). f .blocks) m ∙ refused-blocks b (callOf q) k (u .1))
       go (some j) e = let p = away-steps j e in (sym (p .1 .1), sym (p .1 .0))
 
->>>>>>> f1a615fbba0da692f7fee0eb1ea6af0f31999d7c
 -- one of two lengths is wrong
 first-wrong : (m n k : ℕ) → m ≢ 32 → not (eqb m 32) || not (eqb n k) ≡ true
 first-wrong m n k h = ap (λ (t : Bool). not t || not (eqb n k)) (ne-eqb m 32 h)

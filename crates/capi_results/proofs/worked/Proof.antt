@@ -18,14 +18,9 @@ returns : tie.Need-returns
 returns c = search needs
 
 returns-2 : tie.Need-returns-2
-<<<<<<< HEAD
-returns-2 c = let e = sym (c .before .before .answer2 .given .1) in
-    (c .refused .ensures .0 ∙ ap workedNumber e, c .refused .ensures .1 ∙ ap workedBlocks e)
-=======
 returns-2 c =
     let e = c .before .before .answer2 .given .1 in
     (c .refused .ensures .0 ∙ sym (ap workedNumber e), c .refused .ensures .1 ∙ sym (ap workedBlocks e))
->>>>>>> f1a615fbba0da692f7fee0eb1ea6af0f31999d7c
 
 pub worked-spec : {M : Type 1} → statement M
 worked-spec =
