@@ -57,7 +57,14 @@ pub extern "C" fn keeper_survey_advance(
     ensures low { λ _. ⌜ now (low .exit) ≡ lowAfter (requestStep tableStep (now (table .entry)) (advances log survey reading (now (digest .entry)) (now (value .entry))) .reply) (now (low .entry)) ⌝ }
     ensures high { λ _. ⌜ now (high .exit) ≡ highAfter (requestStep tableStep (now (table .entry)) (advances log survey reading (now (digest .entry)) (now (value .entry))) .reply) (now (high .entry)) ⌝ }
 {
-    let change = survey_calls::advance::advance(table, log, Survey(survey), Reading(reading), digest, value);
+    let change = survey_calls::advance::advance(
+        table,
+        log,
+        Survey(survey),
+        Reading(reading),
+        digest,
+        value,
+    );
     changed(change, low, high)
 }
 
@@ -76,7 +83,14 @@ pub extern "C" fn keeper_survey_lookup(
     ensures bytes { λ _. ⌜ now (receipt .exit) ≡ receiptAfter (requestStep tableStep (now (table .entry)) (looks log survey reading (now (nonce .entry)) (length (now (receipt .entry)))) .reply) (now (receipt .entry)) ⌝ }
     ensures examined { λ _. ⌜ now (examined .exit) ≡ examinedAfter (requestStep tableStep (now (table .entry)) (looks log survey reading (now (nonce .entry)) (length (now (receipt .entry)))) .reply) (now (examined .entry)) ⌝ }
 {
-    let finding = survey_calls::lookup::lookup(table, log, Survey(survey), Reading(reading), nonce, receipt);
+    let finding = survey_calls::lookup::lookup(
+        table,
+        log,
+        Survey(survey),
+        Reading(reading),
+        nonce,
+        receipt,
+    );
     looked_up(finding, examined)
 }
 

@@ -86,8 +86,7 @@ any-receipt (finding.Refused why b) receipt examined = (refl, (refl, refl))
 pub handed-on : {n b e k : ℕ} {r : Reply} {B : Type 0} (v : Finding) (receipt : List ℕ) (examined : ℕ) → Looked n b e examined (findingReply v []) (findingBlocks v) → (findingReply v receipt ≡ r) × ((findingBlocks v ≡ k) × B)
     → (n ≡ replyNumber r) × ((b ≡ k) × (B × (e ≡ examinedAfter r examined)))
 handed-on v receipt examined h f =
-    let w = any-receipt v receipt examined in
-    (
+    let w = any-receipt v receipt examined in (
       h .0 ∙ w .0 ∙ ap replyNumber (f .0),
       (h .1 .0 ∙ f .1 .0, (f .1 .1, h .1 .1 ∙ w .1 .1 ∙ ap (λ (x : Reply). examinedAfter x examined) (f .0))),
     )
