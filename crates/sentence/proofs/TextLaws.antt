@@ -7,16 +7,25 @@ use mathlib.Core.List.{List, [], _∷_, _++_}
 use mathlib.Core.Option.{none, some}
 use native.Mathlib.Omega.{arith}
 use lib.ListN.{length}
-use borrow.Author.Tests.{not-false}
+use lib.Dec.{leb}
+use borrow.Author.Tests.{leb-true}
 use Rattle.octets.proofs.Tests.{and-left, and-right}
 use Rattle.decimal.specs.Decimal.{decimalOf, isDigit, allDigits, valueAfter, valueOf, startsWell}
 use Rattle.decimal.proofs.Theorems.{decimal-value, decimal-digits, decimal-starts}
 use Rattle.sentence.specs.Text.{ascii, Piece, words, number, pieceText, textOf, numbersFrom, numbersIn}
 
+-- a printed byte that is no digit
+abbrev pub plain : ℕ → Bool
+plain b = not (isDigit b) && leb 32 b
+
 -- no byte is a digit; and there is a byte
 unfoldable pub wordless : List ℕ → Bool
 wordless [] = true
-wordless (b ∷ l) = not (isDigit b) && wordless l
+wordless (b ∷ l) = plain b && wordless l
+
+no-digit : (b : ℕ) (l : List ℕ) → wordless (b ∷ l) ≡ true → not (isDigit b) ≡ true
+unfolding wordless
+no-digit b l h = and-left (not (isDigit b)) (leb 32 b) (and-left (plain b) (wordless l) h)
 
 abbrev pub isWords : List ℕ → Bool
 isWords [] = false
@@ -25,7 +34,7 @@ isWords (b ∷ l) = wordless (b ∷ l)
 skip-words : (w t : List ℕ) → wordless w ≡ true → numbersFrom none (w ++ t) ≡ numbersFrom none t
 unfolding numbersFrom wordless
 skip-words [] t h = refl
-skip-words (b ∷ w) t h = go (isDigit b) (and-left (not (isDigit b)) (wordless w) h) (skip-words w t (and-right (not (isDigit b)) (wordless w) h))
+skip-words (b ∷ w) t h = go (isDigit b) (no-digit b w h) (skip-words w t (and-right (plain b) (wordless w) h))
   where
     go : (x : Bool) → not x ≡ true → numbersFrom none (w ++ t) ≡ numbersFrom none t → cond x (numbersFrom (some (b - 48)) (w ++ t)) (numbersFrom none (w ++ t)) ≡ numbersFrom none t
     go true e q = absurd (let z : _≡_ {A = ℕ} 0 1 = cc in omega arith)
@@ -34,7 +43,7 @@ skip-words (b ∷ w) t h = go (isDigit b) (and-left (not (isDigit b)) (wordless 
 end-number : (v : ℕ) (w t : List ℕ) → isWords w ≡ true → numbersFrom (some v) (w ++ t) ≡ v ∷ numbersFrom none t
 unfolding numbersFrom wordless
 end-number v [] t h = absurd (let z : _≡_ {A = ℕ} 0 1 = cc in omega arith)
-end-number v (b ∷ w) t h = go (isDigit b) (and-left (not (isDigit b)) (wordless w) h) (skip-words w t (and-right (not (isDigit b)) (wordless w) h))
+end-number v (b ∷ w) t h = go (isDigit b) (no-digit b w h) (skip-words w t (and-right (plain b) (wordless w) h))
   where
     go : (x : Bool) → not x ≡ true → numbersFrom none (w ++ t) ≡ numbersFrom none t → cond x (numbersFrom (some (v * 10 + (b - 48))) (w ++ t)) (v ∷ numbersFrom none (w ++ t)) ≡ v ∷ numbersFrom none t
     go true e q = absurd (let z : _≡_ {A = ℕ} 0 1 = cc in omega arith)
@@ -95,3 +104,36 @@ mutual
   shown-open v (words w ∷ ps) h s =
       end-number v (ascii w) (textOf ps) (and-left (isWords (ascii w)) (parted false ps) h) ∙ ap {B = List ℕ} (λ (l : List ℕ). v ∷ l) (shown ps (and-right (isWords (ascii w)) (parted false ps) h) s)
   shown-open v (number n ∷ ps) h s = absurd (let z : _≡_ {A = ℕ} 0 1 = cc in omega arith)
+
+-- ---- every byte is printed, so none is 0
+
+unfoldable pub Printed : List ℕ → Type 0
+Printed [] = Unit {0}
+Printed (b ∷ l) = (32 ≤ b) × Printed l
+
+printed-append : (a b : List ℕ) → Printed a → Printed b → Printed (a ++ b)
+unfolding Printed
+printed-append [] b p q = q
+printed-append (x ∷ a) b p q = (p .0, printed-append a b (p .1) q)
+
+printed-digits : (l : List ℕ) → allDigits l ≡ true → Printed l
+unfolding Printed allDigits
+printed-digits [] h = tt
+printed-digits (b ∷ l) h =
+    let d = leb-true 48 b (and-left (leb 48 b) (leb b 57) (and-left (isDigit b) (allDigits l) h)) in
+    (omega arith, printed-digits l (and-right (isDigit b) (allDigits l) h))
+
+printed-words : (l : List ℕ) → wordless l ≡ true → Printed l
+unfolding Printed wordless
+printed-words [] h = tt
+printed-words (b ∷ l) h =
+    (leb-true 32 b (and-right (not (isDigit b)) (leb 32 b) (and-left (plain b) (wordless l) h)), printed-words l (and-right (plain b) (wordless l) h))
+
+pub text-printed : (x : Bool) (ps : List Piece) → parted x ps ≡ true → Small ps → Printed (textOf ps)
+unfolding parted textOf Printed
+text-printed x [] h s = tt
+text-printed x (words w ∷ ps) h s =
+    printed-append (ascii w) (textOf ps) (printed-words (ascii w) (is-wordless (ascii w) (and-left (isWords (ascii w)) (parted false ps) h))) (text-printed false ps (and-right (isWords (ascii w)) (parted false ps) h) s)
+text-printed true (number n ∷ ps) h s = absurd (let z : _≡_ {A = ℕ} 0 1 = cc in omega arith)
+text-printed false (number n ∷ ps) h s =
+    printed-append (decimalOf n) (textOf ps) (printed-digits (decimalOf n) (decimal-digits n (s .0))) (text-printed true ps h (s .1))

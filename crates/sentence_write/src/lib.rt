@@ -1,6 +1,6 @@
 // Verdicts written as sentences (document 02 [9]).
-mod pieces;
 mod members;
+mod pieces;
 mod sentences;
 
 ghost use mathlib.Core.Path.{_≡_};
@@ -18,8 +18,8 @@ use receipt::Verdict;
 use refusal::Outcome;
 use refusal::Refusal;
 use sentence::SENTENCE;
-use sentences::receipt_sentence;
-use sentences::certificate_sentence;
+use sentences::put_certificate;
+use sentences::put_receipt;
 
 // The sentence of the verifier's answer: its number, and the values that come with 0. Refused with 7: a buffer that is not 200 bytes.
 pub fn write_receipt_values(
@@ -37,8 +37,9 @@ pub fn write_receipt_values(
     if out.len() != SENTENCE {
         return Outcome::Refused(Refusal::Length);
     }
-    let text = receipt_sentence(number, keeper, log, position, kind, reference);
-    put(out, 0, &text);
+    let mut text = [0u8; 256];
+    put_receipt(&mut text, number, keeper, log, position, kind, reference);
+    put(out, 0, &text[0..200]);
     Outcome::Done
 }
 
@@ -51,8 +52,9 @@ pub fn write_certificate_values(out: &mut [u8], number: u8, place: u64, mask: u3
     if out.len() != SENTENCE {
         return Outcome::Refused(Refusal::Length);
     }
-    let text = certificate_sentence(number, place, mask);
-    put(out, 0, &text);
+    let mut text = [0u8; 256];
+    put_certificate(&mut text, number, place, mask);
+    put(out, 0, &text[0..200]);
     Outcome::Done
 }
 
@@ -70,7 +72,15 @@ pub fn write_receipt(out: &mut [u8], verdict: Verdict) -> Outcome
             reference,
             blocks: _,
         } => write_receipt_values(out, 0, keeper, wide(log), position, wide(kind), reference),
-        Verdict::Refused { why, blocks: _ } => write_receipt_values(out, why.number(), 0, 0, 0, 0, 0),
+        Verdict::Refused { why, blocks: _ } => write_receipt_values(
+            out,
+            why.number(),
+            0,
+            0,
+            0,
+            0,
+            0,
+        ),
     }
 }
 

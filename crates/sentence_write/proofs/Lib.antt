@@ -1,0 +1,3 @@
+pub mod PieceLaws
+pub mod LedLaws
+pub mod TextLaws

@@ -1,0 +1,14 @@
+-- `sentence_write::members::bit_of` meets its contract. Assumes nothing.
+use Rattle.sentence_write.proofs.LedLaws.{bit-is}
+use borrow.Author.Needs.{needs}
+use Rattle.sentence_write.proofs.members.bit_of.Statement.{statement}
+use Rattle.sentence_write.proofs.members.bit_of.Tie as tie
+
+shr-result : tie.Need-shr-result
+shr-result c = search needs
+
+returns : tie.Need-returns
+returns c = bit-is (c .args .mask) (c .args .i)
+
+pub bit-of-spec : {M : Type 1} → statement M
+bit-of-spec = tie.close (tie.spec shr-result returns)
