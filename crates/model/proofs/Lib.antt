@@ -35,6 +35,7 @@ pub mod Reading
 pub mod Refusals
 pub mod Remembers
 pub mod Represents
+pub mod Requests
 pub mod SameLog
 pub mod Shown
 pub mod Skipped
