@@ -36,6 +36,7 @@ pub mod Refusals
 pub mod Remembers
 pub mod Represents
 pub mod Requests
+pub mod Rising
 pub mod SameLog
 pub mod Shown
 pub mod Skipped

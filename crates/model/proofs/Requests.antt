@@ -3,7 +3,7 @@ use Prim.Native.Nat.{ℕ, _^_, _≤_, _<_}
 use mathlib.Core.Path.{_≡_, refl, sym, ap, subst, _∙_}
 use mathlib.Core.List.{List, [], _∷_, map}
 use mathlib.Core.Bool.{Bool, true, false, cond, not, _||_}
-use mathlib.Core.Option.{Option, none, some}
+use mathlib.Core.Option.{Option, none, some, Option·none-ne-some, Option·some-ne-none, Option·some-injective}
 use native.Mathlib.Omega.{arith}
 use lib.Dec.{leb}
 use borrow.Author.Tests.{leb-false}
@@ -53,6 +53,40 @@ both f g s t q P a m = go (early-of q)
 pub one : {S : Type 0} (f : S → Call → Effect S) (s : S) (q : Request) (P : Effect S → Type 0)
     → ((k : ℕ) → 7 ≤ k → P (effect (refused k) 0 s)) → ((c : Call) → (WideRequest q → Wide c) → P (f s c)) → P (requestStep f s q)
 one f s q P a m = both f f s s q (λ x y. P x) a m
+
+-- ---- the call that a request makes
+
+record Made (q : Request) (c : Call) : Type 0 where
+  passes : early q ≡ none
+  call : callOf q ≡ c
+
+made-of : (q : Request) (c : Call) → madeOf q ≡ some c → Made q c
+unfolding madeOf
+made-of q c h = go (early q) refl
+  where
+    go : (o : Option ℕ) → early q ≡ o → Made q c
+    go none e = record { passes = e; call = Option·some-injective (callOf q) c (rw (madeOf, e) at h) }
+    go (some k) e = absurd (Option·none-ne-some c (rw (madeOf, e) at h))
+
+pub made-step : {S : Type 0} (step : S → Call → Effect S) (s : S) (q : Request) (c : Call) → madeOf q ≡ some c → requestStep step s q ≡ step s c
+unfolding requestStep
+made-step step s q c h = let m = made-of q c h in rw (requestStep, m .passes) (ap (step s) (m .call))
+
+pub made-wide : (q : Request) (c : Call) → madeOf q ≡ some c → WideRequest q → Wide c
+made-wide q c h w = go (early-of q)
+  where
+    go : Early q → Wide c
+    go (away k p e) = absurd (Option·none-ne-some k (sym (made-of q c h .passes) ∙ e))
+    go (made e v) = subst Wide (made-of q c h .call) (v w)
+
+-- one turned away leaves all as it was
+pub unmade-state : {S : Type 0} (step : S → Call → Effect S) (s : S) (q : Request) → madeOf q ≡ none → requestStep step s q .state ≡ s
+unfolding requestStep madeOf
+unmade-state step s q h = go (early q) refl
+  where
+    go : (o : Option ℕ) → early q ≡ o → requestStep step s q .state ≡ s
+    go none e = absurd (Option·some-ne-none (callOf q) (rw (madeOf, e) at h))
+    go (some k) e = rw (requestStep, e)
 
 -- ---- the plain book
 
