@@ -6,7 +6,7 @@ use lib.ListN.{length, List·getD-map}
 use lib.Dec.{lit<}
 use Rattle.layout.specs.Image.{Entry, Image}
 use Rattle.a2m.specs.Call.{Call, Reply, Effect, replies, works, after, Wide, AllWide}
-use Rattle.survey.specs.Requests.{Request, requestStep, WideRequest, AllWideRequests}
+use Rattle.survey.specs.Requests.{Request, callOf, requestStep, WideRequest, AllWideRequests}
 use Rattle.a2m.specs.ImageCalls.{imageStep}
 use Rattle.model.specs.Log.{freshLog}
 use Rattle.model.specs.Model.{rules01, rules, Model, newModel, logAt, modelStep}
@@ -22,7 +22,7 @@ use Rattle.model.proofs.Along.{Keeps, after-fixed, keeps-after}
 use Rattle.model.proofs.History.{model-agreeing, model-unskipped, model-remembered, model-positive}
 use Rattle.model.proofs.Remembers.{model-remembers}
 use Rattle.model.proofs.Accepted.{Attests, attests01, attests, AttestsTurn, model-verified}
-use Rattle.model.proofs.Requests.{both, book-is}
+use Rattle.model.proofs.Requests.{steps-so, book-is}
 use Rattle.model.proofs.Rising.{model-rising, model-closed}
 use Rattle.model.proofs.Once.{meets-once}
 use Rattle.model.proofs.Untorn.{Calm, calm01, calm, CalmTurn, model-untorn}
@@ -37,8 +37,8 @@ record AgreeOn (x : Effect Image) (y : Effect Model) : Type 0 where
 request-agrees : (m : Image) (b : Model) → Rep m b → Sound b → Backed b → (q : Request) → AgreeOn (requestStep imageStep m q) (bookStep rules b q)
 request-agrees m b R ok k q =
     subst (AgreeOn (requestStep imageStep m q)) (sym (book-is rules b q))
-    (both imageStep (modelStep rules) m b q AgreeOn (λ (n : ℕ) (h : 7 ≤ n). record { agree = record { reply = refl; blocks = refl; state = R }; sound = ok; backed = k })
-    (λ (c : Call) (w : WideRequest q → Wide c). record { agree = step-agrees m b R ok k c; sound = step-sound rules b ok c; backed = step-backed b k c }))
+    (steps-so imageStep (modelStep rules) m b q AgreeOn (λ (n : ℕ) (h : 7 ≤ n). record { agree = record { reply = refl; blocks = refl; state = R }; sound = ok; backed = k })
+    (λ (w : WideRequest q → Wide (callOf q)). record { agree = step-agrees m b R ok k (callOf q); sound = step-sound rules b ok (callOf q); backed = step-backed b k (callOf q) }))
 
 -- the answers to a list, and the states after it
 pub record AgreeAll (m : Image) (b : Model) (qs : List Request) : Type 0 where

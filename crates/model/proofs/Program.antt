@@ -14,7 +14,7 @@ use Rattle.table.specs.Whole.{whole}
 use Rattle.a2m.specs.Call.{Call, append, advance, truncate, lookup, end, Wide, Reply, Effect, effect, replies, works, after}
 use Rattle.a2m.specs.ImageCalls.{imageRefusal, imageAccept, imageStep}
 use Rattle.a2m.specs.TableCalls.{tableStep}
-use Rattle.survey.specs.Requests.{Request, requestStep, WideRequest, AllWideRequests}
+use Rattle.survey.specs.Requests.{Request, callOf, requestStep, WideRequest, AllWideRequests}
 use Rattle.a2m.proofs.Unchanged.{Reads}
 use Rattle.a2m.proofs.Written.{step-written}
 use Rattle.model.specs.Model.{rules, Model, newModel}
@@ -22,7 +22,7 @@ use Rattle.model.specs.Book.{bookStep}
 use Rattle.model.specs.Claim.{asking, ListClaim}
 use Rattle.model.specs.Program.{passedOn, programStep}
 use Rattle.model.proofs.TableClaim.{Stands, in-range, request-stands, request-written}
-use Rattle.model.proofs.Requests.{both}
+use Rattle.model.proofs.Requests.{steps-so}
 use Rattle.model.proofs.Demand3.{stands, bytes-are, listClaim, staysWhole}
 
 -- ---- one call
@@ -62,7 +62,7 @@ module _ (m : Image) (b : Model) (s : Stands m b) where
 
   same-request : (q : Request) → requestStep programStep (writeTable m) q ≡ requestStep tableStep (writeTable m) q
   same-request q =
-      both programStep tableStep (writeTable m) (writeTable m) q (λ (x y : Effect (List ℕ)). x ≡ y) (λ (k : ℕ) (h : 7 ≤ k). refl) (λ (c : Call) (w : WideRequest q → Wide c). same-call c)
+      steps-so programStep tableStep (writeTable m) (writeTable m) q (λ (x y : Effect (List ℕ)). x ≡ y) (λ (k : ℕ) (h : 7 ≤ k). refl) (λ (w : WideRequest q → Wide (callOf q)). same-call (callOf q))
 
 -- ---- the list
 

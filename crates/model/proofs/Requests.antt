@@ -1,8 +1,7 @@
 -- Request [10], on any step of calls: a request is turned away by its arguments alone, or it makes its call.
 use Prim.Native.Nat.{ℕ, _^_, _≤_, _<_}
 use mathlib.Core.Path.{_≡_, refl, sym, ap, subst, _∙_}
-use mathlib.Core.List.{List, [], _∷_, map}
-use mathlib.Core.Bool.{Bool, true, false, cond, not, _||_}
+use mathlib.Core.Bool.{Bool, true, false, cond, _||_}
 use mathlib.Core.Option.{Option, none, some, Option·none-ne-some, Option·some-ne-none, Option·some-injective}
 use native.Mathlib.Omega.{arith}
 use lib.Dec.{leb}
@@ -10,10 +9,10 @@ use borrow.Author.Tests.{leb-false}
 use Rattle.refusal.specs.Order.{firstFault}
 use Rattle.octets.specs.Octets.{zeros}
 use Rattle.octets.proofs.Tests.{or-none}
-use Rattle.a2m.specs.Call.{Call, advance, lookup, Wide, AllWide, refused, Effect, effect}
+use Rattle.a2m.specs.Call.{Call, advance, lookup, Wide, refused, Effect, effect}
 use Rattle.a2m.specs.ImageCalls.{wrongLength}
 use Rattle.survey.specs.Packing.{packed, tooWide, lastReading}
-use Rattle.survey.specs.Requests.{Request, plain, advances, looks, closes, callOf, turnedAway, early, madeOf, requestStep, WideRequest, AllWideRequests}
+use Rattle.survey.specs.Requests.{Request, plain, advances, looks, closes, callOf, turnedAway, early, madeOf, requestStep, WideRequest}
 use Rattle.survey.proofs.PackingLaws.{packed-fits}
 use Rattle.model.specs.Model.{Rules, Model, not32, refuse, modelStep}
 use Rattle.model.specs.Book.{unless, bookStep}
@@ -41,18 +40,18 @@ early-of (closes g s x) =
     sorted (closes g s x) (wrongLength (advance g (packed s lastReading) (zeros 32) x)) (tooWide s lastReading) refl (λ e w. part-fits s lastReading e)
 
 -- what holds of two steps where a request is turned away, and where it makes its call, holds of the request
-pub both : {S T : Type 0} (f : S → Call → Effect S) (g : T → Call → Effect T) (s : S) (t : T) (q : Request) (P : Effect S → Effect T → Type 0)
-    → ((k : ℕ) → 7 ≤ k → P (effect (refused k) 0 s) (effect (refused k) 0 t)) → ((c : Call) → (WideRequest q → Wide c) → P (f s c) (g t c)) → P (requestStep f s q) (requestStep g t q)
+pub steps-so : {S T : Type 0} (f : S → Call → Effect S) (g : T → Call → Effect T) (s : S) (t : T) (q : Request) (P : Effect S → Effect T → Type 0)
+    → ((k : ℕ) → 7 ≤ k → P (effect (refused k) 0 s) (effect (refused k) 0 t)) → ((WideRequest q → Wide (callOf q)) → P (f s (callOf q)) (g t (callOf q))) → P (requestStep f s q) (requestStep g t q)
 unfolding requestStep
-both f g s t q P a m = go (early-of q)
+steps-so f g s t q P a m = go (early-of q)
   where
     go : Early q → P (requestStep f s q) (requestStep g t q)
     go (away k h e) = rw (requestStep, e) (a k h)
-    go (made e w) = rw (requestStep, e) (m (callOf q) w)
+    go (made e w) = rw (requestStep, e) (m w)
 
-pub one : {S : Type 0} (f : S → Call → Effect S) (s : S) (q : Request) (P : Effect S → Type 0)
-    → ((k : ℕ) → 7 ≤ k → P (effect (refused k) 0 s)) → ((c : Call) → (WideRequest q → Wide c) → P (f s c)) → P (requestStep f s q)
-one f s q P a m = both f f s s q (λ x y. P x) a m
+pub step-so : {S : Type 0} (f : S → Call → Effect S) (s : S) (q : Request) (P : Effect S → Type 0)
+    → ((k : ℕ) → 7 ≤ k → P (effect (refused k) 0 s)) → ((WideRequest q → Wide (callOf q)) → P (f s (callOf q))) → P (requestStep f s q)
+step-so f s q P a m = steps-so f f s s q (λ (x y : Effect _). P x) a m
 
 -- ---- the call that a request makes
 
@@ -110,7 +109,13 @@ book-is ru b (closes g s x) =
     let o = modelStep ru b (advance g (packed s lastReading) (zeros 32) x) in
     subst (λ (t : Bool). unless (refuse 7 (not32 x) (refuse 18 t none)) b o ≡ requestStep (modelStep ru) b (closes g s x)) (or-false (leb (2 ^ 24) s)) (unless-is _ b o)
 
--- the five calls are such requests
-pub wide-plain : (cs : List Call) → AllWide cs → AllWideRequests (map plain cs)
-wide-plain [] w = tt
-wide-plain (c ∷ cs) w = (w .0, wide-plain cs (w .1))
+-- so of two books
+pub books-so : (ru : Rules) (b d : Model) (q : Request) (P : Effect Model → Effect Model → Type 0)
+    → ((k : ℕ) → 7 ≤ k → P (effect (refused k) 0 b) (effect (refused k) 0 d)) → (P (modelStep ru b (callOf q)) (modelStep ru d (callOf q))) → P (bookStep ru b q) (bookStep ru d q)
+books-so ru b d q P a m =
+    subst (λ (o : Effect Model). P o (bookStep ru d q)) (sym (book-is ru b q))
+    (subst (P (requestStep (modelStep ru) b q)) (sym (book-is ru d q)) (steps-so (modelStep ru) (modelStep ru) b d q P a (λ (w : WideRequest q → Wide (callOf q)). m)))
+
+pub book-so : (ru : Rules) (b : Model) (q : Request) (P : Effect Model → Type 0)
+    → ((k : ℕ) → 7 ≤ k → P (effect (refused k) 0 b)) → ((WideRequest q → Wide (callOf q)) → P (modelStep ru b (callOf q))) → P (bookStep ru b q)
+book-so ru b q P a m = subst P (sym (book-is ru b q)) (step-so (modelStep ru) b q P a m)

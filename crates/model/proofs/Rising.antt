@@ -1,5 +1,5 @@
 -- The positions that a list assigns in one log rise; so after an accepted close no position of its survey is assigned (request [10]).
-use Prim.Native.Nat.{ℕ, suc, _≤_, _<_}
+use Prim.Native.Nat.{ℕ, suc, _<_}
 use mathlib.Core.Path.{_≡_, refl, sym, ap, subst, _∙_}
 use mathlib.Core.Logic.{_≢_}
 use mathlib.Core.List.{List}
@@ -7,10 +7,10 @@ use mathlib.Core.Option.{some, map-eq-some-iff}
 use native.Mathlib.Omega.{arith}
 use lib.ListN.{take, getElem?}
 use lib.Seq.{getD-set-same}
-use Rattle.a2m.specs.Call.{Call, append, advance, truncate, lookup, end, logOf, Puts, refused, done, Effect, replies, after, Wide}
+use Rattle.a2m.specs.Call.{Call, append, advance, logOf, Puts, refused, done, Effect, replies, after}
 use Rattle.octets.specs.Octets.{zeros}
 use Rattle.survey.specs.Packing.{packed, surveyOf, lastReading}
-use Rattle.survey.specs.Requests.{Request, closes, callOf, early, madeOf, requestStep}
+use Rattle.survey.specs.Requests.{Request, closes, callOf, madeOf, requestStep}
 use Rattle.model.specs.Log.{freshLog, entered}
 use Rattle.model.specs.Model.{Rules, Model, logAt, modelDone, modelAccept, modelStep}
 use Rattle.model.specs.Claim.{Turn, modelTurn, requestAt, callAt, replyAt, AssignsAt, ClosesAt}

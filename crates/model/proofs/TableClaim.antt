@@ -15,7 +15,7 @@ use Rattle.table.proofs.WholeLaws.{read-write, stock-write, written-whole}
 use Rattle.a2m.specs.Call.{Call, Wide, AllWide, Reply, Effect, replies, works, after}
 use Rattle.a2m.specs.ImageCalls.{imageStep}
 use Rattle.a2m.specs.TableCalls.{written, tableStep}
-use Rattle.survey.specs.Requests.{Request, requestStep, WideRequest, AllWideRequests}
+use Rattle.survey.specs.Requests.{Request, callOf, requestStep, WideRequest, AllWideRequests}
 use Rattle.a2m.proofs.Links.{chain-links}
 use Rattle.a2m.proofs.FitsAfter.{step-fits}
 use Rattle.a2m.proofs.Written.{step-written}
@@ -29,7 +29,7 @@ use Rattle.model.proofs.Step.{step-agrees}
 use Rattle.model.proofs.Sound.{step-sound}
 use Rattle.model.proofs.Along.{Keeps, step-fixed, after-fixed}
 use Rattle.model.proofs.Turns.{Each, after-asking}
-use Rattle.model.proofs.Requests.{both, book-is}
+use Rattle.model.proofs.Requests.{steps-so, book-is}
 use Rattle.model.proofs.ImageClaim.{Proper, image-claim}
 
 -- bytes of an image that says a sound model, all within their fields, with the slots promised there
@@ -56,11 +56,11 @@ step-stands m b s c w = record {
 pub request-stands : (m : Image) (b : Model) → Stands m b → (q : Request) → WideRequest q → Stands (requestStep imageStep m q .state) (bookStep rules b q .state)
 request-stands m b s q w =
     subst (λ (o : Effect Model). Stands (requestStep imageStep m q .state) (o .state)) (sym (book-is rules b q))
-    (both imageStep (modelStep rules) m b q (λ (x : Effect Image) (y : Effect Model). Stands (x .state) (y .state)) (λ (k : ℕ) (h : 7 ≤ k). s) (λ (c : Call) (v : WideRequest q → Wide c). step-stands m b s c (v w, tt)))
+    (steps-so imageStep (modelStep rules) m b q (λ (x : Effect Image) (y : Effect Model). Stands (x .state) (y .state)) (λ (k : ℕ) (h : 7 ≤ k). s) (λ (v : WideRequest q → Wide (callOf q)). step-stands m b s (callOf q) (v w, tt)))
 
 pub request-written : (m : Image) (b : Model) → Stands m b → (q : Request) → requestStep tableStep (writeTable m) q ≡ written (requestStep imageStep m q)
 request-written m b s q =
-    both tableStep imageStep (writeTable m) m q (λ (x : Effect (List ℕ)) (y : Effect Image). x ≡ written y) (λ (k : ℕ) (h : 7 ≤ k). refl) (λ (c : Call) (w : WideRequest q → Wide c). step-written m (s .fits) (in-range m b s) c)
+    steps-so tableStep imageStep (writeTable m) m q (λ (x : Effect (List ℕ)) (y : Effect Image). x ≡ written y) (λ (k : ℕ) (h : 7 ≤ k). refl) (λ (w : WideRequest q → Wide (callOf q)). step-written m (s .fits) (in-range m b s) (callOf q))
 
 -- the answers to a list, their blocks, the bytes after it, and that they still stand
 pub record WrittenAll (m : Image) (b : Model) (qs : List Request) : Type 0 where

@@ -1,15 +1,15 @@
 -- Lists of turns: all by one set of rules, and two lists on end; and one turn, by what its request makes.
 use Prim.Native.Nat.{ℕ, zero, suc, _≤_}
-use mathlib.Core.Path.{_≡_, refl, sym, ap, subst}
+use mathlib.Core.Path.{_≡_, refl, ap, subst}
 use mathlib.Core.List.{List, [], _∷_, _++_, map}
 use mathlib.Core.Option.{some, Option·none-ne-some, Option·some-injective}
 use lib.ListN.{getElem?}
 use Rattle.a2m.specs.Call.{Call, Wide, Reply, refused, Effect, effect, replies, works, after}
-use Rattle.survey.specs.Requests.{Request, WideRequest}
+use Rattle.survey.specs.Requests.{Request, callOf, WideRequest}
 use Rattle.model.specs.Model.{Rules, Model, modelStep}
 use Rattle.model.specs.Book.{bookStep}
 use Rattle.model.specs.Claim.{Turn, asks, under, asking, by, modelTurn}
-use Rattle.model.proofs.Requests.{one, book-is}
+use Rattle.model.proofs.Requests.{book-so}
 
 -- ---- a list of items, each of them another's name
 
@@ -64,7 +64,7 @@ after-on b (t ∷ ts) us = after-on (modelTurn b t .state) ts us
 -- what holds where the request is turned away, with 7 or more, and where it makes its call, holds of the turn
 pub turn-so : (b : Model) (t : Turn) (P : Effect Model → Type 0)
     → ((k : ℕ) → 7 ≤ k → P (effect (refused k) 0 b)) → ((c : Call) → (WideRequest (t .request) → Wide c) → P (modelStep (t .rules) b c)) → P (modelTurn b t)
-turn-so b t P a m = subst P (sym (book-is (t .rules) b (t .request))) (one (modelStep (t .rules)) b (t .request) P a m)
+turn-so b t P a m = book-so (t .rules) b (t .request) P a (m (callOf (t .request)))
 
 -- ---- what each turn of a list has
 
