@@ -45,6 +45,7 @@ pub mod Stage
 pub mod StageLog
 pub mod Standings
 pub mod Step
+pub mod SurveyCase
 pub mod TableClaim
 pub mod Truncate
 pub mod Turns
