@@ -1,7 +1,7 @@
 -- Request [10], on any step of calls: a request is turned away by its arguments alone, or it makes its call.
 use Prim.Native.Nat.{ℕ, _^_, _≤_, _<_}
 use mathlib.Core.Path.{_≡_, refl, sym, ap, subst, _∙_}
-use mathlib.Core.Bool.{Bool, true, false, cond, _||_}
+use mathlib.Core.Bool.{Bool, true, false, cond, or-false}
 use mathlib.Core.Option.{Option, none, some, Option·none-ne-some, Option·some-ne-none, Option·some-injective}
 use native.Mathlib.Omega.{arith}
 use lib.Dec.{leb}
@@ -94,10 +94,6 @@ unless-is : (o : Option ℕ) (b : Model) (e : Effect Model) → unless o b e ≡
 unfolding unless
 unless-is none b e = refl
 unless-is (some k) b e = refl
-
-or-false : (t : Bool) → t || false ≡ t
-or-false true = refl
-or-false false = refl
 
 -- the book's step, written apart, is the step through the calls
 pub book-is : (ru : Rules) (b : Model) (q : Request) → bookStep ru b q ≡ requestStep (modelStep ru) b q
