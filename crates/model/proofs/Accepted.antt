@@ -31,7 +31,7 @@ use Rattle.model.proofs.Entries.{last-in, in-bounds}
 use Rattle.model.proofs.Shown.{length-LOOKUP, length-END}
 use Rattle.model.proofs.Along.{Keeps, after-fixed, at-keeps, at-call}
 use Rattle.model.proofs.Turns.{WideTurn, Each, each-at}
-use Rattle.model.proofs.Requests.{made-wide}
+use Rattle.survey.proofs.RequestLaws.{made-wide}
 use Rattle.model.proofs.Standings.{Means, standing-means}
 
 -- ---- a receipt of the model

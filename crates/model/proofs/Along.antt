@@ -13,7 +13,8 @@ use Rattle.model.specs.Log.{freshLog, entered, cutAt}
 use Rattle.model.specs.Model.{Rules, Model, logAt, modelDone, modelAccept, modelStep}
 use Rattle.model.specs.Claim.{Turn, modelTurn, callAt, replyAt, ShowsAt, SkipsAt}
 use Rattle.model.proofs.Turns.{WideTurn, turn-so, Each}
-use Rattle.model.proofs.Requests.{made-step, unmade-state, book-is}
+use Rattle.survey.proofs.RequestLaws.{made-step, unmade-state}
+use Rattle.model.proofs.Requests.{book-is}
 use Rattle.model.proofs.Represents.{Sound}
 use Rattle.model.proofs.Passed.{Stepped, turned, taken, stepped}
 use Rattle.model.proofs.Sound.{step-sound}

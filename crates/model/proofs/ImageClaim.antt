@@ -22,7 +22,8 @@ use Rattle.model.proofs.Along.{Keeps, after-fixed, keeps-after}
 use Rattle.model.proofs.History.{model-agreeing, model-unskipped, model-remembered, model-positive}
 use Rattle.model.proofs.Remembers.{model-remembers}
 use Rattle.model.proofs.Accepted.{Attests, attests01, attests, AttestsTurn, model-verified}
-use Rattle.model.proofs.Requests.{steps-so, book-is}
+use Rattle.survey.proofs.RequestLaws.{steps-so}
+use Rattle.model.proofs.Requests.{book-is}
 use Rattle.model.proofs.Rising.{model-rising, model-closed}
 use Rattle.model.proofs.Once.{meets-once}
 use Rattle.model.proofs.Untorn.{Calm, calm01, calm, CalmTurn, model-untorn}

@@ -27,7 +27,7 @@ use Rattle.model.proofs.Turns.{WideTurn, Each, each-at, each-so}
 use Rattle.model.proofs.Along.{Keeps, at-keeps, at-later, at-call, skipping}
 use Rattle.model.proofs.ImageClaim.{Proper, proper, new-keeps}
 use Rattle.model.proofs.Program.{programClaim}
-use Rattle.model.proofs.Requests.{made-wide}
+use Rattle.survey.proofs.RequestLaws.{made-wide}
 use Rattle.model.proofs.Skipped.{ShowsNext, model-skipped}
 
 -- a attests the entry that the advance put

@@ -2,16 +2,13 @@
 use Prim.Native.Nat.{ℕ, _≤_}
 use mathlib.Core.Path.{_≡_}
 use mathlib.Core.Logic.{_≢_}
-use mathlib.Core.List.{List}
 use native.Mathlib.Omega.{arith}
 use Rattle.a2m.specs.Call.{Call, Wide, refused, Effect}
-use Rattle.a2m.specs.TableCalls.{tableStep}
-use Rattle.a2m.proofs.NeverSix.{table-answer}
-use Rattle.survey.specs.Requests.{Request, callOf, requestStep, WideRequest}
+use Rattle.survey.specs.Requests.{Request, callOf, WideRequest}
 use Rattle.model.specs.Model.{rules, Model, modelStep}
 use Rattle.model.specs.Book.{bookStep}
 use Rattle.model.proofs.Untorn.{Lacks, none-not, slot-not, step-not, refused-not}
-use Rattle.model.proofs.Requests.{step-so, book-so}
+use Rattle.model.proofs.Requests.{book-so}
 
 lacks-six : Lacks 6 rules
 unfolding rules
@@ -26,7 +23,3 @@ not-six k h = refused-not k 6 (λ (z : k ≡ 6). omega arith)
 
 pub book-answer : (b : Model) (q : Request) → bookStep rules b q .reply ≢ refused 6
 book-answer b q = book-so rules b q (λ (o : Effect Model). o .reply ≢ refused 6) not-six (λ (w : WideRequest q → Wide (callOf q)). model-answer b (callOf q))
-
--- and no request on any table gives it
-pub request-answer : (b : List ℕ) (q : Request) → requestStep tableStep b q .reply ≢ refused 6
-request-answer b q = step-so tableStep b q (λ (o : Effect (List ℕ)). o .reply ≢ refused 6) not-six (λ (w : WideRequest q → Wide (callOf q)). table-answer b (callOf q))

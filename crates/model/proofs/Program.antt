@@ -22,7 +22,7 @@ use Rattle.model.specs.Book.{bookStep}
 use Rattle.model.specs.Claim.{asking, ListClaim}
 use Rattle.model.specs.Program.{passedOn, programStep}
 use Rattle.model.proofs.TableClaim.{Stands, in-range, request-stands, request-written}
-use Rattle.model.proofs.Requests.{steps-so}
+use Rattle.survey.proofs.RequestLaws.{steps-so}
 use Rattle.model.proofs.Demand3.{stands, bytes-are, listClaim, staysWhole}
 
 -- ---- one call

@@ -15,7 +15,8 @@ use Rattle.model.specs.Log.{freshLog, entered}
 use Rattle.model.specs.Model.{Rules, Model, logAt, modelDone, modelAccept, modelStep}
 use Rattle.model.specs.Claim.{Turn, modelTurn, requestAt, callAt, replyAt, AssignsAt, ClosesAt}
 use Rattle.model.proofs.Passed.{Stepped, turned, taken, stepped}
-use Rattle.model.proofs.Requests.{Early, away, made, early-of, book-is}
+use Rattle.survey.proofs.RequestLaws.{Early, away, made-call, early-of}
+use Rattle.model.proofs.Requests.{book-is}
 use Rattle.model.proofs.Along.{at-later, at-turn, at-call, advanced}
 
 -- a log's high before and after a call that assigns n in it
@@ -70,7 +71,7 @@ module _ (b : Model) (ts : List Turn) where
           let o = at-turn b ts i t e .reply in
           let s : modelTurn (after modelTurn b (take i ts)) t .reply ≡ refused k = ap (λ (x : Effect Model). x .reply) (book-is (t .rules) _ (t .request)) ∙ rw (z, requestStep, v) refl in
           absurd (let y : refused k ≡ done low high = sym s ∙ sym o ∙ r in let x : _≡_ {A = ℕ} 0 1 = cc in omega arith)
-      go t e z (made v w) = rw (callAt, e, z, madeOf, v) (ap (λ (x : Request). some (callOf x)) z)
+      go t e z (made-call v w) = rw (callAt, e, z, madeOf, v) (ap (λ (x : Request). some (callOf x)) z)
 
   -- a close accepted assigned its survey's last reading
   closes-at : (i g s : ℕ) → ClosesAt ts (replies modelTurn b ts) i g s → AssignsAt ts (replies modelTurn b ts) i g (packed s lastReading)

@@ -29,7 +29,8 @@ use Rattle.model.proofs.Step.{step-agrees}
 use Rattle.model.proofs.Sound.{step-sound}
 use Rattle.model.proofs.Along.{Keeps, step-fixed, after-fixed}
 use Rattle.model.proofs.Turns.{Each, after-asking}
-use Rattle.model.proofs.Requests.{steps-so, book-is}
+use Rattle.survey.proofs.RequestLaws.{steps-so}
+use Rattle.model.proofs.Requests.{book-is}
 use Rattle.model.proofs.ImageClaim.{Proper, image-claim}
 
 -- bytes of an image that says a sound model, all within their fields, with the slots promised there

@@ -25,7 +25,7 @@ use Rattle.a2m.proofs.Unchanged.{refused-unchanged}
 use Rattle.survey.specs.Packing.{packed, tooWide, lastReading}
 use Rattle.survey.specs.Requests.{closes, early, requestStep}
 use Rattle.survey.proofs.PackingLaws.{narrow}
-use Rattle.survey.proofs.RequestLaws.{stays, made-step}
+use Rattle.survey.proofs.RequestLaws.{stays, passed-step}
 
 -- a call whose lengths, table and log are good is refused with 3 only where its position is misplaced
 misplaced-only : (b : List ℕ) (call : Call) → wrongLength call ≡ false → whole b ≡ true → leb (length (readTable b .rows)) (logOf call) ≡ false → tableRefusal b call ≡ some 3
@@ -51,7 +51,7 @@ module _ (b : List ℕ) (g s : ℕ) (x : List ℕ) (hx : length x ≡ 32) (hs : 
 
   is-made : requestStep tableStep b (closes g s x) .reply ≡ tableStep b call .reply
   unfolding call early lastReading
-  is-made = ap (λ (f : Effect (List ℕ)). f .reply) (made-step tableStep b (closes g s x) (stays call (tooWide s lastReading) sized (narrow s lastReading hs (omega arith))))
+  is-made = ap (λ (f : Effect (List ℕ)). f .reply) (passed-step tableStep b (closes g s x) (stays call (tooWide s lastReading) sized (narrow s lastReading hs (omega arith))))
 
   pub close-past : packed s lastReading ≤ rowIn (readTable b) g .high → requestStep tableStep b (closes g s x) .reply ≡ refused 3
   unfolding call misplaced
