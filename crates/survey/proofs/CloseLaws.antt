@@ -4,13 +4,12 @@ use native.Mathlib.Omega.{arith}
 use mathlib.Core.Path.{_≡_, refl, sym, ap, _∙_}
 use mathlib.Core.Bool.{Bool, true, false, not}
 use mathlib.Core.List.{List}
-use mathlib.Core.Option.{none, some}
+use mathlib.Core.Option.{some}
 use lib.ListN.{length}
 use lib.Dec.{leb}
 use borrow.Author.Tests.{leb-true, le-leb, lt-leb}
 use Rattle.octets.specs.Octets.{zeros}
 use Rattle.octets.proofs.Zeros.{length-zeros}
-use Rattle.refusal.specs.Order.{fault}
 use Rattle.refusal.proofs.OrderLaws.{passes}
 use Rattle.refusal.proofs.UnusedLaws.{never}
 use Rattle.layout.specs.Layout.{logsOf, readTable}

@@ -6,7 +6,7 @@ use mathlib.Core.Logic.{_≢_, _⊎_, inl, inr}
 use mathlib.Core.List.{List}
 use mathlib.Core.Option.{Option, none, some}
 use Rattle.refusal.proofs.UnusedLaws.{never, never-numbered}
-use Rattle.a2m.specs.Call.{Reply, refused, Effect}
+use Rattle.a2m.specs.Call.{refused, Effect}
 use Rattle.a2m.specs.TableCalls.{tableStep}
 use Rattle.a2m.proofs.NeverSix.{table-answer}
 use Rattle.survey.specs.Packing.{packing}
