@@ -24,7 +24,7 @@ use Rattle.a2m.proofs.ReadLaws.{Reads, lookup-sized}
 use Rattle.survey.specs.Packing.{packed, tooWide, lastReading, packing}
 use Rattle.survey.specs.Requests.{Request, advances, looks, closes, callOf, early, requestStep}
 use Rattle.survey.proofs.PackingLaws.{packed-at, packed-away}
-use Rattle.survey.proofs.RequestLaws.{away-length, away-wide, stays, made-step, away-step, close-step}
+use Rattle.survey.proofs.RequestLaws.{away-length, away-wide, stays, passed-step, away-step, close-step}
 
 -- the answer r, the blocks k and the table a after the request
 abbrev pub RequestSteps : List ℕ → Request → Reply → ℕ → List ℕ → Type 0
@@ -45,11 +45,11 @@ module _ (b : List ℕ) (q : Request) where
   unfolding receiptAfter
   away-reads k old h = let p = away-steps k h in (p .0, (p .1 .0, ap (λ (r : Reply). receiptAfter r old) (p .0)))
 
-  made-steps : early q ≡ none → (r : Reply) (k : ℕ) (a : List ℕ) → Steps b (callOf q) r k a → RequestSteps b q r k a
-  made-steps h r k a p = subst (λ (f : Effect (List ℕ)). (r ≡ f .reply) × ((k ≡ f .blocks) × (a ≡ f .state))) (sym (made-step tableStep b q h)) p
+  passed-steps : early q ≡ none → (r : Reply) (k : ℕ) (a : List ℕ) → Steps b (callOf q) r k a → RequestSteps b q r k a
+  passed-steps h r k a p = subst (λ (f : Effect (List ℕ)). (r ≡ f .reply) × ((k ≡ f .blocks) × (a ≡ f .state))) (sym (passed-step tableStep b q h)) p
 
   made-reads : early q ≡ none → (r : Reply) (k : ℕ) (out old : List ℕ) → Reads b (callOf q) r k out old → RequestReads b q r k out old
-  made-reads h r k out old p = subst (λ (f : Effect (List ℕ)). (r ≡ f .reply) × ((k ≡ f .blocks) × (out ≡ receiptAfter (f .reply) old))) (sym (made-step tableStep b q h)) p
+  made-reads h r k out old p = subst (λ (f : Effect (List ℕ)). (r ≡ f .reply) × ((k ≡ f .blocks) × (out ≡ receiptAfter (f .reply) old))) (sym (passed-step tableStep b q h)) p
 
   -- "A refusal changes no lent byte", and by request [2] hashed nothing
   pub refused-request : (k : ℕ) → requestStep tableStep b q .reply ≡ refused k → (requestStep tableStep b q .state ≡ b) × (requestStep tableStep b q .blocks ≡ 0)
@@ -57,7 +57,7 @@ module _ (b : List ℕ) (q : Request) where
     where
       go : (o : Option ℕ) → early q ≡ o → (requestStep tableStep b q .state ≡ b) × (requestStep tableStep b q .blocks ≡ 0)
       go none e =
-          let m = made-step tableStep b q e in
+          let m = passed-step tableStep b q e in
           let u = refused-unchanged b (callOf q) k (sym (ap (λ (f : Effect (List ℕ)). f .reply) m) ∙ h) in
           (ap (λ (f : Effect (List ℕ)). f .state) m ∙ u .0, ap (λ (f : Effect (List ℕ)). f .blocks) m ∙ refused-blocks b (callOf q) k (u .1))
       go (some j) e = let p = away-steps j e in (sym (p .1 .1), sym (p .1 .0))
@@ -94,7 +94,7 @@ module _ (b : List ℕ) (g s r : ℕ) (d x : List ℕ) where
     unfolding early
     advances-made n h y k a e =
         let p = packed-at s r n h in
-        made-steps b (advances g s r d x) (stays (advance g (packed s r) d x) (tooWide s r) sized (p .0)) y k a (subst (λ (m : ℕ). Steps b (advance g m d x) y k a) (p .1) e)
+        passed-steps b (advances g s r d x) (stays (advance g (packed s r) d x) (tooWide s r) sized (p .0)) y k a (subst (λ (m : ℕ). Steps b (advance g m d x) y k a) (p .1) e)
 
 -- ---- close
 

@@ -4,13 +4,12 @@ use native.Mathlib.Omega.{arith}
 use mathlib.Core.Path.{_≡_, refl, sym, ap, _∙_}
 use mathlib.Core.Bool.{Bool, true, false, not}
 use mathlib.Core.List.{List}
-use mathlib.Core.Option.{none, some}
+use mathlib.Core.Option.{some}
 use lib.ListN.{length}
 use lib.Dec.{leb}
 use borrow.Author.Tests.{leb-true, le-leb, lt-leb}
 use Rattle.octets.specs.Octets.{zeros}
 use Rattle.octets.proofs.Zeros.{length-zeros}
-use Rattle.refusal.specs.Order.{fault}
 use Rattle.refusal.proofs.OrderLaws.{passes}
 use Rattle.refusal.proofs.UnusedLaws.{never}
 use Rattle.layout.specs.Layout.{logsOf, readTable}
@@ -25,7 +24,7 @@ use Rattle.a2m.proofs.Unchanged.{refused-unchanged}
 use Rattle.survey.specs.Packing.{packed, tooWide, lastReading}
 use Rattle.survey.specs.Requests.{closes, early, requestStep}
 use Rattle.survey.proofs.PackingLaws.{narrow}
-use Rattle.survey.proofs.RequestLaws.{stays, made-step}
+use Rattle.survey.proofs.RequestLaws.{stays, passed-step}
 
 -- a call whose lengths, table and log are good is refused with 3 only where its position is misplaced
 misplaced-only : (b : List ℕ) (call : Call) → wrongLength call ≡ false → whole b ≡ true → leb (length (readTable b .rows)) (logOf call) ≡ false → tableRefusal b call ≡ some 3
@@ -51,7 +50,7 @@ module _ (b : List ℕ) (g s : ℕ) (x : List ℕ) (hx : length x ≡ 32) (hs : 
 
   is-made : requestStep tableStep b (closes g s x) .reply ≡ tableStep b call .reply
   unfolding call early lastReading
-  is-made = ap (λ (f : Effect (List ℕ)). f .reply) (made-step tableStep b (closes g s x) (stays call (tooWide s lastReading) sized (narrow s lastReading hs (omega arith))))
+  is-made = ap (λ (f : Effect (List ℕ)). f .reply) (passed-step tableStep b (closes g s x) (stays call (tooWide s lastReading) sized (narrow s lastReading hs (omega arith))))
 
   pub close-past : packed s lastReading ≤ rowIn (readTable b) g .high → requestStep tableStep b (closes g s x) .reply ≡ refused 3
   unfolding call misplaced

@@ -6,12 +6,12 @@ use mathlib.Core.Logic.{_≢_, _⊎_, inl, inr}
 use mathlib.Core.List.{List}
 use mathlib.Core.Option.{Option, none, some}
 use Rattle.refusal.proofs.UnusedLaws.{never, never-numbered}
-use Rattle.a2m.specs.Call.{Reply, refused, Effect}
+use Rattle.a2m.specs.Call.{refused, Effect}
 use Rattle.a2m.specs.TableCalls.{tableStep}
 use Rattle.a2m.proofs.NeverSix.{table-answer}
 use Rattle.survey.specs.Packing.{packing}
 use Rattle.survey.specs.Requests.{Request, callOf, early, requestStep}
-use Rattle.survey.proofs.RequestLaws.{early-only, made-step, away-step}
+use Rattle.survey.proofs.RequestLaws.{early-only, passed-step, away-step}
 
 pub packing-answer : (s r : ℕ) → packing s r .number ≢ 6
 unfolding packing
@@ -28,7 +28,7 @@ pub request-answer : (b : List ℕ) (q : Request) → requestStep tableStep b q 
 request-answer b q h = go (early q) refl
   where
     go : (o : Option ℕ) → early q ≡ o → ⊥
-    go none e = table-answer b (callOf q) (sym (ap (λ (f : Effect (List ℕ)). f .reply) (made-step tableStep b q e)) ∙ h)
+    go none e = table-answer b (callOf q) (sym (ap (λ (f : Effect (List ℕ)). f .reply) (passed-step tableStep b q e)) ∙ h)
     go (some k) e =
         let p : refused k ≡ refused 6 = sym (ap (λ (f : Effect (List ℕ)). f .reply) (away-step tableStep b q k e)) ∙ h in
         let n : k ≡ 6 = cc in

@@ -1,21 +1,19 @@
 -- A request is turned away by its arguments alone, or is the call that it makes; so is a list of them, for any step of calls.
-use Prim.Native.Nat.{ℕ, _^_, _-_, _<_}
+use Prim.Native.Nat.{ℕ, _^_, _≤_, _<_}
 use native.Mathlib.Omega.{arith}
-use mathlib.Core.Path.{_≡_, refl, sym, ap, ap₂, _∙_}
+use mathlib.Core.Path.{_≡_, refl, sym, ap, subst, _∙_}
 use mathlib.Core.Logic.{_⊎_, inl, inr}
-use mathlib.Core.Bool.{Bool, true, false, _||_}
+use mathlib.Core.Bool.{Bool, true, false}
 use mathlib.Core.List.{List, [], _∷_, map}
 use mathlib.Core.Option.{Option, none, some, Option·none-ne-some, Option·some-ne-none, Option·some-injective}
-use lib.Dec.{leb}
-use borrow.Author.Tests.{leb-false}
 use Rattle.octets.specs.Octets.{zeros}
 use Rattle.refusal.specs.Order.{fault, firstFault}
 use Rattle.refusal.proofs.OrderLaws.{peel}
-use Rattle.a2m.specs.Call.{Call, advance, lookup, Wide, AllWide, Reply, refused, Effect, effect, replies, works, after}
+use Rattle.a2m.specs.Call.{Call, advance, lookup, Wide, AllWide, refused, Effect, effect, replies, works, after}
 use Rattle.a2m.specs.ImageCalls.{wrongLength}
 use Rattle.survey.specs.Packing.{packed, tooWide, lastReading}
 use Rattle.survey.specs.Requests.{Request, plain, advances, looks, closes, callOf, turnedAway, early, madeOf, made, woven, requestStep, WideRequest, AllWideRequests}
-use Rattle.survey.proofs.PackingLaws.{packed-fits, fits}
+use Rattle.survey.proofs.PackingLaws.{fits}
 
 -- ---- one request
 
@@ -54,9 +52,9 @@ early-only (looks g s r c l) k h = only (lookup g (packed s r) c l) (tooWide s r
 early-only (closes g s x) k h = only (advance g (packed s lastReading) (zeros 32) x) (tooWide s lastReading) k h
 
 module _ {S : Type 0} (step : S → Call → Effect S) (s : S) (q : Request) where
-  pub made-step : early q ≡ none → requestStep step s q ≡ step s (callOf q)
+  pub passed-step : early q ≡ none → requestStep step s q ≡ step s (callOf q)
   unfolding requestStep
-  made-step h = rw (requestStep, h)
+  passed-step h = rw (requestStep, h)
 
   pub away-step : (k : ℕ) → early q ≡ some k → requestStep step s q ≡ effect (refused k) 0 s
   unfolding requestStep
@@ -91,12 +89,62 @@ stays-wide (advances g s r d x) w h = stays-fits (advance g (packed s r) d x) s 
 stays-wide (looks g s r c l) w h = stays-fits (lookup g (packed s r) c l) s r h
 stays-wide (closes g s x) w h = stays-fits (advance g (packed s lastReading) (zeros 32) x) s lastReading h
 
-pub made-wide : (q : Request) (c : Call) → WideRequest q → madeOf q ≡ some c → Wide c
-made-wide q c w h = go (early q) refl
+-- so a request is turned away, or makes a call whose position has its 64 bits
+pub data Early (q : Request) : Type 0 where
+  away : (k : ℕ) → 7 ≤ k → early q ≡ some k → Early q
+  made-call : early q ≡ none → (WideRequest q → Wide (callOf q)) → Early q
+
+pub early-of : (q : Request) → Early q
+early-of q = go (early q) refl
   where
-    go : (o : Option ℕ) → early q ≡ o → Wide c
-    go none e = let p : callOf q ≡ c = Option·some-injective (callOf q) c (sym (is-made q e) ∙ h) in rw (sym p) (stays-wide q w e)
+    seven : (k : ℕ) → (k ≡ 7) ⊎ (k ≡ 18) → 7 ≤ k
+    seven k (inl e) = omega arith
+    seven k (inr e) = omega arith
+
+    go : (o : Option ℕ) → early q ≡ o → Early q
+    go none e = made-call e (λ w. stays-wide q w e)
+    go (some k) e = away k (seven k (early-only q k e)) e
+
+-- what holds of two steps where a request is turned away, and where it makes its call, holds of the request
+pub steps-so : {S T : Type 0} (f : S → Call → Effect S) (g : T → Call → Effect T) (s : S) (t : T) (q : Request) (P : Effect S → Effect T → Type 0)
+    → ((k : ℕ) → 7 ≤ k → P (effect (refused k) 0 s) (effect (refused k) 0 t)) → ((WideRequest q → Wide (callOf q)) → P (f s (callOf q)) (g t (callOf q))) → P (requestStep f s q) (requestStep g t q)
+unfolding requestStep
+steps-so f g s t q P a m = go (early-of q)
+  where
+    go : Early q → P (requestStep f s q) (requestStep g t q)
+    go (away k h e) = rw (requestStep, e) (a k h)
+    go (made-call e w) = rw (requestStep, e) (m w)
+
+pub step-so : {S : Type 0} (f : S → Call → Effect S) (s : S) (q : Request) (P : Effect S → Type 0)
+    → ((k : ℕ) → 7 ≤ k → P (effect (refused k) 0 s)) → ((WideRequest q → Wide (callOf q)) → P (f s (callOf q))) → P (requestStep f s q)
+step-so f s q P a m = steps-so f f s s q (λ (x y : Effect _). P x) a m
+
+-- ---- the call that it makes
+
+record Made (q : Request) (c : Call) : Type 0 where
+  passes : early q ≡ none
+  call : callOf q ≡ c
+
+made-of : (q : Request) (c : Call) → madeOf q ≡ some c → Made q c
+made-of q c h = go (early q) refl
+  where
+    go : (o : Option ℕ) → early q ≡ o → Made q c
+    go none e = record { passes = e; call = Option·some-injective (callOf q) c (sym (is-made q e) ∙ h) }
     go (some k) e = absurd (Option·none-ne-some c (sym (not-made q k e) ∙ h))
+
+pub made-step : {S : Type 0} (step : S → Call → Effect S) (s : S) (q : Request) (c : Call) → madeOf q ≡ some c → requestStep step s q ≡ step s c
+made-step step s q c h = let m = made-of q c h in passed-step step s q (m .passes) ∙ ap (step s) (m .call)
+
+pub made-wide : (q : Request) (c : Call) → madeOf q ≡ some c → WideRequest q → Wide c
+made-wide q c h w = let m = made-of q c h in subst Wide (m .call) (stays-wide q w (m .passes))
+
+-- one turned away leaves all as it was
+pub unmade-state : {S : Type 0} (step : S → Call → Effect S) (s : S) (q : Request) → madeOf q ≡ none → requestStep step s q .state ≡ s
+unmade-state step s q h = go (early q) refl
+  where
+    go : (o : Option ℕ) → early q ≡ o → requestStep step s q .state ≡ s
+    go none e = absurd (Option·some-ne-none (callOf q) (sym (is-made q e) ∙ h))
+    go (some k) e = ap (λ (f : Effect _). f .state) (away-step step s q k e)
 
 -- ---- lists of them
 
@@ -107,7 +155,7 @@ all-made-wide (q ∷ qs) w = go (madeOf q) refl (all-made-wide qs (w .1))
   where
     go : (o : Option Call) → madeOf q ≡ o → AllWide (made qs) → AllWide (elim o [ none ↦ made qs | some c ↦ c ∷ made qs ])
     go none e ih = ih
-    go (some c) e ih = (made-wide q c (w .0) e, ih)
+    go (some c) e ih = (made-wide q c e (w .0), ih)
 
 module _ (q : Request) (qs : List Request) where
   made-first : early q ≡ none → made (q ∷ qs) ≡ callOf q ∷ made qs
@@ -140,7 +188,7 @@ module _ {S : Type 0} (step : S → Call → Effect S) where
     where
       go : (o : Option ℕ) → early q ≡ o → after (requestStep step) (requestStep step s q .state) qs ≡ after step (requestStep step s q .state) (made qs)
           → after (requestStep step) (requestStep step s q .state) qs ≡ after step s (made (q ∷ qs))
-      go none e ih = ih ∙ ap (λ (f : Effect S). after step (f .state) (made qs)) (made-step step s q e) ∙ sym (ap (after step s) (made-first q qs e))
+      go none e ih = ih ∙ ap (λ (f : Effect S). after step (f .state) (made qs)) (passed-step step s q e) ∙ sym (ap (after step s) (made-first q qs e))
       go (some k) e ih = ih ∙ ap (λ (f : Effect S). after step (f .state) (made qs)) (away-step step s q k e) ∙ sym (ap (after step s) (made-rest q qs k e))
 
 -- what a list shows, by a reading of each effect: its replies, or its blocks
@@ -169,7 +217,7 @@ module _ {S A : Type 0} (step : S → Call → Effect S) (see : Effect S → A) 
           → see (requestStep step s q) ∷ seen see (requestStep step) (requestStep step s q .state) qs ≡ woven away (q ∷ qs) (seen see step s (made (q ∷ qs)))
       go none e ih =
           ap {B = List _} (λ l. see (requestStep step s q) ∷ l) ih
-          ∙ ap (λ (f : Effect S). see f ∷ woven away qs (seen see step (f .state) (made qs))) (made-step step s q e)
+          ∙ ap (λ (f : Effect S). see f ∷ woven away qs (seen see step (f .state) (made qs))) (passed-step step s q e)
           ∙ sym (woven-first q qs away (see (step s (callOf q))) (seen see step (step s (callOf q) .state) (made qs)) e)
           ∙ sym (ap (λ (l : List Call). woven away (q ∷ qs) (seen see step s l)) (made-first q qs e))
       go (some k) e ih =

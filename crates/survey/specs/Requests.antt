@@ -1,12 +1,12 @@
 -- Request [10]: calls by survey and reading. A call of demand 3's list is one of the five, or one of these: "demand 3 counts them as the calls they make, a
 -- close as an advance".
-use Prim.Native.Nat.{ℕ, _^_, _<_}
+use Prim.Native.Nat.{ℕ}
 use mathlib.Core.List.{List, [], _∷_}
 use mathlib.Core.Bool.{Bool}
 use mathlib.Core.Option.{Option, none, some}
 use Rattle.octets.specs.Octets.{zeros}
 use Rattle.refusal.specs.Order.{fault, firstFault}
-use Rattle.a2m.specs.Call.{Call, append, advance, truncate, lookup, end, Wide, refused, Effect, effect}
+use Rattle.a2m.specs.Call.{Call, advance, lookup, Wide, refused, Effect, effect}
 use Rattle.a2m.specs.ImageCalls.{wrongLength}
 use Rattle.survey.specs.Packing.{packed, tooWide, lastReading}
 

@@ -1,6 +1,4 @@
 -- `survey::pack` meets its contract. Assumes nothing.
-use mathlib.Core.Path.{ap, _∙_}
-use mathlib.Core.List.{[], _∷_}
 use borrow.Author.Needs.{needs}
 use Rattle.survey.specs.Packing.{packed}
 use Rattle.survey.proofs.PackingLaws.{wide-survey, wide-reading, narrow, packing-away, packing-at}
