@@ -1,15 +1,14 @@
 -- Document 02 [9]: a sentence shows exactly the verdict's numbers, and no two verdicts have one sentence, nor one buffer.
-use Prim.Native.Nat.{ℕ, zero, suc, _+_, _-_, _*_, _/_, _%_, _^_, _≤_, _<_}
-use Prim.Native.String.{String}
-use mathlib.Core.Path.{_≡_, refl, sym, ap, ap₂, subst, _∙_}
-use mathlib.Core.Bool.{Bool, true, false, cond, _&&_}
+use Prim.Native.Nat.{ℕ, zero, suc, _+_, _-_}
+use mathlib.Core.Path.{_≡_, refl, sym, ap, ap₂, _∙_}
+use mathlib.Core.Bool.{true, false}
 use mathlib.Core.List.{List, [], _∷_, _++_}
 use native.Mathlib.Omega.{arith}
-use lib.ListN.{length, getD, replicate}
+use lib.ListN.{length, getD}
 use Rattle.octets.specs.Octets.{zeros}
 use Rattle.octets.proofs.Tests.{and-both}
-use Rattle.sentence.specs.Text.{ascii, Piece, words, number, textOf, numbersIn}
-use Rattle.sentence.specs.Words.{Subject, receipt, certificate, wordAt, kindWords, reason}
+use Rattle.sentence.specs.Text.{ascii, words, number, textOf, numbersIn}
+use Rattle.sentence.specs.Words.{receipt, certificate, wordAt, kindWords, reason}
 use Rattle.sentence.specs.Sentence.{Said, accepted, certified, refused, membersBelow, others, agreed, piecesOf, sentenceOf, numbersSaid, Fits, padded}
 use Rattle.sentence.proofs.TextLaws.{wordless, isWords, numbersOf, parted, Small, shown, Printed, text-printed}
 use Rattle.sentence.proofs.WordLaws.{kind-short, reason-short}

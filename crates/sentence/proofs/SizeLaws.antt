@@ -1,32 +1,24 @@
 -- "at most 200 bytes": for every number whatever; and what the sentences of our own verdicts take.
 use Prim.Native.Nat.{ℕ, zero, suc, _+_, _/_, _%_, _^_, _≤_, _<_}
-use Prim.Native.String.{String}
 use mathlib.Core.Path.{_≡_, refl, ap, _∙_}
-use mathlib.Core.Bool.{Bool, true, false, cond}
+use mathlib.Core.Logic.{_⊎_, inl, inr, _≢_}
+use mathlib.Core.Bool.{Bool, true, false, cond, _&&_}
 use mathlib.Core.List.{List, [], _∷_, _++_}
 use native.Mathlib.Omega.{arith}
 use native.Mathlib.Decide.{decLe}
 use lib.ListN.{length, length-append}
 use lib.Dec.{eqb, leb}
 use borrow.Author.Tests.{leb-true}
-use Rattle.octets.proofs.Tests.{and-left, and-right}
+use Rattle.octets.proofs.Tests.{and-left, and-right, equal-or-not}
 use Rattle.decimal.specs.Decimal.{decimalOf, decimalFrom, digitsOf}
 use Rattle.decimal.proofs.Laws.{of-width, length-digitsOf}
 use Rattle.decimal.proofs.Theorems.{length-decimal}
-use Rattle.sentence.specs.Text.{ascii, Piece, words, number, textOf}
+use Rattle.sentence.specs.Text.{ascii, words, number, textOf}
 use Rattle.sentence.specs.Words.{Subject, receipt, certificate, wordAt, kindWords, refusalWords, meanings, meaningIn, reason}
 use Rattle.sentence.specs.Sentence.{Said, accepted, certified, refused, membersBelow, others, agreed, piecesOf, sentenceOf}
 use Rattle.sentence.proofs.WordLaws.{kind-short, reason-short}
 
--- ---- pieces
-
-words-size : (w : String) (ps : List Piece) → length (textOf (words w ∷ ps)) ≡ length (ascii w) + length (textOf ps)
-unfolding textOf
-words-size w ps = length-append (ascii w) (textOf ps)
-
-number-size : (n : ℕ) (ps : List Piece) → length (textOf (number n ∷ ps)) ≡ length (decimalOf n) + length (textOf ps)
-unfolding textOf
-number-size n ps = length-append (decimalOf n) (textOf ps)
+-- ---- numbers
 
 zero-size : length (decimalOf 0) ≡ 1
 unfolding decimalOf decimalFrom digitsOf
@@ -72,9 +64,6 @@ cost-members (suc n) m = let h = cost-members n m in let e = cost-append (member
 full-32 : full 32 ≡ 118
 unfolding full decimalOf decimalFrom digitsOf
 full-32 = refl
-
-end : List Piece
-end = words "." ∷ []
 
 others-size : (ns : List ℕ) → length (textOf (others ns ++ (words "." ∷ []))) ≡ cost ns + 1
 unfolding others textOf ascii cost
@@ -148,3 +137,26 @@ accepted-size k g n kind r hg hk =
 -- a certificate stands on one of 32 receipts
 pub certified-size : (p m : ℕ) → p < 32 → length (sentenceOf (certified p m)) ≤ 177
 certified-size p m h = omega (arith, certified-exact p m, two-digits p (omega arith))
+
+-- a test that holds below n
+unfoldable below : (ℕ → Bool) → ℕ → Bool
+below f zero = true
+below f (suc n) = f n && below f n
+
+below-at : (f : ℕ → Bool) (n i : ℕ) → below f n ≡ true → i < n → f i ≡ true
+unfolding below
+below-at f zero i h l = absurd (omega arith)
+below-at f (suc n) i h l = go (equal-or-not i n) (below-at f n i (and-right (f n) (below f n) h))
+  where
+    go : (i ≡ n) ⊎ (i ≡ n → ⊥) → (i < n → f i ≡ true) → f i ≡ true
+    go (inl e) ih = ap f e ∙ and-left (f n) (below f n) h
+    go (inr e) ih = let q : i ≢ n = e in ih (omega arith)
+
+refused-sizes : (s : Subject) → below (λ n. leb (length (sentenceOf (refused s n))) 80) 256 ≡ true
+unfolding below sentenceOf piecesOf textOf ascii decimalOf decimalFrom digitsOf meanings meaningIn refusalWords
+refused-sizes receipt = refl
+refused-sizes certificate = refl
+
+-- a refusal's number is a byte
+pub refused-size : (s : Subject) (n : ℕ) → n < 256 → length (sentenceOf (refused s n)) ≤ 80
+refused-size s n h = leb-true (length (sentenceOf (refused s n))) 80 (below-at (λ k. leb (length (sentenceOf (refused s k))) 80) 256 n (refused-sizes s) h)

@@ -1,18 +1,16 @@
 -- The numbers that stand in a text of words and numbers are its numbers.
-use Prim.Native.Nat.{ℕ, zero, suc, _+_, _*_, _-_, _^_, _≤_, _<_}
-use Prim.Native.String.{String}
-use mathlib.Core.Path.{_≡_, refl, sym, ap, _∙_}
+use Prim.Native.Nat.{ℕ, _+_, _*_, _-_, _^_, _≤_, _<_}
+use mathlib.Core.Path.{_≡_, refl, ap, _∙_}
 use mathlib.Core.Bool.{Bool, true, false, cond, not, _&&_}
 use mathlib.Core.List.{List, [], _∷_, _++_}
 use mathlib.Core.Option.{none, some}
 use native.Mathlib.Omega.{arith}
-use lib.ListN.{length}
 use lib.Dec.{leb}
 use borrow.Author.Tests.{leb-true}
 use Rattle.octets.proofs.Tests.{and-left, and-right}
 use Rattle.decimal.specs.Decimal.{decimalOf, isDigit, allDigits, valueAfter, valueOf, startsWell}
 use Rattle.decimal.proofs.Theorems.{decimal-value, decimal-digits, decimal-starts}
-use Rattle.sentence.specs.Text.{ascii, Piece, words, number, pieceText, textOf, numbersFrom, numbersIn}
+use Rattle.sentence.specs.Text.{ascii, Piece, words, number, textOf, numbersFrom, numbersIn}
 
 -- a printed byte that is no digit
 abbrev pub plain : ℕ → Bool

@@ -1,7 +1,7 @@
 -- The theorems over the verdicts of the verifier and of certificates themselves.
-use Prim.Native.Nat.{ℕ, _^_, _<_}
-use mathlib.Core.Path.{_≡_, refl, sym, ap, ap₂, subst, _∙_}
-use mathlib.Core.Bool.{Bool, true, false, cond}
+use Prim.Native.Nat.{ℕ, _<_}
+use mathlib.Core.Path.{_≡_, refl, sym, ap, _∙_}
+use mathlib.Core.Bool.{false}
 use mathlib.Core.List.{List, [], _∷_}
 use native.Mathlib.Omega.{arith}
 use lib.Dec.{eqb}
@@ -17,7 +17,7 @@ use Rattle.quorum.specs.Certificate.{stationAnswer}
 use Rattle.quorum.specs.declared.Station.{Station}
 use Rattle.quorum.specs.declared.Station.the-variants as station
 use Rattle.sentence.specs.Text.{numbersIn}
-use Rattle.sentence.specs.Words.{Subject, receipt, certificate}
+use Rattle.sentence.specs.Words.{receipt, certificate}
 use Rattle.sentence.specs.Sentence.{Said, accepted, certified, refused, receiptSaid, stationSaid, membersBelow, sentenceOf, numbersSaid, Fits}
 use Rattle.sentence.proofs.Distinct.{initial, initial-is, sentence-numbers, sentence-injective}
 

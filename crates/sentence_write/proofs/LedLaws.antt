@@ -1,6 +1,6 @@
 -- The member list as the loop writes it.
 use Prim.Native.Nat.{ℕ, zero, suc, _+_, _*_, _/_, _%_, _^_, _≤_, _<_}
-use mathlib.Core.Path.{_≡_, refl, sym, ap, ap₂, subst, _∙_}
+use mathlib.Core.Path.{_≡_, refl, sym, ap, subst, _∙_}
 use mathlib.Core.Logic.{_≢_}
 use Prim.Native.String.{String}
 use mathlib.Core.Bool.{Bool, true, false, cond}
@@ -11,7 +11,6 @@ use lib.ListN.{length, length-append}
 use lib.Dec.{eqb}
 use lib.Bits.{bitAnd, and-mask}
 use borrow.Author.Tests.{ne-eqb, eq-eqb, eqb-true, eqb-false}
-use Rattle.octets.specs.Octets.{splice}
 use Rattle.octets.proofs.Parts.{splice-nil, length-splice}
 use Rattle.decimal.specs.Decimal.{decimalOf}
 use Rattle.sentence.specs.Text.{ascii, Piece, words, number, textOf}

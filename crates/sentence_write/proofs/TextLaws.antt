@@ -1,19 +1,17 @@
 -- The texts that the writers write, on end, are the sentences; and the buffer that they are copied from.
-use Prim.Native.Nat.{ℕ, zero, suc, _+_, _-_, _≤_, _<_}
-use mathlib.Core.Path.{_≡_, refl, sym, ap, ap₂, subst, _∙_}
-use mathlib.Core.Bool.{Bool, true, false, not, cond}
+use Prim.Native.Nat.{ℕ, zero, suc, _+_, _-_, _≤_}
+use mathlib.Core.Path.{_≡_, refl, sym, ap, ap₂, _∙_}
 use mathlib.Core.List.{List, [], _∷_, _++_, append-assoc, append-nil}
 use mathlib.Core.Logic.{_≢_}
 use mathlib.Core.Option.{none, some}
 use native.Mathlib.Omega.{arith}
-use lib.ListN.{length, length-append, take, drop, replicate}
+use lib.ListN.{length, length-append, take, drop}
 use lib.Seq.{take-append-add}
-use lib.Dec.{eqb}
 use borrow.Author.Tests.{ne-eqb, eq-eqb}
 use Rattle.octets.specs.Octets.{splice, zeros}
 use Rattle.octets.proofs.Parts.{splice-whole, length-splice}
 use Rattle.octets.proofs.Zeros.{length-zeros}
-use Rattle.refusal.specs.Order.{fault, firstFault, answerOf, afterwards}
+use Rattle.refusal.specs.Order.{firstFault, answerOf, afterwards}
 use Rattle.decimal.specs.Decimal.{decimalOf}
 use Rattle.decimal.proofs.Theorems.{decimal-zero, length-decimal}
 use Rattle.sentence.specs.Text.{ascii, Piece, words, number, pieceText, textOf}

@@ -8,6 +8,7 @@ ghost use mathlib.Core.List.{[], _∷_};
 ghost use Rattle.refusal.specs.Number.{outcomeNumber};
 ghost use Rattle.refusal.specs.Answer.{answer};
 ghost use Rattle.refusal.specs.Order.{answerOf, afterwards};
+ghost use Rattle.octets.specs.Octets.{zeros};
 ghost use Rattle.receipt.specs.Verdict.{verdictAnswer};
 ghost use Rattle.quorum.specs.Certificate.{stationAnswer};
 ghost use Rattle.sentence.specs.Sentence.{receiptSaid, stationSaid, sentenceOf, sentenceRefusal, padded};
@@ -20,6 +21,13 @@ use refusal::Refusal;
 use sentence::SENTENCE;
 use sentences::put_certificate;
 use sentences::put_receipt;
+
+// A text of zeros; a sentence is written over its start, and its first 200 bytes are copied.
+fn zero_text() -> [u8; 256]
+    ensures { λ r. ⌜ r ≡ zeros 256 ⌝ }
+{
+    [0u8; 256]
+}
 
 // The sentence of the verifier's answer: its number, and the values that come with 0. Refused with 7: a buffer that is not 200 bytes.
 pub fn write_receipt_values(
@@ -37,7 +45,7 @@ pub fn write_receipt_values(
     if out.len() != SENTENCE {
         return Outcome::Refused(Refusal::Length);
     }
-    let mut text = [0u8; 256];
+    let mut text = zero_text();
     put_receipt(&mut text, number, keeper, log, position, kind, reference);
     put(out, 0, &text[0..200]);
     Outcome::Done
@@ -52,7 +60,7 @@ pub fn write_certificate_values(out: &mut [u8], number: u8, place: u64, mask: u3
     if out.len() != SENTENCE {
         return Outcome::Refused(Refusal::Length);
     }
-    let mut text = [0u8; 256];
+    let mut text = zero_text();
     put_certificate(&mut text, number, place, mask);
     put(out, 0, &text[0..200]);
     Outcome::Done
