@@ -3,9 +3,10 @@ use crate::old::{old_of, Entry, Field, Log, Said};
 use crate::sides::{KeeperResult, Random, Run, Side, Verdict, KEEPER, PLAIN};
 use crate::tables::*;
 
-pub const CALLS: [&str; 17] = [
-    "hash", "tag", "format", "check", "free", "carry", "append", "advance", "truncate", "lookup", "end", "verify",
-    "verify end", "certify", "receipt sentence", "certificate sentence", "compare",
+pub const CALLS: [&str; 22] = [
+    "hash", "tag", "format", "check", "free", "carry", "append", "advance", "truncate", "lookup", "end", "pack",
+    "split", "survey advance", "survey lookup", "survey close", "verify", "verify end", "certify", "receipt sentence",
+    "certificate sentence", "compare",
 ];
 const HASH: usize = 0;
 const TAG: usize = 1;
@@ -18,15 +19,20 @@ const ADVANCE: usize = 7;
 const TRUNCATE: usize = 8;
 const LOOKUP: usize = 9;
 const END: usize = 10;
-const VERIFY: usize = 11;
-const VERIFY_END: usize = 12;
-const CERTIFY: usize = 13;
-const RECEIPT_SENTENCE: usize = 14;
-const CERTIFICATE_SENTENCE: usize = 15;
-const COMPARE: usize = 16;
+const PACK: usize = 11;
+const SPLIT: usize = 12;
+const SURVEY_ADVANCE: usize = 13;
+const SURVEY_LOOKUP: usize = 14;
+const SURVEY_CLOSE: usize = 15;
+const VERIFY: usize = 16;
+const VERIFY_END: usize = 17;
+const CERTIFY: usize = 18;
+const RECEIPT_SENTENCE: usize = 19;
+const CERTIFICATE_SENTENCE: usize = 20;
+const COMPARE: usize = 21;
 
 /// The numbers that calls return: 15 is for lines of a script.
-const NUMBERS: [usize; 16] = [0, 1, 2, 3, 4, 5, 7, 8, 9, 10, 11, 12, 13, 14, 16, 17];
+const NUMBERS: [usize; 17] = [0, 1, 2, 3, 4, 5, 7, 8, 9, 10, 11, 12, 13, 14, 16, 17, 18];
 
 /// What is spoiled of plain C's first accepted answer to a call, to see that the check finds it. A promise is its first
 /// answer 16, old the table that a carry reads.
@@ -57,9 +63,10 @@ impl Part {
     /// Whether an answer to the call has it.
     fn is_of(self, call: usize) -> bool {
         match self {
-            Part::Blocks => ![CHECK, FREE, RECEIPT_SENTENCE, CERTIFICATE_SENTENCE].contains(&call),
+            Part::Blocks => ![CHECK, FREE, PACK, SPLIT, RECEIPT_SENTENCE, CERTIFICATE_SENTENCE].contains(&call),
+            Part::Byte | Part::BehindTheBuffer => ![PACK, SPLIT].contains(&call),
             Part::Reserve => [FORMAT, CARRY].contains(&call),
-            Part::Promise => [APPEND, ADVANCE].contains(&call),
+            Part::Promise => [APPEND, ADVANCE, SURVEY_ADVANCE, SURVEY_CLOSE].contains(&call),
             Part::Old => call == CARRY,
             _ => true,
         }
@@ -113,7 +120,7 @@ struct Answer {
 pub struct Check {
     random: Random,
     /// Answers by call and number.
-    pub counts: [[u64; 18]; CALLS.len()],
+    pub counts: [[u64; 19]; CALLS.len()],
     /// Accepted comparisons of runs by verdict, accepted lookups by kind, and accepted ends, of fresh logs and of others.
     pub verdicts: [u64; 3],
     pub kinds: [u64; 4],
@@ -156,7 +163,7 @@ impl Check {
     pub fn new(seed: u64, spoil: Option<(usize, Part)>) -> Check {
         Check {
             random: Random(seed),
-            counts: [[0; 18]; CALLS.len()],
+            counts: [[0; 19]; CALLS.len()],
             verdicts: [0; 3],
             kinds: [0; 4],
             ends: [0; 2],
@@ -387,6 +394,79 @@ impl Check {
         reports_if_done(END, answer, 6)
     }
 
+    fn pack(&mut self, at: (u64, u64)) -> Checked<Answer> {
+        let run = |side: &Side, _: &mut [Lent], r: &mut [u64; 5]| alone(side.pack(at.0, at.1, &mut r[0]));
+        let answer = self.case(PACK, &[], run, || format!("survey and reading {at:?}"))?;
+        let due = packed(at);
+        if answer.number != if due.is_some() { 0 } else { 18 } || due.is_some_and(|n| answer.results[0] != n) {
+            return Err(format!("pack: {at:?} gives {}, {}", answer.number, answer.results[0]));
+        }
+        Ok(answer)
+    }
+
+    fn split(&mut self, n: u64) -> Checked<Answer> {
+        let run = |side: &Side, _: &mut [Lent], r: &mut [u64; 5]| {
+            let (survey, reading) = r.split_at_mut(1);
+            alone(side.split(n, &mut survey[0], &mut reading[0]))
+        };
+        let answer = self.case(SPLIT, &[], run, || format!("position {n}"))?;
+        if answer.number != 0 || packed((answer.results[0], answer.results[1])) != Some(n) {
+            return Err(format!("split: {n} gives {:?}", answer.results));
+        }
+        Ok(answer)
+    }
+
+    fn survey_advance(&mut self, table: &[u8], log: u64, at: (u64, u64), digest: &[u8], value: &[u8]) -> Checked<Answer> {
+        let run = |side: &Side, b: &mut [Lent], r: &mut [u64; 5]| {
+            let (low, high) = r.split_at_mut(1);
+            side.survey_advance(b[0].get_mut(), log, at, digest, value, &mut low[0], &mut high[0])
+        };
+        let says = || format!("log {log}, survey and reading {at:?}, digest {}, value {}", hex(digest), hex(value));
+        let answer = self.case(SURVEY_ADVANCE, &[table], run, says)?;
+        if let Some(n) = packed(at) {
+            let plain = self.advance(table, log, n, digest, value)?;
+            same_answer(SURVEY_ADVANCE, &answer, &plain)?;
+        }
+        let lengths = digest.len() == 32 && value.len() == 32;
+        reports_if_done(SURVEY_ADVANCE, turned_away(SURVEY_ADVANCE, lengths, at, answer)?, 2)
+    }
+
+    fn survey_lookup(
+        &mut self, table: &[u8], log: u64, at: (u64, u64), nonce: &[u8], receipt_bytes: usize,
+    ) -> Checked<Answer> {
+        let receipt = self.random.bytes(receipt_bytes);
+        let run = |side: &Side, b: &mut [Lent], r: &mut [u64; 5]| {
+            let (receipt, table) = b.split_at_mut(1);
+            side.survey_lookup(table[0].get(), log, at, nonce, receipt[0].get_mut(), &mut r[0])
+        };
+        let says = || format!("receipt, table; log {log}, survey and reading {at:?}, nonce {}", hex(nonce));
+        let answer = self.case(SURVEY_LOOKUP, &[&receipt, table], run, says)?;
+        if let Some(n) = packed(at) {
+            let plain = self.lookup(table, log, n, nonce, receipt_bytes)?;
+            if answer.number != 0 {
+                // Each call had bytes of its own in the buffer, and left them.
+                same_number(SURVEY_LOOKUP, &answer, &plain)?;
+            } else {
+                same_answer(SURVEY_LOOKUP, &answer, &plain)?;
+            }
+        }
+        let lengths = nonce.len() == 32 && receipt_bytes == 160;
+        reports_if_done(SURVEY_LOOKUP, turned_away(SURVEY_LOOKUP, lengths, at, answer)?, 6)
+    }
+
+    fn survey_close(&mut self, table: &[u8], log: u64, survey: u64, value: &[u8]) -> Checked<Answer> {
+        let run = |side: &Side, b: &mut [Lent], r: &mut [u64; 5]| {
+            let (low, high) = r.split_at_mut(1);
+            side.survey_close(b[0].get_mut(), log, survey, value, &mut low[0], &mut high[0])
+        };
+        let answer = self.case(SURVEY_CLOSE, &[table], run, || format!("log {log}, survey {survey}, value {}", hex(value)))?;
+        if survey < 1 << 24 {
+            let plain = self.advance(table, log, (survey + 1 << 40).wrapping_sub(1), &[0; 32], value)?;
+            same_answer(SURVEY_CLOSE, &answer, &plain)?;
+        }
+        reports_if_done(SURVEY_CLOSE, turned_away(SURVEY_CLOSE, value.len() == 32, (survey, 0), answer)?, 2)
+    }
+
     fn verify(
         &mut self, key: &[u8], receipt: &[u8], nonce: &[u8], keeper: u64, log: u64, position: Option<u64>,
     ) -> Checked<Answer> {
@@ -508,6 +588,17 @@ impl Check {
             }
             _ if high > low => low + self.random.below((high - low).saturating_add(1)),
             _ => high.saturating_add(1),
+        }
+    }
+
+    /// A survey and a reading: those of a position, or a number too wide for its part.
+    fn pair(&mut self, n: u64) -> (u64, u64) {
+        let (survey, reading) = (n >> 40, n % (1 << 40));
+        match self.random.below(12) {
+            0 => (self.random.pick(&[1 << 24, (1 << 24) + survey, 1 << 32, (1 << 32) + survey, u64::MAX]), reading),
+            1 => (survey, self.random.pick(&[1 << 40, (1 << 40) + reading, 1 << 63, u64::MAX])),
+            2 => (self.random.pick(&[0, 1, survey + 1, (1 << 24) - 1, 1 << 24]), self.random.pick(&[0, 1, (1 << 40) - 1, 1 << 40])),
+            _ => (survey, reading),
         }
     }
 
@@ -675,7 +766,7 @@ impl Check {
     /// A call at random; gives the table after it, and what a verifier needs if a receipt was written.
     fn step(&mut self, t: &[u8]) -> Checked<(Vec<u8>, Option<(Vec<u8>, Vec<u8>)>)> {
         let log = self.log(logs(t));
-        let after = match self.random.below(12) {
+        let after = match self.random.below(15) {
             0..=3 => {
                 let value = self.value();
                 let answer = self.append(t, log, &value)?;
@@ -700,6 +791,29 @@ impl Check {
             8..=10 => {
                 let (n, nonce, receipt) = (self.position(t, log), self.value(), self.length(160));
                 let answer = self.lookup(t, log, n, &nonce, receipt)?;
+                if answer.number == 0 {
+                    return Ok((t.to_vec(), Some((answer.lent[0].clone(), nonce))));
+                }
+                t.to_vec()
+            }
+            11 => {
+                let high = if log < logs(t) { bounds(t, log).1 } else { 0 };
+                let n = if self.random.once_in(4) { self.position(t, log) } else { high.saturating_add(1 + self.random.below(5)) };
+                let (at, digest, value) = (self.pair(n), self.value(), self.value());
+                let answer = self.survey_advance(t, log, at, &digest, &value)?;
+                room(t, log, answer)?.lent.swap_remove(0)
+            }
+            12 => {
+                let high = if log < logs(t) { bounds(t, log).1 } else { 0 };
+                let (at, value) = (self.pair(high), self.value());
+                let survey = if self.random.once_in(12) { at.0 } else { (high >> 40) + self.random.below(2) };
+                let answer = self.survey_close(t, log, survey, &value)?;
+                room(t, log, answer)?.lent.swap_remove(0)
+            }
+            13 => {
+                let n = self.position(t, log);
+                let (at, nonce, receipt) = (self.pair(n), self.value(), self.length(160));
+                let answer = self.survey_lookup(t, log, at, &nonce, receipt)?;
                 if answer.number == 0 {
                     return Ok((t.to_vec(), Some((answer.lent[0].clone(), nonce))));
                 }
@@ -863,6 +977,10 @@ impl Check {
         self.truncate(t, log, n)?;
         self.lookup(t, log, n, &nonce, receipt)?;
         self.end(t, log, &nonce, receipt)?;
+        let at = self.pair(n);
+        self.survey_advance(t, log, at, &digest, &value)?;
+        self.survey_lookup(t, log, at, &nonce, receipt)?;
+        self.survey_close(t, log, at.0, &value)?;
         Ok(())
     }
 
@@ -876,8 +994,11 @@ impl Check {
             self.truncate(t, 0, 1)?.number,
             self.lookup(t, 0, 1, &zeros, 160)?.number,
             self.end(t, 0, &zeros, 160)?.number,
+            self.survey_advance(t, 0, (1, 0), &zeros, &zeros)?.number,
+            self.survey_lookup(t, 0, (1, 0), &zeros, 160)?.number,
+            self.survey_close(t, 0, 0, &zeros)?.number,
         ];
-        if numbers == [1; 6] { Ok(()) } else { Err(format!("check: a torn table is taken, {numbers:?}")) }
+        if numbers == [1; 9] { Ok(()) } else { Err(format!("check: a torn table is taken, {numbers:?}")) }
     }
 
     /// What a table's header says of the free slots is true of its free chain: the number, which the screen shows, and the
@@ -1589,6 +1710,49 @@ impl Check {
         Ok(())
     }
 
+    /// Packing and splitting, and a list of calls whose answers stand in request [10]: a survey closed, and closed again.
+    fn surveys(&mut self, times: u64) -> Checked<()> {
+        let (last, end) = ((1 << 40) - 1, u64::MAX);
+        for n in [0, 1, last, last + 1, last + 2, end - 1, end, 1 << 39, 1 << 41, 1 << 63] {
+            self.split(n)?;
+            self.pack((n >> 40, n & last))?;
+        }
+        for at in [((1 << 24) - 1, last), (1 << 24, 0), (0, 1 << 40), (1 << 24, 1 << 40), (end, end), (1 << 32, 5), (5, 1 << 63)] {
+            self.pack(at)?;
+        }
+        for _ in 0..50 * times {
+            let (n, at) = (self.any_number(), (self.any_number(), self.any_number()));
+            self.split(n)?;
+            self.pack(at)?;
+            let at = self.pair(n);
+            self.pack(at)?;
+        }
+        let (key, x) = (self.random.bytes(32), [7; 32]);
+        let nothing = vec![0; table_bytes(2, 3)];
+        let mut t = self.format(&nothing, 2, 3, 7, &key, &[0, 0])?.lent.swap_remove(0);
+        let reached = |answer: Answer, number: u64, high: u64| {
+            if answer.number != number || number == 0 && answer.results[1] != high {
+                return Err(format!("a survey's call: {}, H {}, not {number}, {high}", answer.number, answer.results[1]));
+            }
+            Ok(answer.lent.into_iter().next().unwrap())
+        };
+        t = reached(self.survey_advance(&t, 0, (1, 5), &[0; 32], &x)?, 0, 1099511627781)?;
+        t = reached(self.survey_close(&t, 0, 1, &x)?, 0, 2199023255551)?;
+        t = reached(self.survey_close(&t, 0, 1, &x)?, 3, 0)?;
+        t = reached(self.survey_advance(&t, 0, (1, last), &x, &x)?, 3, 0)?;
+        t = reached(self.survey_close(&t, 0, 0, &x)?, 3, 0)?;
+        t = reached(self.append(&t, 0, &x)?, 0, 2199023255552)?;
+        reached(self.survey_close(&t, 0, 1 << 24, &x)?, 18, 0)?;
+        reached(self.survey_close(&[], 9, 1 << 24, &x)?, 18, 0)?;
+        reached(self.survey_close(&t, 0, 1 << 24, &x[1..])?, 7, 0)?;
+        reached(self.survey_advance(&t, 0, (0, 0), &x, &x)?, 3, 0)?;
+        reached(self.survey_lookup(&t, 0, (0, 0), &x, 160)?, 3, 0)?;
+        let mut t = self.format(&nothing, 2, 3, 7, &key, &[0, 0])?.lent.swap_remove(0);
+        t = reached(self.survey_close(&t, 1, (1 << 24) - 1, &x)?, 0, end)?;
+        reached(self.append(&t, 1, &x)?, 4, 0)?;
+        Ok(())
+    }
+
     /// Narrow and wide, and the least and most of some widths.
     fn any_number(&mut self) -> u64 {
         match self.random.below(4) {
@@ -1828,6 +1992,7 @@ impl Check {
         self.hashes(times)?;
         self.tags(times)?;
         self.formats(times)?;
+        self.surveys(times)?;
         self.carries(times)?;
         self.tables(times)?;
         self.certificates(times)?;
@@ -1865,6 +2030,34 @@ fn known(answer: &Answer, digest: &str) -> Checked<()> {
     } else {
         Err(format!("a published digest is {digest}, not {}", hex(&answer.lent[0])))
     }
+}
+
+/// The position of a survey and a reading, if neither is too wide.
+fn packed(at: (u64, u64)) -> Option<u64> {
+    (at.0 < 1 << 24 && at.1 < 1 << 40).then(|| at.0 * (1 << 40) + at.1)
+}
+
+/// The answer, if it is 7 for a wrong length, then 18 for a number too wide for its part, and 18 for nothing else.
+fn turned_away(call: usize, lengths: bool, at: (u64, u64), answer: Answer) -> Checked<Answer> {
+    let due = if !lengths { Some(7) } else if packed(at).is_none() { Some(18) } else { None };
+    match due {
+        Some(n) if answer.number != n => Err(format!("{}: {} and not {n} for {at:?}", CALLS[call], answer.number)),
+        None if answer.number == 18 => Err(format!("{}: 18 for {at:?}", CALLS[call])),
+        _ => Ok(answer),
+    }
+}
+
+/// A call by survey and reading answers as the call by position that it makes.
+fn same_number(call: usize, one: &Answer, other: &Answer) -> Checked<()> {
+    if (one.number, one.blocks, one.results) == (other.number, other.blocks, other.results) {
+        return Ok(());
+    }
+    Err(format!("{}: {} and {:?}, by position {} and {:?}", CALLS[call], one.number, one.results, other.number, other.results))
+}
+
+fn same_answer(call: usize, one: &Answer, other: &Answer) -> Checked<()> {
+    same_number(call, one, other)?;
+    if one.lent == other.lent { Ok(()) } else { Err(format!("{}: other bytes than by position", CALLS[call])) }
 }
 
 /// The answer, if an accepted one left a sentence that ends with a full stop, and zero bytes after it.
@@ -1919,7 +2112,7 @@ pub fn run(seed: u64, times: u64) -> bool {
     );
     println!("  longest message hashed: {} bytes", check.longest);
     let mut full = true;
-    for number in 0..18 {
+    for number in 0..19 {
         let came = check.counts.iter().any(|c| c[number] != 0);
         if number == 6 && came {
             println!("  number 6 came up, which no call answers any more");

@@ -1,4 +1,4 @@
-/* The keeper in plain C: the bench's yardstick, and an independent reading of document 01 and requests [1] to [9]. Portable C,
+/* The keeper in plain C: the bench's yardstick, and an independent reading of document 01 and requests [1] to [10]. Portable C,
  * no intrinsics. Blocks are counted where they are compressed, and added up on the way out. */
 #include "plain.h"
 
@@ -644,6 +644,56 @@ keeper_result plain_end(const uint8_t *table, size_t table_bytes, uint64_t log, 
         return done(put_receipt(receipt, table, name_end, KEEPER_UNASSIGNED, log, high, high, nonce, NULL));
     return done(put_receipt(receipt, table, name_end, KEEPER_ASSIGNED, log, high, high, nonce,
                             table + slot_at(logs, last)));
+}
+
+/* ---- surveys ---- */
+
+static const uint64_t last_reading = (UINT64_C(1) << 40) - 1;
+
+uint8_t plain_pack(uint64_t survey, uint64_t reading, uint64_t *position)
+{
+    if (survey >> 24 != 0 || reading > last_reading)
+        return KEEPER_SURVEY;
+    *position = survey << 40 | reading;
+    return KEEPER_DONE;
+}
+
+uint8_t plain_split(uint64_t position, uint64_t *survey, uint64_t *reading)
+{
+    *survey = position >> 40;
+    *reading = position & last_reading;
+    return KEEPER_DONE;
+}
+
+keeper_result plain_survey_advance(uint8_t *table, size_t table_bytes, uint64_t log, uint64_t survey, uint64_t reading,
+                                   const uint8_t *digest, size_t digest_bytes, const uint8_t *value, size_t value_bytes,
+                                   uint64_t *low, uint64_t *high)
+{
+    uint64_t position;
+    if (digest_bytes != 32 || value_bytes != 32)
+        return refused(KEEPER_LENGTH);
+    if (plain_pack(survey, reading, &position) != KEEPER_DONE)
+        return refused(KEEPER_SURVEY);
+    return plain_advance(table, table_bytes, log, position, digest, digest_bytes, value, value_bytes, low, high);
+}
+
+keeper_result plain_survey_lookup(const uint8_t *table, size_t table_bytes, uint64_t log, uint64_t survey, uint64_t reading,
+                                  const uint8_t *nonce, size_t nonce_bytes, uint8_t *receipt, size_t receipt_bytes,
+                                  uint64_t *examined)
+{
+    uint64_t position;
+    if (nonce_bytes != 32 || receipt_bytes != 160)
+        return refused(KEEPER_LENGTH);
+    if (plain_pack(survey, reading, &position) != KEEPER_DONE)
+        return refused(KEEPER_SURVEY);
+    return plain_lookup(table, table_bytes, log, position, nonce, nonce_bytes, receipt, receipt_bytes, examined);
+}
+
+keeper_result plain_survey_close(uint8_t *table, size_t table_bytes, uint64_t log, uint64_t survey, const uint8_t *value,
+                                 size_t value_bytes, uint64_t *low, uint64_t *high)
+{
+    static const uint8_t no_digest[32];
+    return plain_survey_advance(table, table_bytes, log, survey, last_reading, no_digest, 32, value, value_bytes, low, high);
 }
 
 /* ---- the verifier ---- */

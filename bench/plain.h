@@ -1,4 +1,4 @@
-/* The keeper in plain C, written for the bench from document 01 and requests [1] to [9] alone: the same calls as in
+/* The keeper in plain C, written for the bench from document 01 and requests [1] to [10] alone: the same calls as in
  * keeper.h, with the same arguments, numbers and orders of refusal. The constants and the types of result and verdict are
  * keeper.h's. */
 #ifndef PLAIN_H
@@ -37,6 +37,21 @@ keeper_result plain_lookup(const uint8_t *table, size_t table_bytes, uint64_t lo
 
 keeper_result plain_end(const uint8_t *table, size_t table_bytes, uint64_t log, const uint8_t *nonce, size_t nonce_bytes,
                         uint8_t *receipt, size_t receipt_bytes);
+
+uint8_t plain_pack(uint64_t survey, uint64_t reading, uint64_t *position);
+
+uint8_t plain_split(uint64_t position, uint64_t *survey, uint64_t *reading);
+
+keeper_result plain_survey_advance(uint8_t *table, size_t table_bytes, uint64_t log, uint64_t survey, uint64_t reading,
+                                   const uint8_t *digest, size_t digest_bytes, const uint8_t *value, size_t value_bytes,
+                                   uint64_t *low, uint64_t *high);
+
+keeper_result plain_survey_lookup(const uint8_t *table, size_t table_bytes, uint64_t log, uint64_t survey, uint64_t reading,
+                                  const uint8_t *nonce, size_t nonce_bytes, uint8_t *receipt, size_t receipt_bytes,
+                                  uint64_t *examined);
+
+keeper_result plain_survey_close(uint8_t *table, size_t table_bytes, uint64_t log, uint64_t survey, const uint8_t *value,
+                                 size_t value_bytes, uint64_t *low, uint64_t *high);
 
 keeper_result plain_verify_lookup(const uint8_t *key, size_t key_bytes, const uint8_t *receipt, size_t receipt_bytes,
                                   const uint8_t *nonce, size_t nonce_bytes, uint64_t keeper, uint64_t log, uint64_t position,

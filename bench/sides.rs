@@ -22,6 +22,8 @@ pub struct Verdict {
 type In = *const u8;
 type Out = *mut u8;
 type Num = *mut u64;
+type SurveyAdvance = unsafe extern "C" fn(Out, usize, u64, u64, u64, In, usize, In, usize, Num, Num) -> KeeperResult;
+type SurveyLookup = unsafe extern "C" fn(In, usize, u64, u64, u64, In, usize, Out, usize, Num) -> KeeperResult;
 type Verify = unsafe extern "C" fn(In, usize, In, usize, In, usize, u64, u64, u64, *mut Verdict) -> KeeperResult;
 type VerifyEnd = unsafe extern "C" fn(In, usize, In, usize, In, usize, u64, u64, *mut Verdict) -> KeeperResult;
 type Certify =
@@ -44,6 +46,11 @@ pub struct Side {
     truncate: unsafe extern "C" fn(Out, usize, u64, u64, Num, Num) -> KeeperResult,
     lookup: unsafe extern "C" fn(In, usize, u64, u64, In, usize, Out, usize, Num) -> KeeperResult,
     end: unsafe extern "C" fn(In, usize, u64, In, usize, Out, usize) -> KeeperResult,
+    pack: unsafe extern "C" fn(u64, u64, Num) -> u8,
+    split: unsafe extern "C" fn(u64, Num, Num) -> u8,
+    survey_advance: SurveyAdvance,
+    survey_lookup: SurveyLookup,
+    survey_close: unsafe extern "C" fn(Out, usize, u64, u64, In, usize, Num, Num) -> KeeperResult,
     verify_lookup: Verify,
     verify_end: VerifyEnd,
     certify: Certify,
@@ -54,8 +61,9 @@ pub struct Side {
 
 macro_rules! side {
     ($side:ident, $label:expr, $hash:ident, $tag:ident, $format:ident, $check:ident, $free:ident, $carry:ident,
-     $append:ident, $advance:ident, $truncate:ident, $lookup:ident, $end:ident, $verify_lookup:ident,
-     $verify_end:ident, $certify:ident, $receipt_sentence:ident, $certificate_sentence:ident, $compare:ident) => {
+     $append:ident, $advance:ident, $truncate:ident, $lookup:ident, $end:ident, $pack:ident, $split:ident,
+     $survey_advance:ident, $survey_lookup:ident, $survey_close:ident, $verify_lookup:ident, $verify_end:ident,
+     $certify:ident, $receipt_sentence:ident, $certificate_sentence:ident, $compare:ident) => {
         extern "C" {
             fn $hash(message: In, message_bytes: usize, digest: Out, digest_bytes: usize) -> KeeperResult;
             fn $tag(key: In, key_bytes: usize, text: In, text_bytes: usize, tag: Out, tag_bytes: usize) -> KeeperResult;
@@ -80,6 +88,19 @@ macro_rules! side {
             ) -> KeeperResult;
             fn $end(
                 t: In, t_bytes: usize, log: u64, nonce: In, nonce_bytes: usize, receipt: Out, receipt_bytes: usize,
+            ) -> KeeperResult;
+            fn $pack(survey: u64, reading: u64, position: Num) -> u8;
+            fn $split(position: u64, survey: Num, reading: Num) -> u8;
+            fn $survey_advance(
+                t: Out, t_bytes: usize, log: u64, survey: u64, reading: u64, digest: In, digest_bytes: usize, value: In,
+                value_bytes: usize, low: Num, high: Num,
+            ) -> KeeperResult;
+            fn $survey_lookup(
+                t: In, t_bytes: usize, log: u64, survey: u64, reading: u64, nonce: In, nonce_bytes: usize, receipt: Out,
+                receipt_bytes: usize, examined: Num,
+            ) -> KeeperResult;
+            fn $survey_close(
+                t: Out, t_bytes: usize, log: u64, survey: u64, value: In, value_bytes: usize, low: Num, high: Num,
             ) -> KeeperResult;
             fn $verify_lookup(
                 key: In, key_bytes: usize, receipt: In, receipt_bytes: usize, nonce: In, nonce_bytes: usize,
@@ -114,6 +135,11 @@ macro_rules! side {
             truncate: $truncate,
             lookup: $lookup,
             end: $end,
+            pack: $pack,
+            split: $split,
+            survey_advance: $survey_advance,
+            survey_lookup: $survey_lookup,
+            survey_close: $survey_close,
             verify_lookup: $verify_lookup,
             verify_end: $verify_end,
             certify: $certify,
@@ -126,12 +152,14 @@ macro_rules! side {
 
 side!(
     KEEPER, "keeper", keeper_hash, keeper_tag, keeper_format, keeper_check, keeper_free, keeper_carry, keeper_append,
-    keeper_advance, keeper_truncate, keeper_lookup, keeper_end, keeper_verify_lookup, keeper_verify_end, keeper_certify,
+    keeper_advance, keeper_truncate, keeper_lookup, keeper_end, keeper_pack, keeper_split, keeper_survey_advance,
+    keeper_survey_lookup, keeper_survey_close, keeper_verify_lookup, keeper_verify_end, keeper_certify,
     keeper_receipt_sentence, keeper_certificate_sentence, keeper_compare
 );
 side!(
     PLAIN, "plain C", plain_hash, plain_tag, plain_format, plain_check, plain_free, plain_carry, plain_append,
-    plain_advance, plain_truncate, plain_lookup, plain_end, plain_verify_lookup, plain_verify_end, plain_certify,
+    plain_advance, plain_truncate, plain_lookup, plain_end, plain_pack, plain_split, plain_survey_advance,
+    plain_survey_lookup, plain_survey_close, plain_verify_lookup, plain_verify_end, plain_certify,
     plain_receipt_sentence, plain_certificate_sentence, plain_compare
 );
 
@@ -206,6 +234,44 @@ impl Side {
             (self.end)(
                 table.as_ptr(), table.len(), log, nonce.as_ptr(), nonce.len(), receipt.as_mut_ptr(), receipt.len(),
             )
+        }
+    }
+
+    pub fn pack(&self, survey: u64, reading: u64, position: &mut u64) -> u8 {
+        unsafe { (self.pack)(survey, reading, position) }
+    }
+
+    pub fn split(&self, position: u64, survey: &mut u64, reading: &mut u64) -> u8 {
+        unsafe { (self.split)(position, survey, reading) }
+    }
+
+    pub fn survey_advance(
+        &self, table: &mut [u8], log: u64, at: (u64, u64), digest: &[u8], value: &[u8], low: &mut u64, high: &mut u64,
+    ) -> KeeperResult {
+        unsafe {
+            (self.survey_advance)(
+                table.as_mut_ptr(), table.len(), log, at.0, at.1, digest.as_ptr(), digest.len(), value.as_ptr(),
+                value.len(), low, high,
+            )
+        }
+    }
+
+    pub fn survey_lookup(
+        &self, table: &[u8], log: u64, at: (u64, u64), nonce: &[u8], receipt: &mut [u8], examined: &mut u64,
+    ) -> KeeperResult {
+        unsafe {
+            (self.survey_lookup)(
+                table.as_ptr(), table.len(), log, at.0, at.1, nonce.as_ptr(), nonce.len(), receipt.as_mut_ptr(),
+                receipt.len(), examined,
+            )
+        }
+    }
+
+    pub fn survey_close(
+        &self, table: &mut [u8], log: u64, survey: u64, value: &[u8], low: &mut u64, high: &mut u64,
+    ) -> KeeperResult {
+        unsafe {
+            (self.survey_close)(table.as_mut_ptr(), table.len(), log, survey, value.as_ptr(), value.len(), low, high)
         }
     }
 

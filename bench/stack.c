@@ -41,6 +41,11 @@ CALL(keeper_advance, table, sizeof table, 0, 9, nonce, 32, value, 32, &low, &hig
 CALL(keeper_lookup, table, sizeof table, 0, 9, nonce, 32, receipt, 160, &examined)
 CALL(keeper_end, table, sizeof table, 0, nonce, 32, end, 160)
 CALL(keeper_truncate, table, sizeof table, 0, 9, &low, &high)
+CALL_ALONE(keeper_pack, 1, 9, &low)
+CALL_ALONE(keeper_split, 9, &low, &high)
+CALL(keeper_survey_advance, table, sizeof table, 0, 1, 9, nonce, 32, value, 32, &low, &high)
+CALL(keeper_survey_lookup, table, sizeof table, 0, 1, 9, nonce, 32, end, 160, &examined)
+CALL(keeper_survey_close, table, sizeof table, 0, 1, value, 32, &low, &high)
 CALL(keeper_verify_lookup, key, 32, receipt, 160, nonce, 32, 7, 0, 9, &verdict)
 CALL(keeper_verify_end, key, 32, end, 160, nonce, 32, 7, 0, &verdict)
 CALL(keeper_certify, 3, 2, roster, sizeof roster, nonce, 32, 0, 9, certificate, sizeof certificate, &place, &mask)
@@ -100,6 +105,11 @@ int main(void)
     MEASURE(keeper_truncate);
     MEASURE(keeper_verify_lookup);
     MEASURE(keeper_verify_end);
+    MEASURE(keeper_pack);
+    MEASURE(keeper_split);
+    MEASURE(keeper_survey_advance);
+    MEASURE(keeper_survey_lookup);
+    MEASURE(keeper_survey_close);
     /* Two of three: keepers 6 and 7, whose receipts are made here with the keys of the roster. */
     memcpy(certificate, receipt, 160);
     memcpy(certificate + 160, receipt, 160);

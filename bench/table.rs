@@ -368,6 +368,31 @@ impl Table {
         }
     }
 
+    /// The calls by survey and reading, which are calls by position with a packing before them.
+    fn surveys(&mut self) {
+        self.head("Calls by survey and reading, 4 logs, 32 slots", "plain C");
+        let mut random = Random(12);
+        let t = filled(4, 32, 16, &mut random);
+        let (value, digest, nonce) = (random.bytes(32), random.bytes(32), random.bytes(32));
+        let (mut l, mut h, mut receipt) = (0, 0, [0; 160]);
+        let (mut l2, mut h2, mut receipt2) = (0, 0, [0; 160]);
+        self.call(
+            "advance by survey (4,32) half", None, &t,
+            &mut |t| KEEPER.survey_advance(t, 0, (1, 3), &digest, &value, &mut l, &mut h).number,
+            &mut |t| PLAIN.survey_advance(t, 0, (1, 3), &digest, &value, &mut l2, &mut h2).number,
+        );
+        self.call(
+            "lookup by survey (4,32) half", None, &t,
+            &mut |t| KEEPER.survey_lookup(t, 0, (0, 2), &nonce, &mut receipt, &mut l).number,
+            &mut |t| PLAIN.survey_lookup(t, 0, (0, 2), &nonce, &mut receipt2, &mut l2).number,
+        );
+        self.call(
+            "close (4,32) half", None, &t,
+            &mut |t| KEEPER.survey_close(t, 0, 1, &value, &mut l, &mut h).number,
+            &mut |t| PLAIN.survey_close(t, 0, 1, &value, &mut l2, &mut h2).number,
+        );
+    }
+
     fn verifiers(&mut self) {
         self.head("The verifier", "plain C");
         let mut random = Random(6);
@@ -530,6 +555,7 @@ pub fn run(quick: bool) -> bool {
     table.tables();
     table.screens();
     table.carries();
+    table.surveys();
     table.verifiers();
     table.certificates();
     table.sentences();

@@ -35,7 +35,7 @@ extern "C" {
 #endif
 
 /* One more with each change of a prototype, a constant, a rule, or the bytes of a table or receipt. */
-#define KEEPER_VERSION 10
+#define KEEPER_VERSION 11
 
 /* Numbers returned. */
 enum {
@@ -56,7 +56,8 @@ enum {
     KEEPER_TOO_FEW = 13,        /* no pair of value and digest is certified */
     KEEPER_NO_RUN = 14,         /* no values, not a multiple of 32 bytes, first position 0, or last beyond 2^64 - 1 */
     KEEPER_PROMISED = 16,       /* append or advance, and slots are free, but other logs lack as many of their reserves */
-    KEEPER_PROFILE = 17         /* other than 1 to 32 members, half of them needed or fewer, or more than all */
+    KEEPER_PROFILE = 17,        /* other than 1 to 32 members, half of them needed or fewer, or more than all */
+    KEEPER_SURVEY = 18          /* a survey number of 2^24 or more, or a reading number of 2^40 or more */
 };
 
 /* Lengths of buffers, in bytes. */
@@ -70,6 +71,10 @@ enum {
     KEEPER_MEMBER_BYTES = 40,   /* an item of a roster: keeper number, big-endian, and key */
     KEEPER_SENTENCE_BYTES = 200 /* a verdict in words; no terminating zero is among them */
 };
+
+/* A position is a survey number, the upper 24 of its bits, and a reading number, the lower 40. */
+#define KEEPER_SURVEYS (UINT64_C(1) << 24)
+#define KEEPER_READINGS (UINT64_C(1) << 40)
 
 /* The most of each. */
 enum { KEEPER_MAX_LOGS = 16, KEEPER_MAX_SLOTS = 800, KEEPER_MAX_MEMBERS = 32, KEEPER_MAX_RECEIPTS = 32 };
@@ -193,6 +198,30 @@ keeper_result keeper_lookup(const uint8_t *table, size_t table_bytes, uint64_t l
  * 1; 2. */
 keeper_result keeper_end(const uint8_t *table, size_t table_bytes, uint64_t log, const uint8_t *nonce,
                          size_t nonce_bytes, uint8_t *receipt, size_t receipt_bytes);
+
+/* The position of a survey's reading: survey * 2^40 + reading. Hashes nothing. Refused: 18 for a number too wide for its part. */
+uint8_t keeper_pack(uint64_t survey, uint64_t reading, uint64_t *position);
+
+/* The survey and the reading of a position, of which each pair has one. Never refused. */
+uint8_t keeper_split(uint64_t position, uint64_t *survey, uint64_t *reading);
+
+/* keeper_advance to a survey's reading; low and high become positions. Blocks: 2, or 0 where refused. Refused, in this order: 7;
+ * 18; 1; 2; 3; 5; 16. */
+keeper_result keeper_survey_advance(uint8_t *table, size_t table_bytes, uint64_t log, uint64_t survey, uint64_t reading,
+                                    const uint8_t *digest, size_t digest_bytes, const uint8_t *value, size_t value_bytes,
+                                    uint64_t *low, uint64_t *high);
+
+/* keeper_lookup of a survey's reading. Blocks: 6, or 0 where refused. Refused, in this order: 7; 18; 1; 2; 3 for reading 0 of
+ * survey 0, which is position 0. */
+keeper_result keeper_survey_lookup(const uint8_t *table, size_t table_bytes, uint64_t log, uint64_t survey,
+                                   uint64_t reading, const uint8_t *nonce, size_t nonce_bytes, uint8_t *receipt,
+                                   size_t receipt_bytes, uint64_t *examined);
+
+/* Closes a survey of a log: advances the log to the survey's last reading, 2^40 - 1, with a zero digest and the given value. From
+ * then on no call puts anything at a position of that survey in that log. Blocks: 2, or 0 where refused. Refused, in this order:
+ * 7 the value's length; 18; 1; 2; 3 where H is already there or past it; 5; 16. */
+keeper_result keeper_survey_close(uint8_t *table, size_t table_bytes, uint64_t log, uint64_t survey, const uint8_t *value,
+                                  size_t value_bytes, uint64_t *low, uint64_t *high);
 
 /* Whether a receipt answers the question for a position of a keeper's log, with this nonce, under this key; verdict becomes
  * what it says. Blocks: 6 once the tag is looked at, so with 10 and 11 too; with 7 and 9 none. Refused, in this order: 7 the

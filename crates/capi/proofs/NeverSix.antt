@@ -28,6 +28,9 @@ use Rattle.sentence.specs.Sentence.{sentenceRefusal}
 use Rattle.a2m.specs.Call.{Call, Reply, refused, done, found, ended}
 use Rattle.a2m.specs.TableCalls.{tableStep}
 use Rattle.a2m.proofs.NeverSix.{table-answer}
+use Rattle.survey.specs.Packing.{packing}
+use Rattle.survey.specs.Requests.{Request, requestStep}
+use Rattle.survey.proofs.NeverSix.{packing-answer, request-answer}
 use Rattle.capi_results.specs.Results.{replyNumber}
 
 not-done : _≢_ {A = ℕ} 6 0
@@ -91,6 +94,14 @@ reply-number (ended receipt) h e = omega arith
 
 pub call-number : (b : List ℕ) (call : Call) → replyNumber (tableStep b call .reply) ≢ 6
 call-number b call = reply-number (tableStep b call .reply) (table-answer b call)
+
+-- ---- surveys
+
+pub pack-number : (survey reading : ℕ) → packing survey reading .number ≢ 6
+pack-number survey reading = packing-answer survey reading
+
+pub request-number : (b : List ℕ) (q : Request) → replyNumber (requestStep tableStep b q .reply) ≢ 6
+request-number b q = reply-number (requestStep tableStep b q .reply) (request-answer b q)
 
 -- ---- the verifier and certificates
 

@@ -1,8 +1,7 @@
 // The five calls on a table.
-use a2m::Finding;
 use capi_results::KeeperResult;
 use capi_results::changed;
-use capi_results::refused;
+use capi_results::looked_up;
 use capi_results::worked;
 ghost use mathlib.Core.Path.{_≡_};
 ghost use lib.ListN.{length};
@@ -81,16 +80,8 @@ pub extern "C" fn keeper_lookup(
     ensures bytes { λ _. ⌜ now (receipt .exit) ≡ receiptAfter (tableStep (now (table .entry)) (looks log position (now (nonce .entry)) (length (now (receipt .entry)))) .reply) (now (receipt .entry)) ⌝ }
     ensures examined { λ _. ⌜ now (examined .exit) ≡ examinedAfter (tableStep (now (table .entry)) (looks log position (now (nonce .entry)) (length (now (receipt .entry)))) .reply) (now (examined .entry)) ⌝ }
 {
-    match a2m_read::lookup::lookup(table, log, position, nonce, receipt) {
-        Finding::Found {
-            examined: n,
-            blocks,
-        } => {
-            *examined = n;
-            KeeperResult { number: 0, blocks }
-        }
-        Finding::Refused { why, blocks } => refused(why, blocks),
-    }
+    let finding = a2m_read::lookup::lookup(table, log, position, nonce, receipt);
+    looked_up(finding, examined)
 }
 
 #[no_mangle]

@@ -4,5 +4,6 @@ pub mod calls;
 pub mod comparing;
 pub mod hashes;
 pub mod sentences;
+pub mod surveys;
 pub mod tables;
 pub mod verdicts;

@@ -18,13 +18,14 @@ use Rattle.a2m.specs.Opened.{changeReply, changeBlocks, findingReply, findingBl
 use Rattle.a2m.specs.declared.Change.{Change}
 use Rattle.a2m.specs.declared.Change.the-variants as change
 use Rattle.a2m.specs.declared.Finding.{Finding}
+use Rattle.a2m.specs.declared.Finding.the-variants as finding
 use Rattle.refusal.specs.Answer.{Answer, answer}
 use Rattle.receipt.specs.Verdict.{verdictAnswer, verdictBlocks}
 use Rattle.receipt.specs.declared.Verdict.{Verdict}
 use Rattle.receipt.specs.declared.Verdict.the-variants as verdict
 use Rattle.runs.specs.Call.{comparisonAnswer, comparisonBlocks, Answer as Compared}
 use Rattle.runs.specs.declared.Comparison.{Comparison}
-use Rattle.capi_results.specs.Results.{replyNumber, lowAfter, highAfter, examinedAfter, freeAfter, verdictAfter, placeAfter, maskAfter, codeAfter}
+use Rattle.capi_results.specs.Results.{replyNumber, lowAfter, highAfter, examinedAfter, freeAfter, positionAfter, verdictAfter, placeAfter, maskAfter, codeAfter}
 
 -- no refusal has the number 0
 not-done : (why : Refusal) → eqb (numberOf why) 0 ≡ false
@@ -62,12 +63,33 @@ passed-on low high e f = (
   (e .1 .0 ∙ f .1 .0, (f .1 .1, (e .1 .1 .0 ∙ ap (λ (x : Reply). lowAfter x low) (f .0), e .1 .1 .1 ∙ ap (λ (x : Reply). highAfter x high) (f .0)))),
 )
 
--- what a lookup gives where it was found to be v, the receipt's bytes beside it
-pub looked : {x v : Finding} {r : Reply} {k : ℕ} {B : Type 0} (receipt : List ℕ) (old : ℕ) → x ≡ v → (findingReply x receipt ≡ r) × ((findingBlocks x ≡ k) × B)
-    → (replyNumber (findingReply v receipt) ≡ replyNumber r) × ((findingBlocks v ≡ k) × (B × (examinedAfter (findingReply v receipt) old ≡ examinedAfter r old)))
-looked receipt old h e =
-    let f = ap (λ (y : Finding). findingReply y receipt) (sym h) ∙ e .0 in
-    (ap replyNumber f, (ap findingBlocks (sym h) ∙ e .1 .0, (e .1 .1, ap (λ (y : Reply). examinedAfter y old) f)))
+-- what a lookup gives: its number n, the blocks b, and the result e
+abbrev pub Looked : (n b e examined : ℕ) → Reply → ℕ → Type 0
+Looked n b e examined r k = (n ≡ replyNumber r) × ((b ≡ k) × (e ≡ examinedAfter r examined))
+
+module _ (v : Finding) (examined : ℕ) where
+  pub found-looked : (e b : ℕ) → v ≡ finding.Found e b → Looked 0 b e examined (findingReply v []) (findingBlocks v)
+  unfolding replyNumber examinedAfter
+  found-looked e b h = subst (λ (x : Finding). Looked 0 b e examined (findingReply x []) (findingBlocks x)) (sym h) (refl, (refl, refl))
+
+  pub refused-looked : {n b : ℕ} (why : Refusal) (k : ℕ) → v ≡ finding.Refused why k → (n ≡ numberOf why) × (b ≡ k) → Looked n b examined examined (findingReply v []) (findingBlocks v)
+  unfolding replyNumber examinedAfter
+  refused-looked {n} {b} why k e h = subst (λ (x : Finding). Looked n b examined examined (findingReply x []) (findingBlocks x)) (sym e) (h .0, (h .1, refl))
+
+-- the receipt that a reply has makes no difference to the number and the result
+any-receipt : (v : Finding) (receipt : List ℕ) (examined : ℕ) → Looked (replyNumber (findingReply v [])) (findingBlocks v) (examinedAfter (findingReply v []) examined) examined (findingReply v receipt) (findingBlocks v)
+unfolding replyNumber examinedAfter
+any-receipt (finding.Found e b) receipt examined = (refl, (refl, refl))
+any-receipt (finding.Refused why b) receipt examined = (refl, (refl, refl))
+
+-- the same of the reply and the blocks that the call's contract names, the receipt's bytes beside them
+pub handed-on : {n b e k : ℕ} {r : Reply} {B : Type 0} (v : Finding) (receipt : List ℕ) (examined : ℕ) → Looked n b e examined (findingReply v []) (findingBlocks v) → (findingReply v receipt ≡ r) × ((findingBlocks v ≡ k) × B)
+    → (n ≡ replyNumber r) × ((b ≡ k) × (B × (e ≡ examinedAfter r examined)))
+handed-on v receipt examined h f =
+    let w = any-receipt v receipt examined in (
+      h .0 ∙ w .0 ∙ ap replyNumber (f .0),
+      (h .1 .0 ∙ f .1 .0, (f .1 .1, h .1 .1 ∙ w .1 .1 ∙ ap (λ (x : Reply). examinedAfter x examined) (f .0))),
+    )
 
 -- ---- the status screen
 
@@ -82,6 +104,20 @@ shows f free = (refl, refl)
 pub shows-nothing : (free : ℕ) → Shows 1 free free (answer 1 [])
 unfolding freeAfter
 shows-nothing free = (refl, refl)
+
+-- ---- surveys
+
+-- what a packing gives
+abbrev pub Packs : (n p position : ℕ) → Answer → Type 0
+Packs n p position a = (n ≡ a .number) × (p ≡ positionAfter a position)
+
+pub packs : (p position : ℕ) → Packs 0 p position (answer 0 (p ∷ []))
+unfolding positionAfter
+packs p position = (refl, refl)
+
+pub not-packed : (why : Refusal) (position : ℕ) → Packs (numberOf why) position position (answer (numberOf why) [])
+unfolding positionAfter
+not-packed why position = (refl, sym (ap (λ (t : Bool). cond t (getD {A = ℕ} [] 0 0) position) (not-done why)))
 
 -- ---- the verifier and certificates
 

@@ -13,7 +13,7 @@ use Rattle.runs.specs.Run.{Run}
 use Rattle.runs.specs.Compare.{Verdict, comparison}
 use Rattle.runs.specs.Call.{answered, compareRefusal, compareAnswer}
 use Rattle.sha256.specs.Sha256.{sha256}
-use Rattle.capi_results.specs.Results.{replyNumber, lowAfter, highAfter, examinedAfter, freeAfter, verdictAfter, placeAfter, maskAfter, codeAfter}
+use Rattle.capi_results.specs.Results.{replyNumber, lowAfter, highAfter, examinedAfter, freeAfter, positionAfter, verdictAfter, placeAfter, maskAfter, codeAfter}
 
 pub reply-kept : (r : Reply) (old : ℕ) → replyNumber r ≢ 0 → (lowAfter r old ≡ old) × ((highAfter r old ≡ old) × (examinedAfter r old ≡ old))
 unfolding replyNumber lowAfter highAfter examinedAfter
@@ -25,6 +25,10 @@ reply-kept (ended receipt) old n = absurd (n refl)
 pub free-kept : (a : Answer) (old : ℕ) → a .number ≢ 0 → freeAfter a old ≡ old
 unfolding freeAfter
 free-kept a old n = ap (λ (t : Bool). cond t (getD (a .values) 0 0) old) (ne-eqb (a .number) 0 n)
+
+pub position-kept : (a : Answer) (old : ℕ) → a .number ≢ 0 → positionAfter a old ≡ old
+unfolding positionAfter
+position-kept a old n = ap (λ (t : Bool). cond t (getD (a .values) 0 0) old) (ne-eqb (a .number) 0 n)
 
 pub verdict-kept : (a : Answer) (old : List ℕ) → a .number ≢ 0 → verdictAfter a old ≡ old
 unfolding verdictAfter

@@ -42,6 +42,12 @@ examinedAfter (ended receipt) old = old
 unfoldable pub freeAfter : Answer → ℕ → ℕ
 freeAfter a old = cond (eqb (a .number) 0) (getD (a .values) 0 0) old
 
+-- ---- surveys
+
+-- "together make a position"
+unfoldable pub positionAfter : Answer → ℕ → ℕ
+positionAfter a old = cond (eqb (a .number) 0) (getD (a .values) 0 0) old
+
 -- ---- the verifier and certificates
 
 -- a verdict's five numbers: keeper, log, position, kind and reference

@@ -1,15 +1,17 @@
 // What C gets of an answer: its number and the blocks hashed, and the results of an accepted call.
 use a2m::Change;
+use a2m::Finding;
 use octets::wide;
 use receipt::Verdict;
 use refusal::Refusal;
 use refusal::Worked;
 ghost use mathlib.Core.Path.{_≡_};
+ghost use mathlib.Core.List.{[]};
 ghost use Rattle.refusal.specs.Number.{numberOf};
 ghost use Rattle.refusal.specs.Work.{workedNumber, workedBlocks};
-ghost use Rattle.a2m.specs.Opened.{changeReply, changeBlocks};
+ghost use Rattle.a2m.specs.Opened.{changeReply, changeBlocks, findingReply, findingBlocks};
 ghost use Rattle.receipt.specs.Verdict.{verdictAnswer, verdictBlocks};
-ghost use Rattle.capi_results.specs.Results.{replyNumber, lowAfter, highAfter, verdictAfter};
+ghost use Rattle.capi_results.specs.Results.{replyNumber, lowAfter, highAfter, examinedAfter, verdictAfter};
 
 // C's keeper_result, returned by value: document 01's number, and the blocks hashed (document 02 [2]). A refusal has both,
 // so that none has to write a result.
@@ -58,6 +60,24 @@ pub fn changed(change: Change, low: &mut u64, high: &mut u64) -> KeeperResult
             KeeperResult { number: 0, blocks }
         }
         Change::Refused { why, blocks } => refused(why, blocks),
+    }
+}
+
+// The result of a lookup, and what an accepted one says. The receipt, which the lookup wrote, is not needed for either.
+pub fn looked_up(finding: Finding, examined: &mut u64) -> KeeperResult
+    ensures answer { λ r. ⌜ r .number ≡ replyNumber (findingReply finding []) ⌝ }
+    ensures blocks { λ r. ⌜ r .blocks ≡ findingBlocks finding ⌝ }
+    ensures examined { λ _. ⌜ now (examined .exit) ≡ examinedAfter (findingReply finding []) (now (examined .entry)) ⌝ }
+{
+    match finding {
+        Finding::Found {
+            examined: n,
+            blocks,
+        } => {
+            *examined = n;
+            KeeperResult { number: 0, blocks }
+        }
+        Finding::Refused { why, blocks } => refused(why, blocks),
     }
 }
 

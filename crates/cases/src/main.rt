@@ -14,10 +14,15 @@
 // format LOGS SLOTS KEEPER KEY RESERVES
 // append LOG VALUE
 // advance LOG POSITION DIGEST VALUE
+// advance LOG SURVEY READING DIGEST VALUE
 // truncate LOG POSITION
 // lookup LOG POSITION NONCE SLOT SIZE      the receipt goes into the first SIZE bytes of a slot of the pile
+// lookup LOG SURVEY READING NONCE SLOT SIZE
 // end LOG NONCE SLOT SIZE                  the same
 // answer LOG NONCE SLOT SIZE               an end's answer alone
+// close LOG SURVEY VALUE
+// pack SURVEY READING
+// split POSITION
 // digest                                   the SHA-256 of the table
 // bytes AT SIZE                            bytes of the table
 // screen SIZE                              what the status screen reads off the table's first bytes
@@ -37,6 +42,7 @@
 mod comparing;
 mod receipts;
 mod report;
+mod surveys;
 mod tables;
 
 ghost use Prim.Native.Nat.{_≤_};
@@ -60,6 +66,11 @@ use receipts::tagged;
 use receipts::verified;
 use receipts::written;
 use report::show;
+use surveys::advances_by_survey;
+use surveys::closes;
+use surveys::looked_up_by_survey;
+use surveys::packed;
+use surveys::placed;
 use tables::advances;
 use tables::appends;
 use tables::carries;
@@ -121,6 +132,11 @@ verify n n x x n n n
 verify n n x x n n
 certify n n n n x n n x n
 compare x n x x n x n n
+advance n n n x x
+lookup n n n x n n
+close n n x
+pack n n
+split n
 ",
     ) {
         0 => return Step::Each(v.a),
@@ -152,6 +168,11 @@ compare x n x x n x n n
         24 => verified(v, store, pile, Ask::End),
         25 => certified(v, store, pile),
         26 => compared(v, store, pile),
+        27 => advances_by_survey(v, store, table),
+        28 => looked_up_by_survey(v, store, table, pile),
+        29 => closes(v, store, table),
+        30 => packed(v.a, v.b),
+        31 => placed(v.a),
         _ => unknown(form),
     }
     Step::On

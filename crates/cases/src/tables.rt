@@ -79,7 +79,7 @@ pub fn table_after(table: &[u8]) {
     show(b" table %8%8%8%8\n", &w);
 }
 
-fn changed(word: &[u8], answer: Change, table: &[u8]) {
+pub fn changed(word: &[u8], answer: Change, table: &[u8]) {
     text(word);
     match answer {
         Change::Done { low, high, blocks } => show(b" 00 %8 %8, %d blocks", &[low, high, blocks]),
@@ -98,22 +98,28 @@ fn show_receipt(receipt: &[u8]) {
     show(b"\n  %8%8%8%8\n  %8%8%8%8\n  %8%8%8%8\n ", &rest);
 }
 
+// A lookup's answer, the receipt that it wrote, and the table.
+pub fn found(answer: Finding, receipt: &[u8], table: &[u8]) {
+    match answer {
+        Finding::Found { examined, blocks } => {
+            show(b"lookup 00 %8, %d blocks", &[examined, blocks]);
+            show_receipt(receipt);
+        }
+        Finding::Refused { why, blocks } => refused(b"lookup %1, %d blocks", why, blocks),
+    }
+    table_after(table);
+}
+
 // The receipt goes into a slot of the pile.
 pub fn looked_up(v: Values, store: &[u8], table: &[u8], pile: &mut [u8]) {
-    match lookup(
+    let answer = lookup(
         table,
         v.a,
         v.b,
         slot(store, 3, v.c),
         slot_mut(pile, v.d, v.e),
-    ) {
-        Finding::Found { examined, blocks } => {
-            show(b"lookup 00 %8, %d blocks", &[examined, blocks]);
-            show_receipt(slot(pile, v.d, v.e));
-        }
-        Finding::Refused { why, blocks } => refused(b"lookup %1, %d blocks", why, blocks),
-    }
-    table_after(table);
+    );
+    found(answer, slot(pile, v.d, v.e), table);
 }
 
 // The answer's number and blocks, and the receipt where the number is 0.

@@ -31,6 +31,7 @@ use Rattle.model.proofs.Entries.{last-in, in-bounds}
 use Rattle.model.proofs.Shown.{length-LOOKUP, length-END}
 use Rattle.model.proofs.Along.{Keeps, after-fixed, at-keeps, at-call}
 use Rattle.model.proofs.Turns.{WideTurn, Each, each-at}
+use Rattle.survey.proofs.RequestLaws.{made-wide}
 use Rattle.model.proofs.Standings.{Means, standing-means}
 
 -- ---- a receipt of the model
@@ -228,7 +229,7 @@ model-verified b keeps key few ts w a i c r at q =
     let m = after modelTurn b (take i ts) in
     let f = after-fixed b (take i ts) in
     let o = at-call b ts i c at in
-    let there : receiptIn (modelStep (o .rules) m c .reply) ≡ some r = ap receiptIn (sym (o .reply)) ∙ q in
+    let there : receiptIn (modelStep (o .turn .rules) m c .reply) ≡ some r = ap receiptIn (sym (o .reply)) ∙ q in
     let v : Verifies (m .key) (m .keeper) c r (valuesOf m c) =
-    step-verified m (at-keeps b keeps ts w i) (ap length (f .key) ∙ key) (subst (λ (n : ℕ). n ≤ 16) (sym (f .count)) few) (o .rules) (each-at AttestsTurn ts a i _ (o .there)) c (each-at WideTurn ts w i _ (o .there)) r there in
+    step-verified m (at-keeps b keeps ts w i) (ap length (f .key) ∙ key) (subst (λ (n : ℕ). n ≤ 16) (sym (f .count)) few) (o .turn .rules) (each-at AttestsTurn ts a i _ (o .there)) c (made-wide (o .turn .request) c (o .makes) (each-at WideTurn ts w i _ (o .there))) r there in
     ap₂ (λ (k : List ℕ) (n : ℕ). verdict k r (nonceOf c) (questionOf n c)) (sym (f .key)) (sym (f .keeper)) ∙ v

@@ -1,17 +1,20 @@
--- The model along a list of calls: what call i meets and answers.
+-- The model along a list of requests: what request i meets and answers.
 use Prim.Native.Nat.{ℕ, zero, suc, _^_, _≤_, _<_}
 use mathlib.Core.Path.{_≡_, refl, sym, ap, _∙_}
 use mathlib.Core.List.{List, [], _∷_}
-use mathlib.Core.Option.{some, Option·none-ne-some, Option·some-injective}
+use mathlib.Core.Option.{Option, none, some, Option·none-ne-some, Option·some-ne-none, Option·some-injective}
 use native.Mathlib.Omega.{arith}
 use lib.ListN.{length, take, getElem?, length-set}
 use lib.Seq.{getD-set-same}
-use Rattle.a2m.specs.Call.{Call, append, advance, truncate, lookup, end, refused, done, Effect, replies, after, Wide}
+use Rattle.a2m.specs.Call.{Call, append, advance, truncate, lookup, end, refused, done, Effect, replies, after, receiptIn, Wide}
+use Rattle.survey.specs.Requests.{madeOf}
 use Rattle.a2m.specs.NewEntry.{newEntry}
 use Rattle.model.specs.Log.{freshLog, entered, cutAt}
 use Rattle.model.specs.Model.{Rules, Model, logAt, modelDone, modelAccept, modelStep}
-use Rattle.model.specs.Claim.{Turn, under, modelTurn, callAt, replyAt, ShowsAt, SkipsAt}
-use Rattle.model.proofs.Turns.{WideTurn, Each}
+use Rattle.model.specs.Claim.{Turn, modelTurn, callAt, replyAt, ShowsAt, SkipsAt}
+use Rattle.model.proofs.Turns.{WideTurn, turn-so, Each}
+use Rattle.survey.proofs.RequestLaws.{made-step, unmade-state}
+use Rattle.model.proofs.Requests.{book-is}
 use Rattle.model.proofs.Represents.{Sound}
 use Rattle.model.proofs.Passed.{Stepped, turned, taken, stepped}
 use Rattle.model.proofs.Sound.{step-sound}
@@ -42,12 +45,16 @@ step-fixed ru b c = go (stepped ru b c)
     go (turned k e) = rw e (record { size = refl; keeper = refl; key = refl; count = refl })
     go (taken a e) = rw e (accept-fixed ru b c)
 
+turn-fixed : (b : Model) (t : Turn) → Fixed b (modelTurn b t .state)
+turn-fixed b t =
+    turn-so b t (λ (o : Effect Model). Fixed b (o .state)) (λ (k : ℕ) (h : 7 ≤ k). record { size = refl; keeper = refl; key = refl; count = refl }) (λ (c : Call) (w : WideTurn t → Wide c). step-fixed (t .rules) b c)
+
 pub after-fixed : (b : Model) (ts : List Turn) → Fixed b (after modelTurn b ts)
 unfolding after
 after-fixed b [] = record { size = refl; keeper = refl; key = refl; count = refl }
 after-fixed b (t ∷ ts) =
     let r = after-fixed (modelTurn b t .state) ts in
-    let s = step-fixed (t .rules) b (t .call) in
+    let s = turn-fixed b t in
     record { size = r .size ∙ s .size; keeper = r .keeper ∙ s .keeper; key = r .key ∙ s .key; count = r .count ∙ s .count }
 
 -- ---- what every call keeps
@@ -60,18 +67,21 @@ pub record Keeps (b : Model) : Type 0 where
 step-keeps : (ru : Rules) (b : Model) → Keeps b → (c : Call) → Wide c → Keeps (modelStep ru b c .state)
 step-keeps ru b k c w = record { sound = step-sound ru b (k .sound) c; keeper = rw (step-fixed ru b c .keeper) (k .keeper); fits = step-fits ru b (k .fits) c w }
 
--- ---- call i
+turn-keeps : (b : Model) → Keeps b → (t : Turn) → WideTurn t → Keeps (modelTurn b t .state)
+turn-keeps b k t w = turn-so b t (λ (o : Effect Model). Keeps (o .state)) (λ (n : ℕ) (h : 7 ≤ n). k) (λ (c : Call) (v : WideTurn t → Wide c). step-keeps (t .rules) b k c (v w))
+
+-- ---- request i
 
 pub at-keeps : (b : Model) → Keeps b → (ts : List Turn) → Each WideTurn ts → (i : ℕ) → Keeps (after modelTurn b (take i ts))
 unfolding after
 at-keeps b k ts w zero = k
 at-keeps b k [] w (suc i) = k
-at-keeps b k (t ∷ ts) w (suc i) = at-keeps (modelTurn b t .state) (step-keeps (t .rules) b k (t .call) (w .0)) ts (w .1) i
+at-keeps b k (t ∷ ts) w (suc i) = at-keeps (modelTurn b t .state) (turn-keeps b k t (w .0)) ts (w .1) i
 
 pub keeps-after : (b : Model) → Keeps b → (ts : List Turn) → Each WideTurn ts → Keeps (after modelTurn b ts)
 unfolding after
 keeps-after b k [] w = k
-keeps-after b k (t ∷ ts) w = keeps-after (modelTurn b t .state) (step-keeps (t .rules) b k (t .call) (w .0)) ts (w .1)
+keeps-after b k (t ∷ ts) w = keeps-after (modelTurn b t .state) (turn-keeps b k t (w .0)) ts (w .1)
 
 -- what call j meets is later than what an earlier call met
 pub at-later : (b : Model) (ts : List Turn) (i j : ℕ) → i ≤ j → (g : ℕ) → Later (logAt (after modelTurn b (take i ts) .logs) g) (logAt (after modelTurn b (take j ts) .logs) g)
@@ -81,25 +91,66 @@ at-later b ts (suc i) zero h g = absurd (omega arith)
 at-later b [] (suc i) (suc j) h g = later-refl (logAt (b .logs) g)
 at-later b (t ∷ ts) (suc i) (suc j) h g = at-later (modelTurn b t .state) ts i j (omega arith) g
 
--- call j goes by its rules: what it leaves and what it answers
+-- request j goes by its rules: what it leaves and what it answers
+pub record AtTurn (b : Model) (ts : List Turn) (j : ℕ) (t : Turn) : Type 0 where
+  pub next : after modelTurn b (take (suc j) ts) ≡ modelTurn (after modelTurn b (take j ts)) t .state
+  pub reply : replyAt (replies modelTurn b ts) j ≡ modelTurn (after modelTurn b (take j ts)) t .reply
+
+pub at-turn : (b : Model) (ts : List Turn) (j : ℕ) (t : Turn) → getElem? ts j ≡ some t → AtTurn b ts j t
+unfolding after replies
+at-turn b [] j t h = absurd (Option·none-ne-some t h)
+at-turn b (x ∷ ts) zero t h =
+    let e : x ≡ t = Option·some-injective x t h in
+    record { next = ap (λ (y : Turn). modelTurn b y .state) e; reply = ap (λ (y : Turn). modelTurn b y .reply) e }
+at-turn b (x ∷ ts) (suc j) t h = let r = at-turn (modelTurn b x .state) ts j t h in record { next = r .next; reply = r .reply }
+
+-- and makes the call c
 pub record At (b : Model) (ts : List Turn) (j : ℕ) (c : Call) : Type 0 where
-  pub rules : Rules
-  pub there : getElem? ts j ≡ some (under rules c)
-  pub next : after modelTurn b (take (suc j) ts) ≡ modelStep rules (after modelTurn b (take j ts)) c .state
-  pub reply : replyAt (replies modelTurn b ts) j ≡ modelStep rules (after modelTurn b (take j ts)) c .reply
+  pub turn : Turn
+  pub there : getElem? ts j ≡ some turn
+  pub makes : madeOf (turn .request) ≡ some c
+  pub next : after modelTurn b (take (suc j) ts) ≡ modelStep (turn .rules) (after modelTurn b (take j ts)) c .state
+  pub reply : replyAt (replies modelTurn b ts) j ≡ modelStep (turn .rules) (after modelTurn b (take j ts)) c .reply
 
 pub at-call : (b : Model) (ts : List Turn) (j : ℕ) (c : Call) → callAt ts j ≡ some c → At b ts j c
-unfolding after replies callAt
-at-call b [] j c h = absurd (Option·none-ne-some c h)
-at-call b (t ∷ ts) zero c h = let e : t .call ≡ c = Option·some-injective (t .call) c h in record { rules = t .rules; there = ap (λ (y : Call). some (under (t .rules) y)) e; next = ap (λ (y : Call). modelStep (t .rules) b y .state) e; reply = ap (λ (y : Call). modelStep (t .rules) b y .reply) e }
-at-call b (t ∷ ts) (suc j) c h = let r = at-call (modelTurn b t .state) ts j c h in record { rules = r .rules; there = r .there; next = r .next; reply = r .reply }
+unfolding callAt
+at-call b ts j c h = go (getElem? ts j) refl
+  where
+    go : (o : Option Turn) → getElem? ts j ≡ o → At b ts j c
+    go none e = absurd (Option·none-ne-some c (rw (callAt, e) at h))
+    go (some t) e =
+        let m : madeOf (t .request) ≡ some c = rw (callAt, e) at h in
+        let a = at-turn b ts j t e in
+        let s : modelTurn (after modelTurn b (take j ts)) t ≡ modelStep (t .rules) (after modelTurn b (take j ts)) c = book-is (t .rules) _ (t .request) ∙ made-step (modelStep (t .rules)) _ (t .request) c m in
+        record { turn = t; there = e; makes = m; next = a .next ∙ ap (λ (o : Effect Model). o .state) s; reply = a .reply ∙ ap (λ (o : Effect Model). o .reply) s }
+
+-- one that makes no call leaves the model as it was
+take-none : (ts : List Turn) (k : ℕ) → getElem? ts k ≡ none → take (suc k) ts ≡ take k ts
+take-none [] zero h = refl
+take-none [] (suc k) h = refl
+take-none (t ∷ ts) zero h = absurd (Option·some-ne-none t h)
+take-none (t ∷ ts) (suc k) h = ap {B = List Turn} (λ (l : List Turn). t ∷ l) (take-none ts k h)
+
+pub at-none : (b : Model) (ts : List Turn) (j : ℕ) → callAt ts j ≡ none → after modelTurn b (take (suc j) ts) ≡ after modelTurn b (take j ts)
+unfolding callAt
+at-none b ts j h = go (getElem? ts j) refl
+  where
+    go : (o : Option Turn) → getElem? ts j ≡ o → after modelTurn b (take (suc j) ts) ≡ after modelTurn b (take j ts)
+    go none e = ap (after modelTurn b) (take-none ts j e)
+    go (some t) e =
+        let m : madeOf (t .request) ≡ none = rw (callAt, e) at h in
+        at-turn b ts j t e .next ∙ ap (λ (o : Effect Model). o .state) (book-is (t .rules) _ (t .request)) ∙ unmade-state (modelStep (t .rules)) _ (t .request) m
 
 -- what a receipt shows assigned, the model has then
 pub at-shown : (b : Model) → Keeps b → (ts : List Turn) → Each WideTurn ts → (i g n : ℕ) (v d : List ℕ) → ShowsAt (replies modelTurn b ts) i g n v d → EntryAt (logAt (after modelTurn b (take i ts) .logs) g) n v d
 unfolding after replies
 at-shown b k [] w i g n v d s = absurd (Option·none-ne-some (s .receipt) (s .there))
-at-shown b k (t ∷ ts) w zero g n v d s = step-shown (t .rules) b (k .sound) (k .keeper) (k .fits) (t .call) (w .0) (s .receipt) (s .there) g n v d (s .shows)
-at-shown b k (t ∷ ts) w (suc i) g n v d s = at-shown (modelTurn b t .state) (step-keeps (t .rules) b k (t .call) (w .0)) ts (w .1) i g n v d (record { receipt = s .receipt; there = s .there; shows = s .shows })
+at-shown b k (t ∷ ts) w zero g n v d s =
+    turn-so b t (λ (o : Effect Model). receiptIn (o .reply) ≡ some (s .receipt) → EntryAt (logAt (b .logs) g) n v d)
+    (λ (x : ℕ) (h : 7 ≤ x) (q : none ≡ some (s .receipt)). absurd (Option·none-ne-some (s .receipt) q))
+    (λ (c : Call) (u : WideTurn t → Wide c) (q : receiptIn (modelStep (t .rules) b c .reply) ≡ some (s .receipt)). step-shown (t .rules) b (k .sound) (k .keeper) (k .fits) c (u (w .0)) (s .receipt) q g n v d (s .shows))
+    (s .there)
+at-shown b k (t ∷ ts) w (suc i) g n v d s = at-shown (modelTurn b t .state) (turn-keeps b k t (w .0)) ts (w .1) i g n v d (record { receipt = s .receipt; there = s .there; shows = s .shows })
 
 module _ (ru : Rules) where
   -- the log after an accepted advance has one entry more, at n; after an accepted truncate it is cut
@@ -124,4 +175,4 @@ pub skipping : (b : Model) (ts : List Turn) (j g p : ℕ) (k : SkipsAt b ts (rep
     → logAt (after modelTurn b (take (suc j) ts) .logs) g ≡ entered (logAt (after modelTurn b (take j ts) .logs) g) (newEntry (k .n) (k .value) (k .given))
 skipping b ts j g p k =
     let a = at-call b ts j (advance g (k .n) (k .given) (k .value)) (k .call) in
-    ap (λ (x : Model). logAt (x .logs) g) (a .next) ∙ advanced (a .rules) (after modelTurn b (take j ts)) g (k .n) (k .given) (k .value) (k .low) (k .high) (sym (a .reply) ∙ k .accepted)
+    ap (λ (x : Model). logAt (x .logs) g) (a .next) ∙ advanced (a .turn .rules) (after modelTurn b (take j ts)) g (k .n) (k .given) (k .value) (k .low) (k .high) (sym (a .reply) ∙ k .accepted)

@@ -22,10 +22,11 @@ use Rattle.table.proofs.ConditionLaws01.{whole01-formed, whole01-linked, whole0
 use Rattle.table.proofs.CarryLaws.{carry-sized, carry-passes, accepted}
 use Rattle.a2m.specs.Call.{Call, AllWide, Reply, replies, works, after}
 use Rattle.a2m.specs.TableCalls.{tableStep}
+use Rattle.survey.specs.Requests.{Request, requestStep, AllWideRequests}
 use Rattle.model.specs.Log.{freshLog}
 use Rattle.model.specs.Model.{rules01, rules, Model}
 use Rattle.model.specs.ModelOf.{modelOf}
-use Rattle.model.specs.Claim.{Turn, by, modelTurn, ListClaim}
+use Rattle.model.specs.Claim.{Turn, asking, by, modelTurn, ListClaim}
 use Rattle.model.specs.Carried.{book01, carriedTurns, Reached01}
 use Rattle.model.proofs.OfImage.{image-stands, image-list}
 use Rattle.model.proofs.Turns.{Each, replies-by, after-by}
@@ -50,20 +51,20 @@ module _ (old : List ℕ) (h : Bytes old) (w : whole01 old ≡ true) where
   old-stands = image-stands (read01 old) (whole01-fits old h w) old-whole old-range
 
 -- "Every later list of calls, the copy passed on as in demand 3, answers as the plain book now does, begun with these."
-pub later : (old lent : List ℕ) → Bytes old → carryRefusal old (length lent) ≡ none → (cs : List Call) → AllWide cs
-    → ListClaim (modelOf (read01 old)) (by rules cs) (replies tableStep (carryBytes old lent) cs) (works tableStep (carryBytes old lent) cs) (readTable (after tableStep (carryBytes old lent) cs))
-later old lent h e cs wide =
+pub later : (old lent : List ℕ) → Bytes old → carryRefusal old (length lent) ≡ none → (qs : List Request) → AllWideRequests qs
+    → ListClaim (modelOf (read01 old)) (asking rules qs) (replies (requestStep tableStep) (carryBytes old lent) qs) (works (requestStep tableStep) (carryBytes old lent) qs) (readTable (after (requestStep tableStep) (carryBytes old lent) qs))
+later old lent h e qs wide =
     let w = carry-passes old (length lent) e .0 in
-    rw (carry-writes old lent e) (image-list (read01 old) (whole01-fits old h w) (old-whole old h w) (old-range old h w) cs wide)
+    rw (carry-writes old lent e) (image-list (read01 old) (whole01-fits old h w) (old-whole old h w) (old-range old h w) qs wide)
 
 -- and the copy is whole all along
-pub later-whole : (old lent : List ℕ) → Bytes old → carryRefusal old (length lent) ≡ none → (cs : List Call) → AllWide cs → whole (after tableStep (carryBytes old lent) cs) ≡ true
-later-whole old lent h e cs wide = rw (carry-writes old lent e) (table-whole (read01 old) (modelOf (read01 old)) (old-stands old h (carry-passes old (length lent) e .0)) cs wide)
+pub later-whole : (old lent : List ℕ) → Bytes old → carryRefusal old (length lent) ≡ none → (qs : List Request) → AllWideRequests qs → whole (after (requestStep tableStep) (carryBytes old lent) qs) ≡ true
+later-whole old lent h e qs wide = rw (carry-writes old lent e) (table-whole (read01 old) (modelOf (read01 old)) (old-stands old h (carry-passes old (length lent) e .0)) qs wide)
 
 -- turns by whatever rules, of the model alone; then a carry of a table that says the model after them; then calls on the carried table
-pub carry-claim : (b : Model) → Keeps b → (ts : List Turn) → Each Proper ts → (old : List ℕ) → Stands (read01 old) (after modelTurn b ts) → (lent : List ℕ) → carryRefusal old (length lent) ≡ none → (cs : List Call) → AllWide cs
-    → ListClaim b (ts ++ by rules cs) (replies modelTurn b ts ++ replies tableStep (carryBytes old lent) cs) (works modelTurn b ts ++ works tableStep (carryBytes old lent) cs) (readTable (after tableStep (carryBytes old lent) cs))
-carry-claim b keeps ts p old s lent e cs wide = rw (carry-writes old lent e) (table-claim b keeps ts p (read01 old) s cs wide)
+pub carry-claim : (b : Model) → Keeps b → (ts : List Turn) → Each Proper ts → (old : List ℕ) → Stands (read01 old) (after modelTurn b ts) → (lent : List ℕ) → carryRefusal old (length lent) ≡ none → (qs : List Request) → AllWideRequests qs
+    → ListClaim b (ts ++ asking rules qs) (replies modelTurn b ts ++ replies (requestStep tableStep) (carryBytes old lent) qs) (works modelTurn b ts ++ works (requestStep tableStep) (carryBytes old lent) qs) (readTable (after (requestStep tableStep) (carryBytes old lent) qs))
+carry-claim b keeps ts p old s lent e qs wide = rw (carry-writes old lent e) (table-claim b keeps ts p (read01 old) s qs wide)
 
 -- ---- a table that document 01's calls have reached
 
@@ -92,9 +93,9 @@ module _ (G S keeper : ℕ) (key : List ℕ) (cs₁ : List Call) (rs₁ : List R
   keeper-fits = subst (λ (k : ℕ). k < 2 ^ 64) (reached .says .keeper ∙ after-fixed (book01 G S keeper key) (by rules01 cs₁) .keeper) (reached .fits .keeper)
 
   -- "Demand 3's list may hold one carry: it counts from the old formatting, the calls before the carry going by 01's rules."
-  pub carriedClaim : AllWide cs₁ → (lent : List ℕ) → length lent ≡ tableSize G S → (cs₂ : List Call) → AllWide cs₂
-      → ListClaim (book01 G S keeper key) (carriedTurns cs₁ cs₂) (rs₁ ++ replies tableStep (carryBytes old lent) cs₂) (works modelTurn (book01 G S keeper key) (by rules01 cs₁) ++ works tableStep (carryBytes old lent) cs₂) (readTable (after tableStep (carryBytes old lent) cs₂))
-  carriedClaim w₁ lent e cs₂ w₂ =
+  pub carriedClaim : AllWide cs₁ → (lent : List ℕ) → length lent ≡ tableSize G S → (qs : List Request) → AllWideRequests qs
+      → ListClaim (book01 G S keeper key) (carriedTurns cs₁ qs) (rs₁ ++ replies (requestStep tableStep) (carryBytes old lent) qs) (works modelTurn (book01 G S keeper key) (by rules01 cs₁) ++ works (requestStep tableStep) (carryBytes old lent) qs) (readTable (after (requestStep tableStep) (carryBytes old lent) qs))
+  carriedClaim w₁ lent e qs w₂ =
       let b = book01 G S keeper key in
       let n = length-none old (length lent) (tableSize G S) (carry-answer (length lent)) e in
-      rw (r .answers ∙ sym (replies-by rules01 b cs₁)) (carry-claim b (new-keeps S keeper key (replicate G 0) keeper-fits) (by rules01 cs₁) (proper01 cs₁ w₁) old reached lent n cs₂ w₂)
+      rw (r .answers ∙ sym (replies-by rules01 b cs₁)) (carry-claim b (new-keeps S keeper key (replicate G 0) keeper-fits) (by rules01 cs₁) (proper01 cs₁ w₁) old reached lent n qs w₂)

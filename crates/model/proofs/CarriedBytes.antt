@@ -21,6 +21,7 @@ use Rattle.table.specs.Carry.{carryRefusal, carryBytes}
 use Rattle.table.proofs.FormattedLaws.{formatted-fits}
 use Rattle.a2m.specs.Call.{Call, AllWide, replies, works, after}
 use Rattle.a2m.specs.TableCalls.{tableStep}
+use Rattle.survey.specs.Requests.{Request, requestStep, AllWideRequests}
 use Rattle.model.specs.Log.{freshLog}
 use Rattle.model.specs.Model.{rules01, Model, modelStep}
 use Rattle.model.specs.ModelOf.{modelOf}
@@ -100,8 +101,8 @@ module _ (G S keeper : ℕ) (key : List ℕ) (counts : Range G S) (k64 : keeper 
     answer01 = said-answer G S keeper key (by rules01 cs) old stays-whole01 reached-stands
 
     -- one list of demand 3, with document 01's calls and the carry in it
-    pub carriedBytes : (lent : List ℕ) → length lent ≡ tableSize G S → (cs₂ : List Call) → AllWide cs₂
-        → ListClaim book (carriedTurns cs cs₂) (replies step01 (format01 G S keeper key) cs ++ replies tableStep (carryBytes old lent) cs₂) (works modelTurn book (by rules01 cs) ++ works tableStep (carryBytes old lent) cs₂) (readTable (after tableStep (carryBytes old lent) cs₂))
-    carriedBytes lent e cs₂ w₂ =
+    pub carriedBytes : (lent : List ℕ) → length lent ≡ tableSize G S → (qs : List Request) → AllWideRequests qs
+        → ListClaim book (carriedTurns cs qs) (replies step01 (format01 G S keeper key) cs ++ replies (requestStep tableStep) (carryBytes old lent) qs) (works modelTurn book (by rules01 cs) ++ works (requestStep tableStep) (carryBytes old lent) qs) (readTable (after (requestStep tableStep) (carryBytes old lent) qs))
+    carriedBytes lent e qs w₂ =
         let n = length-none old (length lent) (tableSize G S) (answer01 (length lent)) e in
-        rw (answers01 ∙ sym (replies-by rules01 book cs)) (carry-claim book (new-keeps S keeper key (replicate G 0) k64) (by rules01 cs) (proper01 cs w) old reached-stands lent n cs₂ w₂)
+        rw (answers01 ∙ sym (replies-by rules01 book cs)) (carry-claim book (new-keeps S keeper key (replicate G 0) k64) (by rules01 cs) (proper01 cs w) old reached-stands lent n qs w₂)

@@ -9,6 +9,7 @@ use Rattle.bigendian.specs.BigEndian.{be, unbe, placed}
 use Rattle.receipt.specs.Attestation.{LOOKUP, END, attestedBytes, receiptBytes, readAttestation}
 use Rattle.entry.specs.Digest.{entryDigest}
 use Rattle.a2m.specs.Call.{Call, append, advance, lookup, end, Reply, numbered, replies, after}
+use Rattle.survey.specs.Requests.{Request, plain, early, madeOf}
 use Rattle.model.specs.Log.{lastEntry, keepFrom, keepBelow, entered, standingAmong, standing, kindOf, referenceOf, examinedFor}
 use Rattle.model.specs.Model.{rules01, rules, Model, total, lacks, lacksBut, slotRule, isNil, modelRefusal, modelReceipt, shownFor, modelLookup, modelEnd, modelDone, modelAccept, modelStep}
 use Rattle.model.specs.Claim.{modelTurn, callAt, SkipsAt, ShowsAt}
@@ -21,8 +22,8 @@ book = book01 2 4 7 (zeros 32)
 abbrev before : List Call
 before = append 0 (placed 41) ∷ advance 0 5 (placed 0) (placed 43) ∷ lookup 0 3 zero32 160 ∷ end 1 zero32 160 ∷ []
 
-abbrev later : List Call
-later = lookup 0 3 zero32 160 ∷ lookup 0 1 zero32 160 ∷ []
+abbrev later : List Request
+later = plain (lookup 0 3 zero32 160) ∷ plain (lookup 0 1 zero32 160) ∷ []
 
 abbrev answers : List Reply
 answers = replies modelTurn book (carriedTurns before later)
@@ -37,7 +38,7 @@ carried-columns = refl
 
 -- the position that the list skips before the carry, and a receipt given after it
 pub carried-skips : SkipsAt book (carriedTurns before later) answers 1 0 3
-unfolding placed zero32 zeros be lastEntry entered rules rules01 total lacks lacksBut slotRule isNil modelRefusal modelDone modelAccept modelStep replies after callAt
+unfolding placed zero32 zeros be lastEntry entered rules rules01 total lacks lacksBut slotRule isNil modelRefusal modelDone modelAccept modelStep replies after callAt early madeOf
 carried-skips = record { n = 5; given = placed 0; value = placed 43; call = refl; low = 1; high = 5; accepted = refl; above = lit< tt; below = lit< tt }
 
 pub carried-shows : (d : List ℕ) × ShowsAt answers 5 0 1 (placed 41) d

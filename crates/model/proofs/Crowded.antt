@@ -8,23 +8,25 @@ use native.Mathlib.Omega.{arith}
 use lib.Dec.{lit<}
 use Rattle.octets.specs.Octets.{zeros}
 use Rattle.bigendian.specs.BigEndian.{be, placed}
-use Rattle.a2m.specs.Call.{Call, append, refused, done, replies}
+use Rattle.a2m.specs.Call.{append, refused, done, replies}
+use Rattle.survey.specs.Requests.{Request, plain}
 use Rattle.model.specs.Log.{lastEntry, entered}
 use Rattle.model.specs.Model.{rules01, rules, Model, newModel, total, lacks, lacksBut, slotRule, modelRefusal, modelDone, modelAccept, modelStep}
-use Rattle.model.specs.Stage.{callsOf}
+use Rattle.model.specs.Book.{bookStep}
+use Rattle.model.specs.Stage.{requestsOf}
 use Rattle.model.proofs.Stage.{WithinModel}
 
 abbrev start : Model
 start = newModel 3 7 (zeros 32) (1 ∷ 0 ∷ [])
 
-abbrev alone : List Call
-alone = append 0 (placed 41) ∷ []
+abbrev alone : List Request
+alone = plain (append 0 (placed 41)) ∷ []
 
-abbrev crowded : List Call
-crowded = append 1 (placed 10) ∷ append 1 (placed 11) ∷ append 1 (placed 12) ∷ alone
+abbrev crowded : List Request
+crowded = plain (append 1 (placed 10)) ∷ plain (append 1 (placed 11)) ∷ plain (append 1 (placed 12)) ∷ alone
 
-same-calls : callsOf 0 crowded ≡ callsOf 0 alone
-unfolding callsOf
+same-calls : requestsOf 0 crowded ≡ requestsOf 0 alone
+unfolding requestsOf
 same-calls = refl
 
 other : _≢_ {A = ℕ} 1 0
@@ -34,6 +36,6 @@ within : WithinModel start 0 crowded
 unfolding placed zeros be lastEntry entered rules rules01 total lacks lacksBut slotRule modelRefusal modelDone modelAccept modelStep
 within = (λ e. absurd (other e), (λ e. absurd (other e), (λ e. absurd (other e), (λ e p. lit< tt, tt))))
 
-pub crowded-answers : replies (modelStep rules) start crowded ≡ done 1 1 ∷ done 1 2 ∷ refused 16 ∷ done 1 1 ∷ []
+pub crowded-answers : replies (bookStep rules) start crowded ≡ done 1 1 ∷ done 1 2 ∷ refused 16 ∷ done 1 1 ∷ []
 unfolding placed zeros be lastEntry entered rules rules01 total lacks lacksBut slotRule modelRefusal modelDone modelAccept modelStep replies
 crowded-answers = refl

@@ -1,5 +1,5 @@
--- Demand 3, its part on lists of calls, whole: for every accepted format and every list of calls on the table that it wrote, each call getting the table
--- as the last one left it.
+-- Demand 3, its part on lists of calls, whole: for every accepted format and every list of requests on the table that it wrote, the five calls and those by
+-- survey and reading, each getting the table as the last one left it.
 use Prim.Native.Nat.{ℕ, _+_, _^_, _<_}
 use mathlib.Core.Path.{_≡_}
 use mathlib.Core.List.{List, []}
@@ -13,11 +13,13 @@ use Rattle.table.specs.Whole.{whole}
 use Rattle.table.specs.Format.{formatted, formatRefusal, formatBytes}
 use Rattle.table.proofs.FormatLaws.{Passed, format-passes}
 use Rattle.table.proofs.FormattedLaws.{formatted-fits}
-use Rattle.a2m.specs.Call.{Call, AllWide, replies, works, after}
+use Rattle.a2m.specs.Call.{replies, works, after}
 use Rattle.a2m.specs.TableCalls.{tableStep}
+use Rattle.survey.specs.Requests.{Request, requestStep, AllWideRequests}
 use Rattle.model.specs.Log.{freshLog}
-use Rattle.model.specs.Model.{rules, newModel, total, modelStep}
-use Rattle.model.specs.Claim.{by, ListClaim}
+use Rattle.model.specs.Model.{rules, newModel, total}
+use Rattle.model.specs.Book.{bookStep}
+use Rattle.model.specs.Claim.{asking, ListClaim}
 use Rattle.model.proofs.Backed.{new-backed}
 use Rattle.model.proofs.ImageClaim.{new-keeps}
 use Rattle.model.proofs.Fresh.{formatted-rep, fresh-sound}
@@ -41,14 +43,14 @@ module _ (lent : List ℕ) (G S keeper : ℕ) (key reserves : List ℕ) (k64 : k
   unfolding formatBytes afterwards
   bytes-are = rw (accepted, formatBytes)
 
-  pub listClaim : (cs : List Call) → AllWide cs → ListClaim (newModel S keeper key reserves) (by rules cs) (replies tableStep (formatBytes lent G S keeper key reserves) cs) (works tableStep (formatBytes lent G S keeper key reserves) cs) (readTable (after tableStep (formatBytes lent G S keeper key reserves) cs))
+  pub listClaim : (qs : List Request) → AllWideRequests qs → ListClaim (newModel S keeper key reserves) (asking rules qs) (replies (requestStep tableStep) (formatBytes lent G S keeper key reserves) qs) (works (requestStep tableStep) (formatBytes lent G S keeper key reserves) qs) (readTable (after (requestStep tableStep) (formatBytes lent G S keeper key reserves) qs))
   unfolding after replies works
-  listClaim cs w = rw bytes-are (table-claim (newModel S keeper key reserves) (new-keeps S keeper key reserves k64) [] tt (formatted S keeper key reserves) stands cs w)
+  listClaim qs w = rw bytes-are (table-claim (newModel S keeper key reserves) (new-keeps S keeper key reserves k64) [] tt (formatted S keeper key reserves) stands qs w)
 
   -- the table is whole before and after each call
-  pub staysWhole : (cs : List Call) → AllWide cs → whole (after tableStep (formatBytes lent G S keeper key reserves) cs) ≡ true
-  staysWhole cs w = rw bytes-are (table-whole (formatted S keeper key reserves) (newModel S keeper key reserves) stands cs w)
+  pub staysWhole : (qs : List Request) → AllWideRequests qs → whole (after (requestStep tableStep) (formatBytes lent G S keeper key reserves) qs) ≡ true
+  staysWhole qs w = rw bytes-are (table-whole (formatted S keeper key reserves) (newModel S keeper key reserves) stands qs w)
 
-  -- request [1]: the number on the status screen and the entries of the plain book make S after every list of calls
-  pub countAlong : (cs : List Call) → AllWide cs → stockOf (after tableStep (formatBytes lent G S keeper key reserves) cs) .count + total (after (modelStep rules) (newModel S keeper key reserves) cs .logs) ≡ S
-  countAlong cs w = rw bytes-are (table-count (formatted S keeper key reserves) (newModel S keeper key reserves) stands cs w)
+  -- request [1]: the number on the status screen and the entries of the plain book make S after every list of requests
+  pub countAlong : (qs : List Request) → AllWideRequests qs → stockOf (after (requestStep tableStep) (formatBytes lent G S keeper key reserves) qs) .count + total (after (bookStep rules) (newModel S keeper key reserves) qs .logs) ≡ S
+  countAlong qs w = rw bytes-are (table-count (formatted S keeper key reserves) (newModel S keeper key reserves) stands qs w)

@@ -93,7 +93,7 @@ module _ (b : Model) (keeps : Keeps b) (ts : List Turn) (w : Each WideTurn ts) w
       let q = e .position in
       let c = in-bounds (logAt (after modelTurn b (take i ts) .logs) g) (at-keeps b keeps ts w i .sound g) (e .entry) (e .there) .0 in
       let next : logAt (after modelTurn b (take (suc j) ts) .logs) g ≡ cutAt n (logAt (after modelTurn b (take j ts) .logs) g) =
-      ap (λ (x : Model). logAt (x .logs) g) (a .next) ∙ truncated (a .rules) (after modelTurn b (take j ts)) g n (k .low) (k .high) (sym (a .reply) ∙ k .accepted) in
+      ap (λ (x : Model). logAt (x .logs) g) (a .next) ∙ truncated (a .turn .rules) (after modelTurn b (take j ts)) g n (k .low) (k .high) (sym (a .reply) ∙ k .accepted) in
       let L : Later (cutAt n (logAt (after modelTurn b (take j ts) .logs) g)) (logAt (after modelTurn b (take i ts) .logs) g) = rw next at (at-later b ts (suc j) i ji g) in
       let low : n ≤ logAt (after modelTurn b (take i ts) .logs) g .low = L .low in
       omega arith

@@ -9,11 +9,12 @@ use native.Mathlib.Omega.{arith}
 use lib.Dec.{leb}
 use borrow.Author.Tests.{le-leb}
 use Rattle.layout.specs.Image.{Entry}
-use Rattle.a2m.specs.Call.{after, Wide}
+use Rattle.a2m.specs.Call.{Call, Effect, after, Wide}
 use Rattle.a2m.proofs.Lists.{In, in-left, in-cases}
 use Rattle.model.specs.Log.{Log, entered, keepFrom, cutAt}
 use Rattle.model.specs.Model.{Model, logAt}
 use Rattle.model.specs.Claim.{Turn, modelTurn}
+use Rattle.model.proofs.Turns.{WideTurn, turn-so}
 use Rattle.model.proofs.Changes.{Change, same, entering, cutting, step-change}
 
 pub record Later (l k : Log) : Type 0 where
@@ -64,7 +65,12 @@ change-later Ok l k (same e) = rw e (later-refl l)
 change-later Ok l k (entering e hi w v d q) = rw q (later-entered l e hi)
 change-later Ok l k (cutting n lo hi q) = rw q (later-cut l n lo)
 
+pub turn-later : (b : Model) (t : Turn) (g : ℕ) → Later (logAt (b .logs) g) (logAt (modelTurn b t .state .logs) g)
+turn-later b t g =
+    turn-so b t (λ (o : Effect Model). Later (logAt (b .logs) g) (logAt (o .state .logs) g)) (λ (k : ℕ) (h : 7 ≤ k). later-refl _)
+    (λ (c : Call) (w : WideTurn t → Wide c). change-later (Wide c) _ _ (step-change (t .rules) b c g))
+
 pub after-later : (b : Model) (ts : List Turn) (g : ℕ) → Later (logAt (b .logs) g) (logAt (after modelTurn b ts .logs) g)
 unfolding after
 after-later b [] g = later-refl (logAt (b .logs) g)
-after-later b (t ∷ ts) g = later-trans (logAt (b .logs) g) (logAt (modelTurn b t .state .logs) g) _ (change-later (Wide (t .call)) _ _ (step-change (t .rules) b (t .call) g)) (after-later (modelTurn b t .state) ts g)
+after-later b (t ∷ ts) g = later-trans (logAt (b .logs) g) (logAt (modelTurn b t .state .logs) g) _ (turn-later b t g) (after-later (modelTurn b t .state) ts g)

@@ -35,6 +35,8 @@ pub mod Reading
 pub mod Refusals
 pub mod Remembers
 pub mod Represents
+pub mod Requests
+pub mod Rising
 pub mod SameLog
 pub mod Shown
 pub mod Skipped
@@ -43,6 +45,7 @@ pub mod Stage
 pub mod StageLog
 pub mod Standings
 pub mod Step
+pub mod SurveyCase
 pub mod TableClaim
 pub mod Truncate
 pub mod Turns

@@ -23,6 +23,7 @@ use Rattle.a2m.specs.Search.{search, lookedUp}
 use Rattle.a2m.specs.ImageCalls.{rowIn, entriesIn, wrongLength, misplaced, spent, full, withheld, promised, faults, imageRefusal, joined, put, release, releases, lowered, lookupAttested, endKind, endAttested, imageDone, imageAccept, imageStep}
 use Rattle.model.specs.Log.{lastEntry, keepFrom, keepBelow, entered, cutAt, standingAmong, standing, kindOf, referenceOf, examinedFor}
 use Rattle.model.specs.Model.{rules01, rules, Model, newModel, logAt, total, lacks, lacksBut, slotRule, isNil, modelRefusal, modelReceipt, shownFor, modelLookup, modelEnd, modelDone, modelAccept, modelStep}
+use Rattle.survey.specs.Requests.{early, madeOf}
 use Rattle.model.specs.Claim.{by, modelTurn, callAt, ShowsAt, SkipsAt, ForgetsAt, Asked}
 use Rattle.model.specs.Marked.{Line, zero32, marked, answered}
 
@@ -45,11 +46,11 @@ unfolding calls marked placed zero32 zeros be unbe LOOKUP END attestedBytes rece
 shows-one = (_, record { receipt = _; there = refl; shows = record { assigned = refl; log = refl; position = refl; value = refl; digest = refl } })
 
 skips-three : SkipsAt (newModel 3 7 (zeros 32) (0 ∷ 0 ∷ [])) (by rules calls) (replies modelTurn (newModel 3 7 (zeros 32) (0 ∷ 0 ∷ [])) (by rules calls)) 2 0 3
-unfolding calls marked placed zero32 zeros be unbe LOOKUP END attestedBytes receiptBytes readAttestation entryDigest lastEntry keepFrom keepBelow entered cutAt standingAmong standing kindOf referenceOf examinedFor rules rules01 total lacks lacksBut slotRule isNil modelRefusal modelReceipt shownFor modelLookup modelEnd modelDone modelAccept modelStep replies after callAt
+unfolding calls marked placed zero32 zeros be unbe LOOKUP END attestedBytes receiptBytes readAttestation entryDigest lastEntry keepFrom keepBelow entered cutAt standingAmong standing kindOf referenceOf examinedFor rules rules01 total lacks lacksBut slotRule isNil modelRefusal modelReceipt shownFor modelLookup modelEnd modelDone modelAccept modelStep replies after callAt early madeOf
 skips-three = record { n = 5; given = placed 0; value = placed 43; call = refl; low = 1; high = 5; accepted = refl; above = lit< tt; below = lit< tt }
 
 forgets-below-five : ForgetsAt (by rules calls) (replies modelTurn (newModel 3 7 (zeros 32) (0 ∷ 0 ∷ [])) (by rules calls)) 5 0 5
-unfolding calls marked placed zero32 zeros be unbe LOOKUP END attestedBytes receiptBytes readAttestation entryDigest lastEntry keepFrom keepBelow entered cutAt standingAmong standing kindOf referenceOf examinedFor rules rules01 total lacks lacksBut slotRule isNil modelRefusal modelReceipt shownFor modelLookup modelEnd modelDone modelAccept modelStep replies callAt
+unfolding calls marked placed zero32 zeros be unbe LOOKUP END attestedBytes receiptBytes readAttestation entryDigest lastEntry keepFrom keepBelow entered cutAt standingAmong standing kindOf referenceOf examinedFor rules rules01 total lacks lacksBut slotRule isNil modelRefusal modelReceipt shownFor modelLookup modelEnd modelDone modelAccept modelStep replies callAt early madeOf
 forgets-below-five = record { call = refl; low = 5; high = 5; accepted = refl }
 
 -- and one call may be asked for what another put: on one log of one slot, an append and a lookup
@@ -57,7 +58,7 @@ abbrev putAndAsked : List Call
 putAndAsked = append 0 (placed 41) ∷ lookup 0 1 zero32 160 ∷ []
 
 pub asked-once : Asked (by rules putAndAsked) (replies modelTurn (newModel 1 7 (zeros 32) (0 ∷ [])) (by rules putAndAsked)) 0 1 0 1 (placed 41)
-unfolding placed zero32 zeros be lastEntry entered rules rules01 total lacks lacksBut slotRule modelRefusal modelDone modelAccept modelStep replies callAt
+unfolding placed zero32 zeros be lastEntry entered rules rules01 total lacks lacksBut slotRule modelRefusal modelDone modelAccept modelStep replies callAt early madeOf
 asked-once = record {
   put = append 0 (placed 41);
   stores = (refl, refl);

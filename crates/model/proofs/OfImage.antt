@@ -1,4 +1,4 @@
--- A whole image whose numbers and lists fit their bytes stands for the model that it says, and its bytes answer every list of calls as that model does.
+-- A whole image whose numbers and lists fit their bytes stands for the model that it says, and its bytes answer every list of requests as that model does.
 use Prim.Native.Nat.{ℕ, suc}
 use mathlib.Core.Path.{_≡_, sym}
 use mathlib.Core.Logic.{inl, inr}
@@ -12,14 +12,15 @@ use Rattle.table.specs.Chains.{chain, entriesOf}
 use Rattle.table.specs.Free.{writeTable}
 use Rattle.table.specs.WholeImage.{linked, wholeImage}
 use Rattle.table.proofs.ReserveLaws.{whole-linked}
-use Rattle.a2m.specs.Call.{Call, AllWide, replies, works, after}
+use Rattle.a2m.specs.Call.{replies, works, after}
+use Rattle.survey.specs.Requests.{Request, requestStep, AllWideRequests}
 use Rattle.a2m.specs.ImageCalls.{rowIn, entriesIn}
 use Rattle.a2m.specs.TableCalls.{tableStep}
 use Rattle.a2m.proofs.Lists.{In}
 use Rattle.a2m.proofs.FitsAfter.{SlotsFit, slot-fits}
 use Rattle.model.specs.Model.{rules}
 use Rattle.model.specs.ModelOf.{logIn, modelOf}
-use Rattle.model.specs.Claim.{by, ListClaim}
+use Rattle.model.specs.Claim.{asking, ListClaim}
 use Rattle.model.proofs.Entries.{Fit}
 use Rattle.model.proofs.Along.{Keeps}
 use Rattle.model.proofs.OfWhole.{log-in, model-says, model-sound, model-backed}
@@ -47,6 +48,6 @@ module _ (m : Image) (f : Fits m) where
         let says = model-says m l in
         record { says = says; sound = model-sound m l; backed = model-backed m w; fits = f; counts = rw (sym (says .count), sym (says .size)) counts }
 
-    pub image-list : (cs : List Call) → AllWide cs → ListClaim (modelOf m) (by rules cs) (replies tableStep (writeTable m) cs) (works tableStep (writeTable m) cs) (readTable (after tableStep (writeTable m) cs))
+    pub image-list : (qs : List Request) → AllWideRequests qs → ListClaim (modelOf m) (asking rules qs) (replies (requestStep tableStep) (writeTable m) qs) (works (requestStep tableStep) (writeTable m) qs) (readTable (after (requestStep tableStep) (writeTable m) qs))
     unfolding after replies works
-    image-list cs wide = table-claim (modelOf m) (model-keeps (whole-linked m w)) [] tt m image-stands cs wide
+    image-list qs wide = table-claim (modelOf m) (model-keeps (whole-linked m w)) [] tt m image-stands qs wide

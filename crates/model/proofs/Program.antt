@@ -1,6 +1,6 @@
 -- Demand 3 of the list that the program makes: append, advance and truncate leave what `tableStep` says, and lookup and end, which are lent the table to
 -- read it, leave it as it was. The answers, and the bytes after the list, are those through `tableStep`.
-use Prim.Native.Nat.{ℕ, _^_, _<_}
+use Prim.Native.Nat.{ℕ, _^_, _≤_, _<_}
 use mathlib.Core.Path.{_≡_, refl, sym, ap, _∙_}
 use mathlib.Core.List.{List, [], _∷_}
 use mathlib.Core.Bool.{true}
@@ -11,15 +11,18 @@ use Rattle.layout.specs.Layout.{readTable}
 use Rattle.table.specs.Free.{writeTable}
 use Rattle.table.specs.Format.{formatted, formatRefusal, formatBytes}
 use Rattle.table.specs.Whole.{whole}
-use Rattle.a2m.specs.Call.{Call, append, advance, truncate, lookup, end, AllWide, Reply, Effect, replies, works, after}
+use Rattle.a2m.specs.Call.{Call, append, advance, truncate, lookup, end, Wide, Reply, Effect, effect, replies, works, after}
 use Rattle.a2m.specs.ImageCalls.{imageRefusal, imageAccept, imageStep}
 use Rattle.a2m.specs.TableCalls.{tableStep}
+use Rattle.survey.specs.Requests.{Request, callOf, requestStep, WideRequest, AllWideRequests}
 use Rattle.a2m.proofs.Unchanged.{Reads}
 use Rattle.a2m.proofs.Written.{step-written}
-use Rattle.model.specs.Model.{rules, Model, newModel, modelStep}
-use Rattle.model.specs.Claim.{by, ListClaim}
+use Rattle.model.specs.Model.{rules, Model, newModel}
+use Rattle.model.specs.Book.{bookStep}
+use Rattle.model.specs.Claim.{asking, ListClaim}
 use Rattle.model.specs.Program.{passedOn, programStep}
-use Rattle.model.proofs.TableClaim.{Stands, in-range, step-stands}
+use Rattle.model.proofs.TableClaim.{Stands, in-range, request-stands, request-written}
+use Rattle.survey.proofs.RequestLaws.{steps-so}
 use Rattle.model.proofs.Demand3.{stands, bytes-are, listClaim, staysWhole}
 
 -- ---- one call
@@ -52,44 +55,47 @@ module _ (m : Image) (b : Model) (s : Stands m b) where
   passed (lookup g n c k) = sym (after-read (lookup g n c k) tt)
   passed (end g c k) = sym (after-read (end g c k) tt)
 
+  -- a call, and a request, leave the same bytes either way
+  same-call : (call : Call) → programStep (writeTable m) call ≡ tableStep (writeTable m) call
+  unfolding programStep
+  same-call call = ap (effect (tableStep (writeTable m) call .reply) (tableStep (writeTable m) call .blocks)) (passed call)
+
+  same-request : (q : Request) → requestStep programStep (writeTable m) q ≡ requestStep tableStep (writeTable m) q
+  same-request q =
+      steps-so programStep tableStep (writeTable m) (writeTable m) q (λ (x y : Effect (List ℕ)). x ≡ y) (λ (k : ℕ) (h : 7 ≤ k). refl) (λ (w : WideRequest q → Wide (callOf q)). same-call (callOf q))
+
 -- ---- the list
 
-pub record SameList (b : List ℕ) (cs : List Call) : Type 0 where
-  pub answers : replies programStep b cs ≡ replies tableStep b cs
-  pub blocks : works programStep b cs ≡ works tableStep b cs
-  pub bytes : after programStep b cs ≡ after tableStep b cs
+pub record SameList (b : List ℕ) (qs : List Request) : Type 0 where
+  pub answers : replies (requestStep programStep) b qs ≡ replies (requestStep tableStep) b qs
+  pub blocks : works (requestStep programStep) b qs ≡ works (requestStep tableStep) b qs
+  pub bytes : after (requestStep programStep) b qs ≡ after (requestStep tableStep) b qs
 
-pub same-list : (m : Image) (b : Model) → Stands m b → (cs : List Call) → AllWide cs → SameList (writeTable m) cs
-unfolding replies works after programStep
+pub same-list : (m : Image) (b : Model) → Stands m b → (qs : List Request) → AllWideRequests qs → SameList (writeTable m) qs
+unfolding replies works after
 same-list m b s [] w = record { answers = refl; blocks = refl; bytes = refl }
-same-list m b s (c ∷ cs) w =
-    let ih = same-list (imageStep m c .state) (modelStep rules b c .state) (step-stands m b s c (w .0, tt)) cs (w .1) in
-    let t = after-call m b s c in
-    let p : passedOn (writeTable m) c ≡ writeTable (imageStep m c .state) = passed m b s c ∙ t in
-    let rs : replies programStep (passedOn (writeTable m) c) cs ≡ replies tableStep (tableStep (writeTable m) c .state) cs =
-    ap (λ (x : List ℕ). replies programStep x cs) p ∙ ih .answers ∙ sym (ap (λ (x : List ℕ). replies tableStep x cs) t) in
-    let ks : works programStep (passedOn (writeTable m) c) cs ≡ works tableStep (tableStep (writeTable m) c .state) cs =
-    ap (λ (x : List ℕ). works programStep x cs) p ∙ ih .blocks ∙ sym (ap (λ (x : List ℕ). works tableStep x cs) t) in
-    let bs : after programStep (passedOn (writeTable m) c) cs ≡ after tableStep (tableStep (writeTable m) c .state) cs =
-    ap (λ (x : List ℕ). after programStep x cs) p ∙ ih .bytes ∙ sym (ap (λ (x : List ℕ). after tableStep x cs) t) in
+same-list m b s (q ∷ qs) w =
+    let e = same-request m b s q in
+    let t = request-written m b s q in
+    let ih = same-list (requestStep imageStep m q .state) (bookStep rules b q .state) (request-stands m b s q (w .0)) qs (w .1) in
     record {
-      answers = ap {B = List Reply} (λ (l : List Reply). tableStep (writeTable m) c .reply ∷ l) rs;
-      blocks = ap {B = List ℕ} (λ (l : List ℕ). tableStep (writeTable m) c .blocks ∷ l) ks;
-      bytes = bs;
+      answers = rw (e, t) (ap {B = List Reply} (λ (l : List Reply). requestStep imageStep m q .reply ∷ l) (ih .answers));
+      blocks = rw (e, t) (ap {B = List ℕ} (λ (l : List ℕ). requestStep imageStep m q .blocks ∷ l) (ih .blocks));
+      bytes = rw (e, t) (ih .bytes);
     }
 
 module _ (lent : List ℕ) (G S keeper : ℕ) (key reserves : List ℕ) (k64 : keeper < 2 ^ 64) (accepted : formatRefusal (length lent) G S (length key) reserves ≡ none) where
-  same : (cs : List Call) → AllWide cs → SameList (writeTable (formatted S keeper key reserves)) cs
-  same cs w = same-list (formatted S keeper key reserves) (newModel S keeper key reserves) (stands lent G S keeper key reserves k64 accepted) cs w
+  same : (qs : List Request) → AllWideRequests qs → SameList (writeTable (formatted S keeper key reserves)) qs
+  same qs w = same-list (formatted S keeper key reserves) (newModel S keeper key reserves) (stands lent G S keeper key reserves k64 accepted) qs w
 
-  pub programClaim : (cs : List Call) → AllWide cs → ListClaim (newModel S keeper key reserves) (by rules cs) (replies programStep (formatBytes lent G S keeper key reserves) cs) (works programStep (formatBytes lent G S keeper key reserves) cs) (readTable (after programStep (formatBytes lent G S keeper key reserves) cs))
-  programClaim cs w =
+  pub programClaim : (qs : List Request) → AllWideRequests qs → ListClaim (newModel S keeper key reserves) (asking rules qs) (replies (requestStep programStep) (formatBytes lent G S keeper key reserves) qs) (works (requestStep programStep) (formatBytes lent G S keeper key reserves) qs) (readTable (after (requestStep programStep) (formatBytes lent G S keeper key reserves) qs))
+  programClaim qs w =
       let h = bytes-are lent G S keeper key reserves k64 accepted in
-      let c : ListClaim (newModel S keeper key reserves) (by rules cs) (replies tableStep (writeTable (formatted S keeper key reserves)) cs) (works tableStep (writeTable (formatted S keeper key reserves)) cs) (readTable (after tableStep (writeTable (formatted S keeper key reserves)) cs)) = rw h at (listClaim lent G S keeper key reserves k64 accepted cs w) in
-      rw (h, same cs w .answers, same cs w .blocks, same cs w .bytes) c
+      let c : ListClaim (newModel S keeper key reserves) (asking rules qs) (replies (requestStep tableStep) (writeTable (formatted S keeper key reserves)) qs) (works (requestStep tableStep) (writeTable (formatted S keeper key reserves)) qs) (readTable (after (requestStep tableStep) (writeTable (formatted S keeper key reserves)) qs)) = rw h at (listClaim lent G S keeper key reserves k64 accepted qs w) in
+      rw (h, same qs w .answers, same qs w .blocks, same qs w .bytes) c
 
-  -- the table is whole before and after each call
-  pub programWhole : (cs : List Call) → AllWide cs → whole (after programStep (formatBytes lent G S keeper key reserves) cs) ≡ true
-  programWhole cs w =
+  -- the table is whole before and after each request
+  pub programWhole : (qs : List Request) → AllWideRequests qs → whole (after (requestStep programStep) (formatBytes lent G S keeper key reserves) qs) ≡ true
+  programWhole qs w =
       let h = bytes-are lent G S keeper key reserves k64 accepted in
-      ap (λ (x : List ℕ). whole (after programStep x cs)) h ∙ ap whole (same cs w .bytes) ∙ ap (λ (x : List ℕ). whole (after tableStep x cs)) (sym h) ∙ staysWhole lent G S keeper key reserves k64 accepted cs w
+      ap (λ (x : List ℕ). whole (after (requestStep programStep) x qs)) h ∙ ap whole (same qs w .bytes) ∙ ap (λ (x : List ℕ). whole (after (requestStep tableStep) x qs)) (sym h) ∙ staysWhole lent G S keeper key reserves k64 accepted qs w

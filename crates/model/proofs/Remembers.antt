@@ -5,7 +5,7 @@ use mathlib.Core.Path.{_≡_, refl, sym, ap, subst, _∙_}
 use mathlib.Core.Logic.{inl, inr}
 use mathlib.Core.List.{List, [], _∷_}
 use mathlib.Core.Bool.{Bool, true, false}
-use mathlib.Core.Option.{Option, none, some, Option·none-ne-some}
+use mathlib.Core.Option.{Option, none, some}
 use native.Mathlib.Omega.{arith}
 use native.Mathlib.Decide.{ℕ-discrete}
 use lib.ListN.{length, take, set}
@@ -26,7 +26,7 @@ use Rattle.model.proofs.Passed.{Passed, Stepped, turned, taken, stepped
 use Rattle.model.proofs.Later.{in-kept}
 use Rattle.model.proofs.Entries.{EntryAt, in-bounds, rising-in}
 use Rattle.model.proofs.Shown.{length-LOOKUP}
-use Rattle.model.proofs.Along.{Keeps, after-fixed, at-keeps, At, at-call}
+use Rattle.model.proofs.Along.{Keeps, after-fixed, at-keeps, At, at-call, at-none}
 
 -- ---- a log keeps its entries down to its low
 
@@ -152,27 +152,20 @@ module _ (ru : Rules) (b : Model) (keeps : Keeps b) (g n : ℕ) (v d : List ℕ)
 
 -- ---- along the list
 
-take-none : (ts : List Turn) (k : ℕ) → callAt ts k ≡ none → take (suc k) ts ≡ take k ts
-unfolding callAt
-take-none [] zero h = refl
-take-none [] (suc k) h = refl
-take-none (c ∷ ts) zero h = absurd (Option·none-ne-some (c .call) (sym h))
-take-none (c ∷ ts) (suc k) h = ap {B = List Turn} (λ (l : List Turn). c ∷ l) (take-none ts k h)
-
 module _ (b : Model) (keeps : Keeps b) (ts : List Turn) (w : Each WideTurn ts) (i j g n : ℕ) (x : List ℕ) (a : Asked ts (replies modelTurn b ts) i j g n x) where
   met : ℕ → Model
   met k = after modelTurn b (take k ts)
 
   put-at : Stored (met i) (met (suc i)) g n x
   unfolding met
-  put-at = let r = at-call b ts i (a .put) (a .first) in rw (r .next) (stored (r .rules) (met i) g n (a .low) x (a .put) (a .stores) (sym (r .reply) ∙ a .accepted))
+  put-at = let r = at-call b ts i (a .put) (a .first) in rw (r .next) (stored (r .turn .rules) (met i) g n (a .low) x (a .put) (a .stores) (sym (r .reply) ∙ a .accepted))
 
   held-at : (d : List ℕ) → EntryAt (logAt (met (suc i) .logs) g) n x d → (k : ℕ) → i < k → k ≤ j → EntryAt (logAt (met k .logs) g) n x d
   unfolding met
   held-at d h zero lo hi = absurd (omega arith)
   held-at d h (suc k) lo hi = go (ℕ-discrete k i) (λ (q : i < k). held-at d h k q (omega arith)) (callAt ts k) refl
     where
-      on : i < k → EntryAt (logAt (met k .logs) g) n x d → (c : Call) → callAt ts k ≡ some c → (r : At b ts k c) → Next (r .rules) (met k) g n x d c → EntryAt (logAt (met (suc k) .logs) g) n x d
+      on : i < k → EntryAt (logAt (met k .logs) g) n x d → (c : Call) → callAt ts k ≡ some c → (r : At b ts k c) → Next (r .turn .rules) (met k) g n x d c → EntryAt (logAt (met (suc k) .logs) g) n x d
       on q e c f r (stays e′) = rw (r .next) e′
       on q e c f r (forgets m low high z y past) =
           let le : m ≤ n = a .kept k m q hi (record { call = f ∙ ap some z; low = low; high = high; accepted = r .reply ∙ y }) in
@@ -180,8 +173,8 @@ module _ (b : Model) (keeps : Keeps b) (ts : List Turn) (w : Each WideTurn ts) (
 
       go : Dec (k ≡ i) → (i < k → EntryAt (logAt (met k .logs) g) n x d) → (o : Option Call) → callAt ts k ≡ o → EntryAt (logAt (met (suc k) .logs) g) n x d
       go (yes e) below o f = rw e h
-      go (no z) below none f = rw (take-none ts k f) (below (omega arith))
-      go (no z) below (some c) f = let r = at-call b ts k c f in on (omega arith) (below (omega arith)) c f r (next (r .rules) (met k) g n x d (below (omega arith)) c)
+      go (no z) below none f = rw (at-none b ts k f) (below (omega arith))
+      go (no z) below (some c) f = let r = at-call b ts k c f in on (omega arith) (below (omega arith)) c f r (next (r .turn .rules) (met k) g n x d (below (omega arith)) c)
 
   pub model-remembers : (d : List ℕ) × ShowsAt (replies modelTurn b ts) j g n x d
   unfolding met
@@ -190,4 +183,4 @@ module _ (b : Model) (keeps : Keeps b) (ts : List Turn) (w : Each WideTurn ts) (
       let e = held-at (s .digest) (s .entry) j (a .later) (le-refl j) in
       let r = at-call b ts j (lookup g n (a .nonce) 160) (a .second) in
       let gG : g < length (met j .logs) = rw (after-fixed b (take j ts) .count) (rw (after-fixed b (take i ts) .count) at (s .log)) in
-      (s .digest, shows-at (r .rules) (met j) (at-keeps b keeps ts w j) g n x (s .digest) e (a .nonce) (a .sized) gG (replies modelTurn b ts) j (r .reply))
+      (s .digest, shows-at (r .turn .rules) (met j) (at-keeps b keeps ts w j) g n x (s .digest) e (a .nonce) (a .sized) gG (replies modelTurn b ts) j (r .reply))

@@ -1,27 +1,48 @@
--- Lists of turns: all by one set of rules, and two lists on end.
-use Prim.Native.Nat.{ℕ, zero, suc}
+-- Lists of turns: all by one set of rules, and two lists on end; and one turn, by what its request makes.
+use Prim.Native.Nat.{ℕ, zero, suc, _≤_}
 use mathlib.Core.Path.{_≡_, refl, ap, subst}
-use mathlib.Core.List.{List, [], _∷_, _++_}
+use mathlib.Core.List.{List, [], _∷_, _++_, map}
 use mathlib.Core.Option.{some, Option·none-ne-some, Option·some-injective}
 use lib.ListN.{getElem?}
-use Rattle.a2m.specs.Call.{Call, Wide, Reply, replies, works, after}
+use Rattle.a2m.specs.Call.{Call, Wide, Reply, refused, Effect, effect, replies, works, after}
+use Rattle.survey.specs.Requests.{Request, callOf, WideRequest}
 use Rattle.model.specs.Model.{Rules, Model, modelStep}
-use Rattle.model.specs.Claim.{Turn, by, modelTurn}
+use Rattle.model.specs.Book.{bookStep}
+use Rattle.model.specs.Claim.{Turn, asks, under, asking, by, modelTurn}
+use Rattle.model.proofs.Requests.{book-so}
 
-pub replies-by : (ru : Rules) (b : Model) (cs : List Call) → replies modelTurn b (by ru cs) ≡ replies (modelStep ru) b cs
+-- ---- a list of items, each of them another's name
+
+pub replies-map : {S C D : Type 0} (step : S → D → Effect S) (f : C → D) (s : S) (cs : List C) → replies step s (map f cs) ≡ replies (λ (t : S) (c : C). step t (f c)) s cs
 unfolding replies
-replies-by ru b [] = refl
-replies-by ru b (c ∷ cs) = ap {B = List Reply} (λ (l : List Reply). modelStep ru b c .reply ∷ l) (replies-by ru (modelStep ru b c .state) cs)
+replies-map step f s [] = refl
+replies-map step f s (c ∷ cs) = ap {B = List Reply} (λ (l : List Reply). step s (f c) .reply ∷ l) (replies-map step f (step s (f c) .state) cs)
 
-pub works-by : (ru : Rules) (b : Model) (cs : List Call) → works modelTurn b (by ru cs) ≡ works (modelStep ru) b cs
+pub works-map : {S C D : Type 0} (step : S → D → Effect S) (f : C → D) (s : S) (cs : List C) → works step s (map f cs) ≡ works (λ (t : S) (c : C). step t (f c)) s cs
 unfolding works
-works-by ru b [] = refl
-works-by ru b (c ∷ cs) = ap {B = List ℕ} (λ (l : List ℕ). modelStep ru b c .blocks ∷ l) (works-by ru (modelStep ru b c .state) cs)
+works-map step f s [] = refl
+works-map step f s (c ∷ cs) = ap {B = List ℕ} (λ (l : List ℕ). step s (f c) .blocks ∷ l) (works-map step f (step s (f c) .state) cs)
+
+pub after-map : {S C D : Type 0} (step : S → D → Effect S) (f : C → D) (s : S) (cs : List C) → after step s (map f cs) ≡ after (λ (t : S) (c : C). step t (f c)) s cs
+unfolding after
+after-map step f s [] = refl
+after-map step f s (c ∷ cs) = after-map step f (step s (f c) .state) cs
+
+-- all by one set of rules: calls, and requests
+pub replies-by : (ru : Rules) (b : Model) (cs : List Call) → replies modelTurn b (by ru cs) ≡ replies (modelStep ru) b cs
+replies-by ru b cs = replies-map modelTurn (under ru) b cs
 
 pub after-by : (ru : Rules) (b : Model) (cs : List Call) → after modelTurn b (by ru cs) ≡ after (modelStep ru) b cs
-unfolding after
-after-by ru b [] = refl
-after-by ru b (c ∷ cs) = after-by ru (modelStep ru b c .state) cs
+after-by ru b cs = after-map modelTurn (under ru) b cs
+
+pub replies-asking : (ru : Rules) (b : Model) (qs : List Request) → replies modelTurn b (asking ru qs) ≡ replies (bookStep ru) b qs
+replies-asking ru b qs = replies-map modelTurn (asks ru) b qs
+
+pub works-asking : (ru : Rules) (b : Model) (qs : List Request) → works modelTurn b (asking ru qs) ≡ works (bookStep ru) b qs
+works-asking ru b qs = works-map modelTurn (asks ru) b qs
+
+pub after-asking : (ru : Rules) (b : Model) (qs : List Request) → after modelTurn b (asking ru qs) ≡ after (bookStep ru) b qs
+after-asking ru b qs = after-map modelTurn (asks ru) b qs
 
 pub replies-on : (b : Model) (ts us : List Turn) → replies modelTurn b (ts ++ us) ≡ replies modelTurn b ts ++ replies modelTurn (after modelTurn b ts) us
 unfolding replies after
@@ -38,10 +59,17 @@ unfolding after
 after-on b [] us = refl
 after-on b (t ∷ ts) us = after-on (modelTurn b t .state) ts us
 
+-- ---- one turn
+
+-- what holds where the request is turned away, with 7 or more, and where it makes its call, holds of the turn
+pub turn-so : (b : Model) (t : Turn) (P : Effect Model → Type 0)
+    → ((k : ℕ) → 7 ≤ k → P (effect (refused k) 0 b)) → ((c : Call) → (WideRequest (t .request) → Wide c) → P (modelStep (t .rules) b c)) → P (modelTurn b t)
+turn-so b t P a m = book-so (t .rules) b (t .request) P a (m (callOf (t .request)))
+
 -- ---- what each turn of a list has
 
 abbrev pub WideTurn : Turn → Type 0
-WideTurn t = Wide (t .call)
+WideTurn t = WideRequest (t .request)
 
 abbrev pub Each : (Turn → Type 0) → List Turn → Type 0
 Each P [] = Unit {0}

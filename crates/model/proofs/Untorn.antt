@@ -1,5 +1,5 @@
 -- The model never answers 1; nor any number but its own tests' that its rules lack.
-use Prim.Native.Nat.{ℕ, zero, suc, _-_, _^_}
+use Prim.Native.Nat.{ℕ, zero, suc, _-_, _^_, _≤_}
 use mathlib.Core.Path.{_≡_, refl}
 use mathlib.Core.Logic.{_≢_}
 use mathlib.Core.List.{List, [], _∷_}
@@ -8,10 +8,10 @@ use mathlib.Core.Option.{Option, none, some, Option·none-ne-some, Option·some-
 use native.Mathlib.Omega.{arith}
 use lib.ListN.{length}
 use lib.Dec.{eqb, leb, ltb}
-use Rattle.a2m.specs.Call.{Call, append, advance, truncate, lookup, end, refused, replies}
+use Rattle.a2m.specs.Call.{Call, append, advance, truncate, lookup, end, Wide, refused, Effect, replies}
 use Rattle.model.specs.Model.{Rules, rules01, slotRule, rules, Model, logAt, total, lacksBut, isNil, not32, modelRefusal, modelLookup, modelEnd, modelDone, modelAccept, modelStep}
 use Rattle.model.specs.Claim.{Turn, modelTurn, replyAt}
-use Rattle.model.proofs.Turns.{Each}
+use Rattle.model.proofs.Turns.{WideTurn, turn-so, Each}
 
 -- rules that have no number w
 pub record Lacks (w : ℕ) (ru : Rules) : Type 0 where
@@ -81,11 +81,16 @@ module _ (w : ℕ) (n7 : 7 ≢ w) (n2 : 2 ≢ w) (n3 : 3 ≢ w) (n4 : 4 ≢ w) (
       go none e = accept-not call (rw (modelStep, e) at h)
       go (some n) e = refusal-not call (let q : refused n ≡ refused w = rw (modelStep, e) at h in cc)
 
+pub refused-not : (n w : ℕ) → n ≢ w → refused n ≢ refused w
+refused-not n w h e = h cc
+
 abbrev pub CalmTurn : Turn → Type 0
 CalmTurn t = Calm (t .rules)
 
 pub model-untorn : (b : Model) (ts : List Turn) → Each CalmTurn ts → (i : ℕ) → replyAt (replies modelTurn b ts) i ≢ refused 1
 unfolding replies
 model-untorn b [] k i h = let z : _≡_ {A = ℕ} 0 1 = cc in omega arith
-model-untorn b (t ∷ ts) k zero h = step-not 1 (λ z. omega arith) (λ z. omega arith) (λ z. omega arith) (λ z. omega arith) (t .rules) (k .0) b (t .call) h
+model-untorn b (t ∷ ts) k zero h =
+    turn-so b t (λ (o : Effect Model). o .reply ≢ refused 1) (λ (n : ℕ) (u : 7 ≤ n). refused-not n 1 (λ (z : n ≡ 1). omega arith))
+    (λ (c : Call) (w : WideTurn t → Wide c). step-not 1 (λ z. omega arith) (λ z. omega arith) (λ z. omega arith) (λ z. omega arith) (t .rules) (k .0) b c) h
 model-untorn b (t ∷ ts) k (suc i) h = model-untorn (modelTurn b t .state) ts (k .1) i h

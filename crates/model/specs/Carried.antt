@@ -8,17 +8,18 @@ use Rattle.octets.specs.Octets.{Bytes}
 use Rattle.layout.specs.Layout01.{read01}
 use Rattle.table.specs.Whole01.{whole01}
 use Rattle.a2m.specs.Call.{Call, Reply, replies, after}
+use Rattle.survey.specs.Requests.{Request}
 use Rattle.model.specs.Model.{Model, newModel, rules01, rules, modelStep}
 use Rattle.model.specs.ModelOf.{modelOf}
-use Rattle.model.specs.Claim.{Turn, by}
+use Rattle.model.specs.Claim.{Turn, by, asking}
 
 -- the plain book of document 01's formatting: logs without reserves
 abbrev pub book01 : ℕ → ℕ → ℕ → List ℕ → Model
 book01 G S keeper key = newModel S keeper key (replicate G 0)
 
--- "the calls before the carry going by 01's rules", those after it by the present ones
-abbrev pub carriedTurns : List Call → List Call → List Turn
-carriedTurns before later = by rules01 before ++ by rules later
+-- "the calls before the carry going by 01's rules", those after it, calls by survey and reading among them, by the present ones
+abbrev pub carriedTurns : List Call → List Request → List Turn
+carriedTurns before later = by rules01 before ++ asking rules later
 
 -- what demand 3 says, by document 01's rules, of an A2MT table and the answers rs after a list of calls on it, wherever its free slots stand
 pub record Reached01 (G S keeper : ℕ) (key : List ℕ) (cs : List Call) (rs : List Reply) (old : List ℕ) : Type 0 where

@@ -1,9 +1,9 @@
--- Demand 3: what it says of a list of calls.
+-- Demand 3: what it says of a list of calls. Request [10]: "demand 3 counts them as the calls they make, a close as an advance", so an item of the list is a request.
 use Prim.Native.Nat.{ℕ, suc, _<_, _≤_}
 use mathlib.Core.Path.{_≡_}
 use mathlib.Core.Logic.{_≢_}
 use mathlib.Core.List.{List, [], _∷_, map}
-use mathlib.Core.Option.{Option, some, Option·map}
+use mathlib.Core.Option.{Option, none, some, Option·map}
 use mathlib.Core.Bool.{cond}
 use lib.ListN.{length, getD, take, getElem?}
 use lib.Dec.{eqb}
@@ -12,31 +12,43 @@ use Rattle.receipt.specs.Attestation.{readAttestation}
 use Rattle.receipt.specs.Verdict.{verdict}
 use Rattle.layout.specs.Image.{Image}
 use Rattle.table.specs.WholeImage.{meets}
-use Rattle.a2m.specs.Call.{Call, append, advance, truncate, lookup, end, Reply, refused, done, Effect, replies, works, after, receiptIn}
+use Rattle.a2m.specs.Call.{Call, append, advance, truncate, lookup, end, logOf, Puts, Reply, refused, done, Effect, replies, works, after, receiptIn}
 use Rattle.a2m.specs.ImageCalls.{rowIn, entriesIn}
+use Rattle.survey.specs.Packing.{surveyOf}
+use Rattle.survey.specs.Requests.{Request, plain, closes, madeOf}
 use Rattle.model.specs.Log.{Log}
-use Rattle.model.specs.Model.{Rules, Model, logAt, modelStep}
+use Rattle.model.specs.Model.{Rules, Model, logAt}
+use Rattle.model.specs.Book.{bookStep}
 use Rattle.model.specs.Question.{questionOf, nonceOf, valuesOf}
 
--- ---- lists in which each call goes by its own rules
+-- ---- lists in which each request goes by its own rules
 
 pub record Turn : Type 0 where
   pub rules : Rules
-  pub call : Call
+  pub request : Request
+
+abbrev pub asks : Rules → Request → Turn
+asks ru q = record { rules = ru; request = q }
 
 abbrev pub under : Rules → Call → Turn
-under ru c = record { rules = ru; call = c }
+under ru c = asks ru (plain c)
 
--- all of them by one set of rules
+-- all of them by one set of rules: requests, or the five calls alone
+abbrev pub asking : Rules → List Request → List Turn
+asking ru qs = map (asks ru) qs
+
 abbrev pub by : Rules → List Call → List Turn
 by ru cs = map (under ru) cs
 
 abbrev pub modelTurn : Model → Turn → Effect Model
-modelTurn b t = modelStep (t .rules) b (t .call)
+modelTurn b t = bookStep (t .rules) b (t .request)
 
--- call j of the list
+-- request j of the list, and the call that it makes: none if it was turned away
+unfoldable pub requestAt : List Turn → ℕ → Option Request
+requestAt ts j = Option·map (λ (t : Turn). t .request) (getElem? ts j)
+
 unfoldable pub callAt : List Turn → ℕ → Option Call
-callAt ts j = Option·map (λ (t : Turn). t .call) (getElem? ts j)
+callAt ts j = elim (getElem? ts j) [ none ↦ none | some t ↦ madeOf (t .request) ]
 
 -- ---- what a list's answers show
 
@@ -98,6 +110,23 @@ pub record Asked (ts : List Turn) (rs : List Reply) (i j g n : ℕ) (x : List �
   pub later : i < j
   pub kept : (k m : ℕ) → i < k → k < j → ForgetsAt ts rs k g m → m ≤ n
 
+-- request i makes an append or advance of log g, by whatever name, which was accepted: it assigns n, the H answered
+pub record AssignsAt (ts : List Turn) (rs : List Reply) (i g n : ℕ) : Type 0 where
+  pub put : Call
+  pub call : callAt ts i ≡ some put
+  pub puts : Puts put
+  pub log : logOf put ≡ g
+  pub low : ℕ
+  pub accepted : replyAt rs i ≡ done low n
+
+-- request i closes survey s of log g and was accepted
+pub record ClosesAt (ts : List Turn) (rs : List Reply) (i g s : ℕ) : Type 0 where
+  pub value : List ℕ
+  pub request : requestAt ts i ≡ some (closes g s value)
+  pub low : ℕ
+  pub high : ℕ
+  pub accepted : replyAt rs i ≡ done low high
+
 -- ---- what the table after the list says
 
 -- how often s stands in a list
@@ -114,8 +143,8 @@ pub record RowSays (m : Image) (g : ℕ) (l : Log) : Type 0 where
 
 -- ---- the claim
 
--- of the model b at first, the calls ts, each by its rules, their answers rs with the blocks ks, and the table m after them. For an accepted format b is `newModel` of its
--- arguments, and every call goes by the present `rules`
+-- of the model b at first, the requests ts, each by its rules, their answers rs with the blocks ks, and the table m after them. For an accepted format b is `newModel` of
+-- its arguments, and every request goes by the present `rules`
 pub record ListClaim (b : Model) (ts : List Turn) (rs : List Reply) (ks : List ℕ) (m : Image) : Type 0 where
   -- "every answer is the one that document 01's plain book gives for the calls so far": receipts and examined numbers included
   pub answers : rs ≡ replies modelTurn b ts
@@ -144,3 +173,7 @@ pub record ListClaim (b : Model) (ts : List Turn) (rs : List Reply) (ks : List �
   pub untorn : (i : ℕ) → replyAt rs i ≢ refused 1
   -- and what a call put is found again: a later lookup shows it assigned with the value put, unless an accepted truncate went past it
   pub recalled : (i j g n : ℕ) (x : List ℕ) → Asked ts rs i j g n x → (d : List ℕ) × ShowsAt rs j g n x d
+  -- the positions assigned in a log rise
+  pub rising : (i j g n m : ℕ) → i < j → AssignsAt ts rs i g n → AssignsAt ts rs j g m → n < m
+  -- "After an accepted close, no later call of demand 3's list assigns a position of that survey in that log."
+  pub closed : (i j g s n : ℕ) → i < j → ClosesAt ts rs i g s → AssignsAt ts rs j g n → surveyOf n ≢ s

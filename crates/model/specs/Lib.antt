@@ -1,3 +1,4 @@
+pub mod Book
 pub mod Calls01
 pub mod Carried
 pub mod Claim

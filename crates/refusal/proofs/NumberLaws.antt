@@ -7,7 +7,7 @@ use mathlib.Core.List.{List, [], _∷_}
 use lib.ListN.{getD}
 use Rattle.refusal.specs.Number.{numberOf, outcomeNumber}
 use Rattle.refusal.specs.declared.Refusal.{Refusal}
-use Rattle.refusal.specs.declared.Refusal.the-variants.{Torn, NoLog, Position, Spent, Full, Length, Counts, NoReceipt, Tag, OtherQuestion, Roster, TooFew, NoRun, Line, Promised, Profile}
+use Rattle.refusal.specs.declared.Refusal.the-variants.{Torn, NoLog, Position, Spent, Full, Length, Counts, NoReceipt, Tag, OtherQuestion, Roster, TooFew, NoRun, Line, Promised, Profile, Survey}
 use Rattle.refusal.specs.declared.Outcome.{Outcome}
 use Rattle.refusal.specs.declared.Outcome.the-variants.{Done, Refused}
 
@@ -15,7 +15,7 @@ use Rattle.refusal.specs.declared.Outcome.the-variants.{Done, Refused}
 abbrev words : List Refusal
 words =
     Torn ∷ NoLog ∷ Position ∷ Spent ∷ Full ∷ Torn ∷ Length ∷ Counts ∷ NoReceipt ∷ Tag ∷
-    OtherQuestion ∷ Roster ∷ TooFew ∷ NoRun ∷ Line ∷ Promised ∷ Profile ∷ []
+    OtherQuestion ∷ Roster ∷ TooFew ∷ NoRun ∷ Line ∷ Promised ∷ Profile ∷ Survey ∷ []
 
 -- the outcome of a number
 abbrev outcomeOf : ℕ → Outcome
@@ -39,6 +39,7 @@ refused-back NoRun = refl
 refused-back Line = refl
 refused-back Promised = refl
 refused-back Profile = refl
+refused-back Survey = refl
 
 outcome-back : (o : Outcome) → outcomeOf (outcomeNumber o) ≡ o
 outcome-back Done = refl

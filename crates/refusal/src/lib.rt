@@ -21,6 +21,7 @@ pub enum Refusal {
     Line,
     Promised,
     Profile,
+    Survey,
 }
 
 // The answer of a call that returns nothing but its number.
@@ -58,6 +59,7 @@ impl Refusal {
             Refusal::Line => 15,
             Refusal::Promised => 16,
             Refusal::Profile => 17,
+            Refusal::Survey => 18,
         }
     }
 }

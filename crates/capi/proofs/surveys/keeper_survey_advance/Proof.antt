@@ -1,0 +1,29 @@
+-- `capi::surveys::keeper_survey_advance` meets its contract.
+use Rattle.capi_results.proofs.Answers.{passed-on}
+use borrow.Author.Needs.{needs}
+use mathlib.Core.Path.{_≡_, refl}
+use mathlib.Core.Bool.{true}
+use Rattle.capi.proofs.surveys.keeper_survey_advance.Statement.{statement}
+use Rattle.capi.proofs.surveys.keeper_survey_advance.Tie as tie
+use Rattle.refusal.specs.Unwritten.{unwritten, counts}
+use Rattle.capi.proofs.surveys.keeper_survey_advance.Code.Mir.{function}
+
+advance-requires : tie.Need-advance-requires
+advance-requires c κs = search needs
+
+changed-requires : tie.Need-changed-requires
+changed-requires c κs = search needs
+
+same-length : tie.Need-same-length
+same-length c = search needs
+
+returns : tie.Need-returns
+returns c = let a = c .before .before .before .before .before .before .before .before .before .before .args in
+    passed-on (a .low .now) (a .high .now) (c .changed .ensures) (c .before .before .before .before .before .advance .ensures)
+
+pub keeper-survey-advance-spec : {M : Type 1} → statement M
+keeper-survey-advance-spec = tie.close (tie.spec advance-requires changed-requires same-length returns)
+
+-- no literal of the body becomes the count
+pub counted : unwritten counts (function .body) ≡ true
+counted = refl

@@ -1,0 +1,56 @@
+-- `survey_calls::lookup::lookup` meets its contract. Assumes nothing.
+use mathlib.Core.Path.{_≡_, refl, _∙_, ap, sym}
+use Rattle.a2m.specs.Opened.{findingReply, findingBlocks}
+use Rattle.survey.specs.Packing.{packingAnswer}
+use Rattle.survey.proofs.CallLaws.{looks-nonce, looks-receipt, looks-made, looks-away}
+use borrow.Author.Needs.{needs}
+use Rattle.survey_calls.proofs.lookup.lookup.Statement.{statement}
+use mathlib.Core.Bool.{true}
+use Rattle.refusal.specs.Unwritten.{unwritten, counts}
+use Rattle.survey_calls.proofs.lookup.lookup.Code.Mir.{function}
+use Rattle.survey_calls.proofs.lookup.lookup.Tie as tie
+
+returns : tie.Need-returns
+returns c = let a = c .before .before .before .before .args in looks-nonce (a .table .now) (a .log) (a .survey .0) (a .reading .0) (a .nonce .now) (a .receipt .now) (c .if1 .taken)
+
+returns-2 : tie.Need-returns-2
+returns-2 c = let a = c .before .before .before .before .before .args in looks-receipt (a .table .now) (a .log) (a .survey .0) (a .reading .0) (a .nonce .now) (a .receipt .now) (c .before .if1 .left) (c .if2 .taken)
+
+pack-requires : tie.Need-pack-requires
+pack-requires c κs = search needs
+
+enum-known-position : tie.Need-enum-known-position
+enum-known-position c = search needs
+
+lookup-requires : tie.Need-lookup-requires
+lookup-requires c κs = search needs
+
+enum-known-why : tie.Need-enum-known-why
+enum-known-why c = search needs
+
+same-length : tie.Need-same-length
+same-length c = search needs
+
+returns-3 : tie.Need-returns-3
+returns-3 c = let a = c .before .before .before .before .before .before .before .before .before .before .before .before .before .args in let p = c .before .before .before .before .before .position .given in let o = c .before .before .lookup in looks-made (a .table .now) (a .log) (a .survey .0) (a .reading .0) (a .nonce .now) (a .receipt .now) (c .before .before .before .before .before .before .before .before .before .if1 .left) (c .before .before .before .before .before .before .before .before .if2 .left) (p .0 .0 .0) (sym (ap packingAnswer (p .1)) ∙ c .before .before .before .before .before .before .before .pack .ensures) (findingReply (o .result) (o .last .1 .1 .1 .1 .0)) (findingBlocks (o .result)) (o .last .1 .1 .1 .1 .0) (o .ensures)
+
+returns-4 : tie.Need-returns-4
+returns-4 c = let a = c .before .before .before .before .before .before .before .before .before .args in let w = c .before .why .given in looks-away (a .table .now) (a .log) (a .survey .0) (a .reading .0) (a .nonce .now) (a .receipt .now) (c .before .before .before .before .before .if1 .left) (c .before .before .before .before .if2 .left) (w .0 .0) (sym (ap packingAnswer (w .1)) ∙ c .before .before .before .pack .ensures)
+
+pub lookup-spec : {M : Type 1} → statement M
+lookup-spec =
+    tie.close
+    (tie.spec
+    returns
+    returns-2
+    pack-requires
+    enum-known-position
+    lookup-requires
+    enum-known-why
+    same-length
+    returns-3
+    returns-4)
+
+-- no literal of the body becomes the count
+pub counted : unwritten counts (function .body) ≡ true
+counted = refl
