@@ -4,17 +4,19 @@ use mathlib.Core.Path.{_≡_, refl, sym, ap, ap₂, _∙_}
 use mathlib.Core.Logic.{_⊎_, inl, inr}
 use mathlib.Core.List.{List, [], _∷_, _++_, append-assoc, append-nil}
 use native.Mathlib.Omega.{arith}
-use lib.ListN.{length, take}
+use lib.ListN.{length, take, length-append}
 use lib.Seq.{length-take-le}
 use Rattle.octets.proofs.Parts.{part-splice-same}
-use Rattle.refusal.specs.declared.Refusal.the-variants.{Line}
+use Rattle.refusal.specs.Number.{numberOf}
+use Rattle.decimal.specs.Decimal.{decimalOf}
+use Rattle.decimal.proofs.Theorems.{length-decimal}
 use Rattle.workload.specs.declared.Asked.{Asked}
 use Rattle.workload.specs.declared.Asked.the-variants.{Script, Refused}
 use Rattle.workload.specs.declared.Course.{Course}
 use Rattle.workload.specs.Generator.{stateAfter}
-use Rattle.workload.specs.Text.{linesText, scriptText, Fills}
+use Rattle.workload.specs.Text.{linesText, scriptText, formatLine, Fills}
 use Rattle.workload.specs.Asked.{askedOf, textOf, rushText, firstText, courseOf}
-use Rattle.workload.proofs.TextLaws.{pieces}
+use Rattle.workload.proofs.TextLaws.{pieces, format-text}
 use Rattle.workload.proofs.AskedLaws.{asked-long}
 
 -- ---- pieces
@@ -60,6 +62,11 @@ fill-moves out out′ x k r f room some = go (f .full)
         absurd-or (suc j) e = omega arith
 
 -- ---- the whole
+
+-- what is written first has 22 bytes at most
+pub course-room : (a : Asked) → courseOf a .to ≤ 22
+course-room (Script seed count) = omega (arith, ap (λ (l : List ℕ). length (l ++ (10 ∷ []))) format-text)
+course-room (Refused why) = omega (arith, length-append (decimalOf (numberOf why)) (10 ∷ []), length-decimal (numberOf why))
 
 pub first-rest : (a : Asked) → firstText a ++ linesText (courseOf a .state) (courseOf a .left) ≡ textOf a
 unfolding scriptText linesText
