@@ -16,7 +16,6 @@ use Rattle.line.specs.Lines.{lastLine, endedLines, linesOf}
 use Rattle.line.specs.Command.{padded}
 use Rattle.line.proofs.FieldLaws.{fields-last, fields-more, parts-cons, length-upTo, take-first}
 use Rattle.line.proofs.PaddedLaws.{padded-at}
-use Rattle.workload.specs.declared.Asked.{Asked}
 use Rattle.workload.specs.declared.Asked.the-variants.{Script, Refused}
 use Rattle.workload.specs.Asked.{askedBy, ofNumbers, ofLine, ofLines, askedOf}
 

@@ -1,17 +1,16 @@
 -- Laws of the parts between marks, where the parts are known.
 use Prim.Native.Nat.{ℕ, _≤_, _<_, _^_}
 use mathlib.Core.Path.{_≡_, refl, sym, ap, ap₂, _∙_}
-use mathlib.Core.Bool.{Bool, true, false, cond, _&&_}
+use mathlib.Core.Bool.{Bool, true, false, cond}
 use mathlib.Core.List.{List, [], _∷_, _++_, append-assoc, append-nil, map}
-use mathlib.Core.Option.{Option, some}
+use mathlib.Core.Option.{some}
 use native.Mathlib.Omega.{arith}
 use lib.Dec.{eqb, leb}
 use borrow.Author.Tests.{eq-eqb, ne-eqb, leb-true}
 use Rattle.octets.proofs.Tests.{and-left, and-right}
-use Rattle.decimal.specs.Decimal.{decimalOf, isDigit, allDigits, numberOf}
-use Rattle.decimal.specs.declared.Number.{Number}
+use Rattle.decimal.specs.Decimal.{decimalOf, isDigit, allDigits}
 use Rattle.decimal.proofs.Theorems.{decimal-digits, parse-decimal}
-use Rattle.line.specs.Fields.{onFirst, partsOf, fieldsOf, before, numbersOf, upTo}
+use Rattle.line.specs.Fields.{onFirst, partsOf, fieldsOf, before, numbersOf}
 use Rattle.line.specs.Lines.{endedLines, linesOf}
 use Rattle.line.proofs.FieldLaws.{parts-cons}
 use Rattle.workload.specs.Text.{numbersText}

@@ -1,6 +1,6 @@
 -- "writes a script": every line of a rush is a line of the script program, of the call that was drawn.
 use Prim.Native.Nat.{ℕ, zero, suc, _≤_, _<_, _^_}
-use mathlib.Core.Path.{_≡_, refl, sym, ap, ap₂, _∙_}
+use mathlib.Core.Path.{_≡_, refl, ap, ap₂, _∙_}
 use mathlib.Core.Bool.{true}
 use mathlib.Core.List.{List, [], _∷_, _++_, map}
 use mathlib.Core.Option.{Option, none, some}
@@ -8,9 +8,8 @@ use native.Mathlib.Omega.{arith}
 use lib.ListN.{length}
 use borrow.Author.Tests.{le-leb}
 use Rattle.octets.specs.Octets.{same}
-use Rattle.decimal.specs.Decimal.{decimalOf}
 use Rattle.line.specs.declared.Command.{Command}
-use Rattle.line.specs.Fields.{partsOf, fieldsOf, numbersOf}
+use Rattle.line.specs.Fields.{partsOf, fieldsOf}
 use Rattle.line.specs.Lines.{linesOf}
 use Rattle.line.specs.Command.{wordOf, made, ofNumbers, ofFields, commandOf, reservesIn, numbersIn, reservesOf}
 use Rattle.workload.specs.declared.Draw.{Draw}

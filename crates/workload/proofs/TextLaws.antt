@@ -1,6 +1,6 @@
 -- Laws of the text: its lines one after the other, and how long they are.
-use Prim.Native.Nat.{ℕ, zero, suc, _+_, _-_, _≤_, _<_, _^_}
-use mathlib.Core.Path.{_≡_, refl, sym, ap, ap₂, _∙_}
+use Prim.Native.Nat.{ℕ, zero, suc, _+_, _≤_, _<_, _^_}
+use mathlib.Core.Path.{_≡_, refl, sym, ap, _∙_}
 use mathlib.Core.List.{List, [], _∷_, _++_, append-assoc, append-nil}
 use native.Mathlib.Omega.{arith}
 use native.Mathlib.Nat.{zero-add, suc-add}
@@ -12,7 +12,7 @@ use Rattle.decimal.proofs.Theorems.{length-decimal}
 use Rattle.workload.specs.declared.Draw.{Draw}
 use Rattle.workload.specs.declared.Draw.the-variants.{Append, Advance, Truncate, Lookup, End}
 use Rattle.workload.specs.Generator.{drawn, stateAfter}
-use Rattle.workload.specs.Text.{numbersText, wordText, fieldsIn, drawLine, linesText, formatLine}
+use Rattle.workload.specs.Text.{numbersText, wordText, drawLine, linesText, formatLine}
 use Rattle.workload.proofs.GeneratorLaws.{InRange, draw-ranges}
 
 -- ---- in pieces

@@ -1,8 +1,8 @@
 -- What is handed to the writer, piece after piece, is the whole text of the rush.
 use Prim.Native.Nat.{ℕ, zero, suc, _+_, _-_, _≤_, _<_}
-use mathlib.Core.Path.{_≡_, refl, sym, ap, ap₂, _∙_}
+use mathlib.Core.Path.{_≡_, refl, sym, ap, ap₂, subst, _∙_}
 use mathlib.Core.Logic.{_⊎_, inl, inr}
-use mathlib.Core.List.{List, [], _∷_, _++_, append-assoc, append-nil}
+use mathlib.Core.List.{List, [], _∷_, _++_, append-nil}
 use native.Mathlib.Omega.{arith}
 use lib.ListN.{length, take, length-append}
 use lib.Seq.{length-take-le}
@@ -14,7 +14,7 @@ use Rattle.workload.specs.declared.Asked.{Asked}
 use Rattle.workload.specs.declared.Asked.the-variants.{Script, Refused}
 use Rattle.workload.specs.declared.Course.{Course}
 use Rattle.workload.specs.Generator.{stateAfter}
-use Rattle.workload.specs.Text.{linesText, scriptText, formatLine, Fills}
+use Rattle.workload.specs.Text.{linesText, scriptText, Fills}
 use Rattle.workload.specs.Asked.{askedOf, textOf, rushText, firstText, courseOf}
 use Rattle.workload.proofs.TextLaws.{pieces, format-text}
 use Rattle.workload.proofs.AskedLaws.{asked-long}
@@ -64,9 +64,12 @@ fill-moves out out′ x k r f room some = go (f .full)
 -- ---- the whole
 
 -- what is written first has 22 bytes at most
-pub course-room : (a : Asked) → courseOf a .to ≤ 22
+course-room : (a : Asked) → courseOf a .to ≤ 22
 course-room (Script seed count) = omega (arith, ap (λ (l : List ℕ). length (l ++ (10 ∷ []))) format-text)
 course-room (Refused why) = omega (arith, length-append (decimalOf (numberOf why)) (10 ∷ []), length-decimal (numberOf why))
+
+pub begun-room : (text : List ℕ) (r : Course) → r ≡ courseOf (askedOf text) → r .to ≤ 22
+begun-room text r e = subst (λ (x : Course). x .to ≤ 22) (sym e) (course-room (askedOf text))
 
 pub first-rest : (a : Asked) → firstText a ++ linesText (courseOf a .state) (courseOf a .left) ≡ textOf a
 unfolding scriptText linesText

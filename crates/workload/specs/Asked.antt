@@ -13,7 +13,7 @@ use Rattle.line.specs.Lines.{linesOf}
 use Rattle.workload.specs.declared.Asked.{Asked}
 use Rattle.workload.specs.declared.Asked.the-variants.{Script, Refused}
 use Rattle.workload.specs.declared.Course.{Course}
-use Rattle.workload.specs.Text.{formatLine, linesText, scriptText}
+use Rattle.workload.specs.Text.{formatLine, scriptText}
 
 -- "Turned away: 19 "seed", a seed of 0, tested after 15"
 unfoldable pub askedBy : ℕ → ℕ → Asked

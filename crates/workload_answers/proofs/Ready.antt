@@ -4,7 +4,7 @@ use mathlib.Core.Path.{_≡_, refl, sym, ap, ap₂, _∙_}
 use mathlib.Core.Logic.{_≢_}
 use mathlib.Core.Bool.{Bool, true, false, cond, not, _||_}
 use mathlib.Core.List.{List, [], _∷_}
-use mathlib.Core.Option.{Option, some}
+use mathlib.Core.Option.{some}
 use native.Mathlib.Omega.{arith}
 use lib.Dec.{eqb, leb}
 use lib.ListN.{length}
@@ -81,7 +81,7 @@ reply-number (found receipt examined) row = refl
 reply-number (ended receipt) row = refl
 
 module _ (T : List ℕ) (r : Ready T) (c : Call) (log : logOf c < 4) where
-  rest : List Fault
+  abbrev rest : List Fault
   rest = fault 3 (misplaced (rowIn (readTable T) (logOf c)) c) ∷ fault 4 (spent (rowIn (readTable T) (logOf c)) c) ∷ fault 5 (full (readTable T) c) ∷ fault 16 (promised (readTable T) c) ∷ []
 
   others : tableRefusal T c ≡ firstFault (fault 7 (wrongLength c) ∷ rest)
@@ -93,7 +93,7 @@ module _ (T : List ℕ) (r : Ready T) (c : Call) (log : logOf c < 4) where
   -- a number that none of the others has
   not-answered : (k : ℕ) → k ≢ 0 → unused k (fault 7 (wrongLength c) ∷ rest) ≡ true → answerNumber (callAnswer T c) ≢ k
   unfolding callAnswer
-  not-answered k z u e = go (tableStep T c .reply) refl (sym (reply-number (tableStep T c .reply) _) ∙ e)
+  not-answered k z u e = go (tableStep T c .reply) refl (sym (reply-number (tableStep T c .reply) (rowIn (readTable (tableStep T c .state)) (logOf c))) ∙ e)
     where
       go : (x : Reply) → tableStep T c .reply ≡ x → numbered x .number ≡ k → ⊥
       go (refused j) h q = never k (fault 7 (wrongLength c) ∷ rest) u (sym others ∙ refused-unchanged T c j h .1 ∙ ap some q)

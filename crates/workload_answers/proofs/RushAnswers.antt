@@ -1,5 +1,5 @@
 -- A rush is a script that the script program takes: its format is accepted, and no line is answered 1, 2, 8 or 15.
-use Prim.Native.Nat.{ℕ, zero, suc, _<_, _≤_, _^_}
+use Prim.Native.Nat.{ℕ, zero, suc, _<_, _^_}
 use mathlib.Core.Path.{_≡_, refl, sym, ap, ap₂, subst, _∙_}
 use mathlib.Core.List.{List, [], _∷_, map}
 use mathlib.Core.Option.{none}
@@ -22,7 +22,7 @@ use Rattle.line.specs.Command.{commandOf, reservesOf}
 use Rattle.line.specs.Lines.{linesOf}
 use Rattle.script.specs.declared.Answer.{Answer}
 use Rattle.script.specs.Answer.{answerNumber, callAnswer}
-use Rattle.script.specs.Script.{formatFault, commandAnswer, commandTable, tableAfter}
+use Rattle.script.specs.Script.{commandAnswer, commandTable, tableAfter}
 use Rattle.workload.specs.declared.Draw.{Draw}
 use Rattle.workload.specs.declared.Draw.the-variants.{Append, Advance, Truncate, Lookup, End}
 use Rattle.workload.specs.Generator.{drawn, drawsFrom}

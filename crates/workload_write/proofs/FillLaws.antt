@@ -1,5 +1,5 @@
 -- The loop that fills a buffer with lines.
-use Prim.Native.Nat.{ℕ, zero, suc, _+_, _-_, _≤_, _<_, _^_}
+use Prim.Native.Nat.{ℕ, _+_, _-_, _≤_, _<_, _^_}
 use mathlib.Core.Path.{_≡_, refl, sym, ap, ap₂, _∙_}
 use mathlib.Core.Logic.{_⊎_}
 use mathlib.Core.List.{List, [], _∷_, _++_}
@@ -7,7 +7,6 @@ use native.Mathlib.Omega.{arith}
 use lib.ListN.{length, length-append}
 use Rattle.octets.specs.Octets.{splice}
 use Rattle.octets.proofs.Parts.{splice-append, splice-nil}
-use Rattle.workload.specs.declared.Course.{Course}
 use Rattle.workload.specs.declared.Drawn.{Drawn}
 use Rattle.workload.specs.Generator.{drawn, stateAfter}
 use Rattle.workload.specs.Text.{drawLine, linesText, Fills}

@@ -1,19 +1,12 @@
 -- `rush::main` meets its contract.
-use Prim.Native.Nat.{ℕ, _≤_}
-use mathlib.Core.List.{List}
-use mathlib.Core.Path.{_≡_, sym, subst}
+use Prim.Native.Nat.{_≤_}
+use mathlib.Core.Path.{_≡_}
 use native.Mathlib.Omega.{arith}
 use lib.ListN.{length}
-use Rattle.workload.specs.declared.Course.{Course}
-use Rattle.workload.specs.Asked.{askedOf, courseOf}
-use Rattle.workload.proofs.WholeRush.{course-room}
+use Rattle.workload.proofs.WholeRush.{begun-room}
 use borrow.Author.Needs.{needs}
 use Rattle.rush.proofs.main.Statement.{statement}
 use Rattle.rush.proofs.main.Tie as tie
-
--- what is written first finds room
-begun : (text : List ℕ) (r : Course) → r ≡ courseOf (askedOf text) → r .to ≤ 22
-begun text r e = subst (λ (x : Course). x .to ≤ 22) (sym e) (course-room (askedOf text))
 
 slice-aggregate-read-full : tie.Need-slice-aggregate-read-full
 slice-aggregate-read-full c = search needs
@@ -43,7 +36,7 @@ send-requires : tie.Need-send-requires
 send-requires c κs =
     let b = c .before .before .begin in
     let e : length (b .last .1 .0) ≡ 65536 = omega (arith, b .kept .1 .0, c .before .before .before .before .before .large-buffer .ensures) in
-    let k : b .result .to ≤ 22 = begun _ (b .result) (b .ensures .0) in
+    let k : b .result .to ≤ 22 = begun-room _ (b .result) (b .ensures .0) in
     (omega arith, e)
 
 slice-aggregate-fail : tie.Need-slice-aggregate-fail

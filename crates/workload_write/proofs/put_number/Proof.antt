@@ -1,6 +1,5 @@
 -- `workload_write::put_number` meets its contract.
 use mathlib.Core.Path.{_∙_}
-use mathlib.Core.List.{_∷_}
 use native.Mathlib.Omega.{arith}
 use lib.ListN.{length-set}
 use Rattle.decimal.specs.Decimal.{decimalOf}

@@ -1,11 +1,11 @@
 -- `workload_write::put_numbers` meets its contract.
 use Prim.Native.Nat.{ℕ, _+_, _-_, _≤_}
 use mathlib.Core.Path.{_≡_, refl, sym, ap, ap₂, _∙_}
-use mathlib.Core.List.{List, [], _∷_, _++_}
+use mathlib.Core.List.{List, _∷_, _++_}
 use native.Mathlib.Omega.{arith}
 use lib.ListN.{length, take, getD, length-append}
 use Rattle.octets.specs.Octets.{splice}
-use Rattle.octets.proofs.Parts.{length-splice, splice-append, splice-nil}
+use Rattle.octets.proofs.Parts.{splice-append, splice-nil}
 use Rattle.decimal.specs.Decimal.{decimalOf}
 use Rattle.workload.specs.Text.{numbersText}
 use Rattle.workload_write.proofs.WriteLaws.{numbers-start, numbers-more, numbers-part}
