@@ -31,7 +31,19 @@ fn send(out: &mut [u8], first: Course) -> bool
     true
 }
 
+fn usage() {
+    io::write_all(
+        STDOUT_FILENO,
+        b"usage: rush <request >script\n\nReads one line from standard input:\n  SEED,COUNT    a seed from 1 on, and how many calls, 1 to 10000\nWrites a format and that many calls, drawn from the seed: a script for the keeper.\nWrites 15 where the input is no such line, 19 for a seed of 0.\n",
+    );
+}
+
+// It takes no argument.
 fn main() {
+    if 1 < os::arg_count() {
+        usage();
+        return;
+    }
     let mut input = [0u8; INPUT];
     let n = io::read_full(STDIN_FILENO, &mut input);
     let mut out = io::large_buffer();

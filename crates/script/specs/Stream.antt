@@ -53,11 +53,6 @@ abbrev pub lastTable : List ℕ → List ℕ → List ℕ
 lastTable table [] = table
 lastTable table (b ∷ l) = tableAfter table (b ∷ l)
 
--- the pieces of a script as one text
-unfoldable pub joined : List (List ℕ) → List ℕ
-joined [] = []
-joined (x ∷ xs) = x ++ joined xs
-
 -- what is answered to a script in pieces: to each piece, and at the end
 unfoldable pub inPieces : List ℕ → List ℕ → ℕ → List (List ℕ) → List ℕ
 inPieces table h n [] = lastAnswer table h n

@@ -1,5 +1,5 @@
 -- Laws of the draws.
-use Prim.Native.Nat.{ℕ, zero, suc, _*_, _/_, _%_, _^_, _<_, _≤_}
+use Prim.Native.Nat.{ℕ, zero, suc, _*_, _/_, _%_, _^_, _<_}
 use mathlib.Core.Path.{_≡_, refl, sym, ap, ap₂, _∙_}
 use mathlib.Core.Bool.{Bool, true, false, cond}
 use native.Mathlib.Omega.{arith}
@@ -7,10 +7,9 @@ use native.Mathlib.Nat.{div-le-self}
 use lib.Bits.{xor-lt}
 use lib.Dec.{eqb, ltb}
 use borrow.Author.Tests.{lt-ltb}
-use Rattle.workload.specs.declared.Draw.{Draw}
-use Rattle.workload.specs.declared.Draw.the-variants.{Append, Advance, Truncate, Lookup, End}
+use Rattle.workload.specs.declared.Draw.the-variants.{Append, Advance, Truncate, Lookup}
 use Rattle.workload.specs.declared.Drawn.{Drawn}
-use Rattle.workload.specs.Generator.{mixLeft, mixRight, next, positionOf, logOf, appended, advanced, truncated, lookedUp, ended, picked, drawn, stateAfter}
+use Rattle.workload.specs.Generator.{mixLeft, mixRight, next, positionOf, logOf, appended, advanced, truncated, lookedUp, ended, picked, drawn, stateAfter, InRange}
 
 -- "Seed 1 draws 1082269761, then 1152992998833853505: an append on log 1", of the value that it draws next
 pub seed-one : (next 1 ≡ 1082269761) × (next 1082269761 ≡ 1152992998833853505) × (drawn 1 .draw ≡ Append 1 11177516664432764457)
@@ -26,14 +25,6 @@ right-fits n x h = xor-lt 64 x (x / 2 ^ n) h (omega (arith, div-le-self x (2 ^ n
 pub next-fits : (x : ℕ) → x < 2 ^ 64 → next x < 2 ^ 64
 unfolding next
 next-fits x h = left-fits 17 (mixRight 7 (mixLeft 13 x)) (right-fits 7 (mixLeft 13 x) (left-fits 13 x h))
-
--- the fields are in range: a log below 4, a position from 1 to 64, numbers below 2^64
-abbrev pub InRange : Draw → Type 0
-InRange (Append log value) = (log < 4) × (value < 2 ^ 64)
-InRange (Advance log position digest value) = (log < 4) × (1 ≤ position) × (position ≤ 64) × (digest < 2 ^ 64) × (value < 2 ^ 64)
-InRange (Truncate log position) = (log < 4) × (1 ≤ position) × (position ≤ 64)
-InRange (Lookup log position) = (log < 4) × (1 ≤ position) × (position ≤ 64)
-InRange (End log) = log < 4
 
 abbrev Ranged : Drawn → Type 0
 Ranged d = InRange (d .draw) × (d .state < 2 ^ 64)

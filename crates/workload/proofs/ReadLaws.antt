@@ -14,10 +14,10 @@ use Rattle.line.specs.Lines.{linesOf}
 use Rattle.line.specs.Command.{wordOf, made, ofNumbers, ofFields, commandOf, reservesIn, numbersIn, reservesOf}
 use Rattle.workload.specs.declared.Draw.{Draw}
 use Rattle.workload.specs.declared.Draw.the-variants.{Append, Advance, Truncate, Lookup, End}
-use Rattle.workload.specs.Generator.{drawn, drawsFrom}
+use Rattle.workload.specs.Generator.{drawn, drawsFrom, InRange}
 use Rattle.workload.specs.Text.{numbersText, wordText, fieldsIn, drawLine, linesText, formatLine, scriptText}
 use Rattle.workload.specs.Commands.{commandFor, Said, saidBy, formatSaid, drawSaid}
-use Rattle.workload.proofs.GeneratorLaws.{InRange, draw-ranges, state-fits}
+use Rattle.workload.proofs.GeneratorLaws.{draw-ranges, state-fits}
 use Rattle.workload.proofs.TextLaws.{line-size, format-text}
 use Rattle.workload.proofs.PartLaws.{lacks, lacks-append, Below, numbers-lack, fields-text, numbers-back, lines-after}
 

@@ -11,9 +11,9 @@ use Rattle.decimal.proofs.Laws.{of-width, length-digitsOf}
 use Rattle.decimal.proofs.Theorems.{length-decimal}
 use Rattle.workload.specs.declared.Draw.{Draw}
 use Rattle.workload.specs.declared.Draw.the-variants.{Append, Advance, Truncate, Lookup, End}
-use Rattle.workload.specs.Generator.{drawn, stateAfter}
+use Rattle.workload.specs.Generator.{drawn, stateAfter, InRange}
 use Rattle.workload.specs.Text.{numbersText, wordText, drawLine, linesText, formatLine}
-use Rattle.workload.proofs.GeneratorLaws.{InRange, draw-ranges}
+use Rattle.workload.proofs.GeneratorLaws.{draw-ranges}
 
 -- ---- in pieces
 

@@ -10,26 +10,17 @@ use Rattle.octets.proofs.Parts.{part-splice-same}
 use Rattle.refusal.specs.Number.{numberOf}
 use Rattle.decimal.specs.Decimal.{decimalOf}
 use Rattle.decimal.proofs.Theorems.{length-decimal}
+use Rattle.line.specs.Lines.{joined}
 use Rattle.workload.specs.declared.Asked.{Asked}
 use Rattle.workload.specs.declared.Asked.the-variants.{Script, Refused}
 use Rattle.workload.specs.declared.Course.{Course}
 use Rattle.workload.specs.Generator.{stateAfter}
-use Rattle.workload.specs.Text.{linesText, scriptText, Fills}
+use Rattle.workload.specs.Text.{linesText, scriptText, Fills, Follow}
 use Rattle.workload.specs.Asked.{askedOf, textOf, rushText, firstText, courseOf}
 use Rattle.workload.proofs.TextLaws.{pieces, format-text}
 use Rattle.workload.proofs.AskedLaws.{asked-long}
 
 -- ---- pieces
-
--- the pieces as one text
-unfoldable pub joined : List (List ℕ) → List ℕ
-joined [] = []
-joined (p ∷ ps) = p ++ joined ps
-
--- pieces that follow each other from a state on, to the last of so many lines
-unfoldable pub Follow : ℕ → ℕ → List (List ℕ) → Type 0
-Follow x k [] = k ≡ 0
-Follow x k (p ∷ ps) = (j : ℕ) × (j ≤ k) × (p ≡ linesText x j) × Follow (stateAfter x j) (k - j) ps
 
 pub whole-course : (x k : ℕ) (ps : List (List ℕ)) → Follow x k ps → joined ps ≡ linesText x k
 unfolding Follow joined linesText

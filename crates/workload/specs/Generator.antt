@@ -1,5 +1,5 @@
 -- Document 02, [11]: the draws.
-use Prim.Native.Nat.{ℕ, zero, suc, _+_, _*_, _/_, _%_, _^_}
+use Prim.Native.Nat.{ℕ, zero, suc, _+_, _*_, _/_, _%_, _^_, _≤_, _<_}
 use mathlib.Core.Bool.{cond}
 use mathlib.Core.List.{List, [], _∷_}
 use lib.Bits.{bitXor}
@@ -60,3 +60,11 @@ drawsFrom x (suc k) = drawn x .draw ∷ drawsFrom (drawn x .state) k
 unfoldable pub stateAfter : ℕ → ℕ → ℕ
 stateAfter x zero = x
 stateAfter x (suc k) = stateAfter (drawn x .state) k
+
+-- the fields are in range: a log below 4, a position from 1 to 64, numbers below 2^64
+abbrev pub InRange : Draw → Type 0
+InRange (Append log value) = (log < 4) × (value < 2 ^ 64)
+InRange (Advance log position digest value) = (log < 4) × (1 ≤ position) × (position ≤ 64) × (digest < 2 ^ 64) × (value < 2 ^ 64)
+InRange (Truncate log position) = (log < 4) × (1 ≤ position) × (position ≤ 64)
+InRange (Lookup log position) = (log < 4) × (1 ≤ position) × (position ≤ 64)
+InRange (End log) = log < 4

@@ -57,3 +57,8 @@ pub record Fills (out : List ℕ) (x k : ℕ) (out′ : List ℕ) (r : Course) :
   pub room : r .to ≤ length out
   pub text : out′ ≡ splice out 0 (linesText x (k - r .left))
   pub full : (r .left ≡ 0) ⊎ (length out < r .to + 55)
+
+-- pieces that follow each other from a state on, to the last of so many lines
+unfoldable pub Follow : ℕ → ℕ → List (List ℕ) → Type 0
+Follow x k [] = k ≡ 0
+Follow x k (p ∷ ps) = (j : ℕ) × (j ≤ k) × (p ≡ linesText x j) × Follow (stateAfter x j) (k - j) ps

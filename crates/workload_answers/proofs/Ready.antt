@@ -2,11 +2,11 @@
 use Prim.Native.Nat.{ℕ, _<_}
 use mathlib.Core.Path.{_≡_, refl, sym, ap, ap₂, _∙_}
 use mathlib.Core.Logic.{_≢_}
-use mathlib.Core.Bool.{Bool, true, false, cond, not, _||_}
+use mathlib.Core.Bool.{Bool, true, false, not}
 use mathlib.Core.List.{List, [], _∷_}
 use mathlib.Core.Option.{some}
 use native.Mathlib.Omega.{arith}
-use lib.Dec.{eqb, leb}
+use lib.Dec.{leb}
 use lib.ListN.{length}
 use borrow.Author.Tests.{lt-leb}
 use Rattle.refusal.specs.Order.{Fault, fault, firstFault}
@@ -25,8 +25,8 @@ use Rattle.a2m.proofs.Written.{step-written}
 use Rattle.model.specs.Model.{rules, Model, modelStep}
 use Rattle.model.proofs.Along.{step-fixed}
 use Rattle.model.proofs.TableClaim.{Stands, in-range, step-stands, table-whole}
-use Rattle.script.specs.declared.Answer.the-variants.{Plain, Bounded}
 use Rattle.script.specs.Answer.{replyAnswer, answerNumber, callAnswer}
+use Rattle.script.proofs.NeverSix.{bounded-number}
 use Rattle.workload_answers.specs.Numbers.{Clear}
 
 -- the bytes of an image that stands, of four logs
@@ -70,13 +70,9 @@ passed-over true rest = refl
 passed-over false rest = refl
 
 -- the number in a reply's answer
-bounded-number : (t : Bool) (k low high : ℕ) → answerNumber (cond t (Plain k) (Bounded k low high)) ≡ k
-bounded-number true k low high = refl
-bounded-number false k low high = refl
-
 reply-number : (x : Reply) (row : Row) → answerNumber (replyAnswer x row) ≡ numbered x .number
-reply-number (refused k) row = bounded-number (eqb k 1 || eqb k 2) k (row .low) (row .high)
-reply-number (done low high) row = bounded-number (eqb 0 1 || eqb 0 2) 0 (row .low) (row .high)
+reply-number (refused k) row = bounded-number k row
+reply-number (done low high) row = bounded-number 0 row
 reply-number (found receipt examined) row = refl
 reply-number (ended receipt) row = refl
 

@@ -25,10 +25,10 @@ use Rattle.script.specs.Answer.{answerNumber, callAnswer}
 use Rattle.script.specs.Script.{commandAnswer, commandTable, tableAfter}
 use Rattle.workload.specs.declared.Draw.{Draw}
 use Rattle.workload.specs.declared.Draw.the-variants.{Append, Advance, Truncate, Lookup, End}
-use Rattle.workload.specs.Generator.{drawn, drawsFrom}
+use Rattle.workload.specs.Generator.{drawn, drawsFrom, InRange}
 use Rattle.workload.specs.Text.{drawLine, formatLine, scriptText}
 use Rattle.workload.specs.Commands.{commandFor, Said, formatSaid}
-use Rattle.workload.proofs.GeneratorLaws.{InRange, draw-ranges, state-fits}
+use Rattle.workload.proofs.GeneratorLaws.{draw-ranges, state-fits}
 use Rattle.workload.proofs.ReadLaws.{line-parses, format-parses, script-lines}
 use Rattle.workload_answers.specs.Numbers.{answerNumbers, Clear, AllClear}
 use Rattle.workload_answers.proofs.Ready.{Ready, call-ready, call-clear}
