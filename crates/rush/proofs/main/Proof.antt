@@ -8,6 +8,15 @@ use borrow.Author.Needs.{needs}
 use Rattle.rush.proofs.main.Statement.{statement}
 use Rattle.rush.proofs.main.Tie as tie
 
+arg-count-requires : tie.Need-arg-count-requires
+arg-count-requires c κs = search needs
+
+usage-requires : tie.Need-usage-requires
+usage-requires c κs = search needs
+
+returns : tie.Need-returns
+returns c = search needs
+
 slice-aggregate-read-full : tie.Need-slice-aggregate-read-full
 slice-aggregate-read-full c = search needs
 
@@ -45,16 +54,19 @@ slice-aggregate-fail c = search needs
 fail-requires : tie.Need-fail-requires
 fail-requires c κs = search needs
 
-returns : tie.Need-returns
-returns c = search needs
-
 returns-2 : tie.Need-returns-2
 returns-2 c = search needs
+
+returns-3 : tie.Need-returns-3
+returns-3 c = search needs
 
 pub main-spec : {M : Type 1} → statement M
 main-spec =
     tie.close
     (tie.spec
+    arg-count-requires
+    usage-requires
+    returns
     slice-aggregate-read-full
     read-full-requires
     large-buffer-requires
@@ -66,5 +78,5 @@ main-spec =
     send-requires
     slice-aggregate-fail
     fail-requires
-    returns
-    returns-2)
+    returns-2
+    returns-3)
