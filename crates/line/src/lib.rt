@@ -6,6 +6,7 @@ mod fields;
 pub use answer::render;
 pub use commands::parse;
 pub use fields::find;
+pub use fields::numbers;
 
 // What a script line says. A format's reserves stand beside it, in `Line`: an enum that holds an array is not covered.
 pub enum Command {

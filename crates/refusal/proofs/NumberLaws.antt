@@ -7,7 +7,7 @@ use mathlib.Core.List.{List, [], _∷_}
 use lib.ListN.{getD}
 use Rattle.refusal.specs.Number.{numberOf, outcomeNumber}
 use Rattle.refusal.specs.declared.Refusal.{Refusal}
-use Rattle.refusal.specs.declared.Refusal.the-variants.{Torn, NoLog, Position, Spent, Full, Length, Counts, NoReceipt, Tag, OtherQuestion, Roster, TooFew, NoRun, Line, Promised, Profile, Survey}
+use Rattle.refusal.specs.declared.Refusal.the-variants.{Torn, NoLog, Position, Spent, Full, Length, Counts, NoReceipt, Tag, OtherQuestion, Roster, TooFew, NoRun, Line, Promised, Profile, Survey, Seed}
 use Rattle.refusal.specs.declared.Outcome.{Outcome}
 use Rattle.refusal.specs.declared.Outcome.the-variants.{Done, Refused}
 
@@ -15,7 +15,7 @@ use Rattle.refusal.specs.declared.Outcome.the-variants.{Done, Refused}
 abbrev words : List Refusal
 words =
     Torn ∷ NoLog ∷ Position ∷ Spent ∷ Full ∷ Torn ∷ Length ∷ Counts ∷ NoReceipt ∷ Tag ∷
-    OtherQuestion ∷ Roster ∷ TooFew ∷ NoRun ∷ Line ∷ Promised ∷ Profile ∷ Survey ∷ []
+    OtherQuestion ∷ Roster ∷ TooFew ∷ NoRun ∷ Line ∷ Promised ∷ Profile ∷ Survey ∷ Seed ∷ []
 
 -- the outcome of a number
 abbrev outcomeOf : ℕ → Outcome
@@ -40,6 +40,7 @@ refused-back Line = refl
 refused-back Promised = refl
 refused-back Profile = refl
 refused-back Survey = refl
+refused-back Seed = refl
 
 outcome-back : (o : Outcome) → outcomeOf (outcomeNumber o) ≡ o
 outcome-back Done = refl

@@ -2,7 +2,7 @@
 -- held": "its number is not used again".
 use Prim.Native.Nat.{ℕ}
 use Rattle.refusal.specs.declared.Refusal.{Refusal}
-use Rattle.refusal.specs.declared.Refusal.the-variants.{Torn, NoLog, Position, Spent, Full, Length, Counts, NoReceipt, Tag, OtherQuestion, Roster, TooFew, NoRun, Line, Promised, Profile, Survey}
+use Rattle.refusal.specs.declared.Refusal.the-variants.{Torn, NoLog, Position, Spent, Full, Length, Counts, NoReceipt, Tag, OtherQuestion, Roster, TooFew, NoRun, Line, Promised, Profile, Survey, Seed}
 use Rattle.refusal.specs.declared.Outcome.{Outcome}
 use Rattle.refusal.specs.declared.Outcome.the-variants.{Done, Refused}
 
@@ -27,6 +27,8 @@ numberOf Promised = 16
 numberOf Profile = 17
 -- document 02, [10]: "Turned away: 18 "survey""
 numberOf Survey = 18
+-- document 02, [11]: "Turned away: 19 "seed""
+numberOf Seed = 19
 
 -- 0 "done", or the refusal's number
 abbrev pub outcomeNumber : Outcome → ℕ

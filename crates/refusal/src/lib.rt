@@ -22,6 +22,7 @@ pub enum Refusal {
     Promised,
     Profile,
     Survey,
+    Seed,
 }
 
 // The answer of a call that returns nothing but its number.
@@ -60,6 +61,7 @@ impl Refusal {
             Refusal::Promised => 16,
             Refusal::Profile => 17,
             Refusal::Survey => 18,
+            Refusal::Seed => 19,
         }
     }
 }

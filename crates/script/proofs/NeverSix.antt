@@ -24,7 +24,7 @@ use Rattle.script.specs.Answer.{replyAnswer, boundedAnswer, answerNumber
 use Rattle.script.specs.Script.{formatFault, commandAnswer}
 
 -- a reply's number is the answer's
-bounded-number : (k : ℕ) (r : Row) → answerNumber (boundedAnswer k r) ≡ k
+pub bounded-number : (k : ℕ) (r : Row) → answerNumber (boundedAnswer k r) ≡ k
 bounded-number k r = go (eqb k 1 || eqb k 2)
   where
     go : (t : Bool) → answerNumber (cond t (Plain k) (Bounded k (r .low) (r .high))) ≡ k

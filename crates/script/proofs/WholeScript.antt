@@ -7,9 +7,10 @@ use native.Mathlib.Omega.{arith}
 use native.Mathlib.Nat.{add-zero}
 use lib.Dec.{eqb}
 use Rattle.line.specs.Fields.{onFirst, partsOf, upTo}
+use Rattle.line.specs.Lines.{lastLine, endedLines, linesOf, joined}
 use Rattle.line.proofs.FieldLaws.{parts-cons}
 use Rattle.script.specs.Script.{answerText, tableAfter}
-use Rattle.script.specs.Stream.{lastLine, endedLines, linesOf, answersOf, cut, heldAfter, newlines, answered, tableRead, lastAnswer, joined, inPieces}
+use Rattle.script.specs.Stream.{answersOf, cut, heldAfter, newlines, answered, tableRead, lastAnswer, inPieces}
 use Rattle.script.proofs.StreamLaws.{cut-cut, answer-cut, table-cut, held-append, newlines-append, answered-append, table-append}
 
 -- the parts, with bytes before the first

@@ -7,26 +7,10 @@ use lib.Dec.{eqb}
 use lib.ListN.{length, take}
 use Rattle.layout.specs.Layout.{largest}
 use Rattle.octets.specs.Octets.{splice}
-use Rattle.line.specs.Fields.{partsOf}
 use Rattle.script.specs.Script.{answerText, tableAfter}
 use Rattle.script.specs.declared.Progress.{Progress}
 
 -- ---- a whole script
-
--- a part after the last newline is a line unless it is empty
-abbrev pub lastLine : List ℕ → List (List ℕ)
-lastLine [] = []
-lastLine (b ∷ l) = (b ∷ l) ∷ []
-
--- the parts that newlines end, and the last line
-abbrev pub endedLines : List (List ℕ) → List (List ℕ)
-endedLines [] = []
-endedLines (p ∷ []) = lastLine p
-endedLines (p ∷ q ∷ ps) = p ∷ endedLines (q ∷ ps)
-
--- "the last may lack its newline"
-abbrev pub linesOf : List ℕ → List (List ℕ)
-linesOf text = endedLines (partsOf 10 text)
 
 -- the answers to lines that are numbered from n on
 unfoldable pub answersOf : List ℕ → ℕ → List (List ℕ) → List ℕ
@@ -68,11 +52,6 @@ lastAnswer table (b ∷ l) n = answerText table n (b ∷ l)
 abbrev pub lastTable : List ℕ → List ℕ → List ℕ
 lastTable table [] = table
 lastTable table (b ∷ l) = tableAfter table (b ∷ l)
-
--- the pieces of a script as one text
-unfoldable pub joined : List (List ℕ) → List ℕ
-joined [] = []
-joined (x ∷ xs) = x ++ joined xs
 
 -- what is answered to a script in pieces: to each piece, and at the end
 unfoldable pub inPieces : List ℕ → List ℕ → ℕ → List (List ℕ) → List ℕ

@@ -1,0 +1,68 @@
+-- `rush_cases::answer` meets its contract.
+use Prim.Native.Nat.{_≤_}
+use mathlib.Core.Path.{sym}
+use native.Mathlib.Omega.{arith}
+use lib.Seq.{length-take-le}
+use Rattle.workload.proofs.WholeRush.{begun-room}
+use borrow.Author.Needs.{needs}
+use Rattle.rush_cases.proofs.answer.Statement.{statement}
+use Rattle.rush_cases.proofs.answer.Tie as tie
+
+buffer-requires : tie.Need-buffer-requires
+buffer-requires c κs = search needs
+
+slice-aggregate-begin : tie.Need-slice-aggregate-begin
+slice-aggregate-begin c = search needs
+
+begin-requires : tie.Need-begin-requires
+begin-requires c κs = search needs
+
+array-share-prefix-out : tie.Need-array-share-prefix-out
+array-share-prefix-out c =
+    let b = c .before .begin in
+    let k : b .result .to ≤ 22 = begun-room _ (b .result) (b .ensures .0) in
+    omega (arith, b .kept .1 .0, c .before .before .before .buffer .ensures)
+
+slice-aggregate-write-all : tie.Need-slice-aggregate-write-all
+slice-aggregate-write-all c =
+    let b = c .before .before .begin in
+    let k : b .result .to ≤ 22 = begun-room _ (b .result) (b .ensures .0) in
+    sym (length-take-le (b .result .to) (b .last .1 .0) (omega (arith, b .kept .1 .0, c .before .before .before .before .buffer .ensures)))
+
+write-all-requires : tie.Need-write-all-requires
+write-all-requires c κs = search needs
+
+slice-aggregate-fill : tie.Need-slice-aggregate-fill
+slice-aggregate-fill c = search needs
+
+fill-requires : tie.Need-fill-requires
+fill-requires c κs = search needs
+
+array-share-prefix-out-2 : tie.Need-array-share-prefix-out-2
+array-share-prefix-out-2 c = search needs
+
+slice-aggregate-write-all-2 : tie.Need-slice-aggregate-write-all-2
+slice-aggregate-write-all-2 c = let f = c .before .before .fill in sym (length-take-le (f .result .to) (f .last .0) (omega (arith, f .ensures .room, f .kept .0)))
+
+write-all-requires-2 : tie.Need-write-all-requires-2
+write-all-requires-2 c κs = search needs
+
+returns : tie.Need-returns
+returns c = search needs
+
+pub answer-spec : {M : Type 1} → statement M
+answer-spec =
+    tie.close
+    (tie.spec
+    buffer-requires
+    slice-aggregate-begin
+    begin-requires
+    array-share-prefix-out
+    slice-aggregate-write-all
+    write-all-requires
+    slice-aggregate-fill
+    fill-requires
+    array-share-prefix-out-2
+    slice-aggregate-write-all-2
+    write-all-requires-2
+    returns)

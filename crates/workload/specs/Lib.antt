@@ -1,0 +1,4 @@
+pub mod Generator
+pub mod Text
+pub mod Commands
+pub mod Asked

@@ -1,0 +1,1 @@
+// What the script program answers to a rush of calls: specs/ and proofs/ alone.

@@ -1,0 +1,52 @@
+-- `workload_write::fields_of` meets its contract.
+use mathlib.Core.Path.{ap, sym}
+use native.Mathlib.Omega.{arith}
+use Rattle.workload.specs.Text.{fieldsIn}
+use borrow.Author.Needs.{needs}
+use Rattle.workload_write.proofs.fields_of.Statement.{statement}
+use Rattle.workload_write.proofs.fields_of.Tie as tie
+
+enum-known-draw : tie.Need-enum-known-draw
+enum-known-draw c = search needs
+
+enum-known-draw-2 : tie.Need-enum-known-draw-2
+enum-known-draw-2 c = search needs
+
+enum-known-draw-3 : tie.Need-enum-known-draw-3
+enum-known-draw-3 c = search needs
+
+enum-known-draw-4 : tie.Need-enum-known-draw-4
+enum-known-draw-4 c = search needs
+
+enum-known-draw-5 : tie.Need-enum-known-draw-5
+enum-known-draw-5 c = search needs
+
+returns : tie.Need-returns
+returns c = (sym (ap fieldsIn (c .before .draw .given .1)), omega arith)
+
+returns-2 : tie.Need-returns-2
+returns-2 c = (sym (ap fieldsIn (c .before .draw2 .given .1)), omega arith)
+
+returns-3 : tie.Need-returns-3
+returns-3 c = (sym (ap fieldsIn (c .before .draw3 .given .1)), omega arith)
+
+returns-4 : tie.Need-returns-4
+returns-4 c = (sym (ap fieldsIn (c .before .draw4 .given .1)), omega arith)
+
+returns-5 : tie.Need-returns-5
+returns-5 c = (sym (ap fieldsIn (c .before .draw5 .given .1)), omega arith)
+
+pub fields-of-spec : {M : Type 1} → statement M
+fields-of-spec =
+    tie.close
+    (tie.spec
+    enum-known-draw
+    enum-known-draw-2
+    enum-known-draw-3
+    enum-known-draw-4
+    enum-known-draw-5
+    returns
+    returns-2
+    returns-3
+    returns-4
+    returns-5)
