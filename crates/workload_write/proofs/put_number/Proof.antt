@@ -3,7 +3,7 @@ use mathlib.Core.Path.{_∙_}
 use native.Mathlib.Omega.{arith}
 use lib.ListN.{length-set}
 use Rattle.decimal.specs.Decimal.{decimalOf}
-use Rattle.workload_write.proofs.WriteLaws.{byte-before}
+use Rattle.octets.proofs.Parts.{byte-before}
 use borrow.Author.Needs.{needs}
 use Rattle.workload_write.proofs.put_number.Statement.{statement}
 use Rattle.workload_write.proofs.put_number.Tie as tie

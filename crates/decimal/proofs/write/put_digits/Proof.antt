@@ -3,7 +3,7 @@ use mathlib.Core.Path.{ap₂, _≡_, refl, sym, ap, _∙_, subst}
 use lib.ListN.{set, length, drop, length-set}
 use Prim.Native.Nat.{_%_, _/_, ℕ, suc, _≤_, _<_, _-_, _+_, _^_}
 use mathlib.Core.List.{List}
-use Rattle.decimal.proofs.Laws.{times-ten, rest-lt, digits-left, put-next, pasted, length-digitsOf}
+use Rattle.decimal.proofs.Laws.{times-ten, small-power, rest-lt, digits-left, put-next, pasted, length-digitsOf}
 use native.Mathlib.Omega.{arith}
 use Rattle.decimal.specs.Decimal.{digitsOf}
 use lib.Seq.{paste, paste-zero}
@@ -31,7 +31,7 @@ power-requires : tie.Need-power-requires Inv-loop μ-loop
 power-requires c κs = search needs
 
 divided-requires : tie.Need-divided-requires Inv-loop μ-loop
-divided-requires c κs = times-ten (c .before .before .loop .rest) (c .before .before .loop .left) (c .power .result) (omega arith) (c .before .before .loop .inv .2) (c .power .ensures)
+divided-requires c κs = let l = c .before .before .loop in (times-ten (l .rest) (l .left) (c .power .result) (omega arith) (l .inv .2) (c .power .ensures), small-power (l .left) (c .power .result) (omega arith) (omega arith) (c .power .ensures))
 
 add-out : tie.Need-add-out Inv-loop μ-loop
 add-out c = search needs
