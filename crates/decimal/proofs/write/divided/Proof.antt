@@ -1,4 +1,6 @@
 -- `decimal::write::divided` meets its contract.
+use mathlib.Core.List.{[], _∷_}
+use mathlib.Core.Path.{refl}
 use Rattle.decimal.proofs.Laws.{parted}
 use borrow.Author.Needs.{needs}
 use Rattle.decimal.proofs.write.divided.Statement.{statement}
@@ -6,6 +8,8 @@ use Rattle.decimal.proofs.write.divided.Tie as tie
 use Rattle.decimal.proofs.write.divided.Reads as reads
 use Rattle.decimal.proofs.write.divided.Lts as lts
 use Rattle.decimal.proofs.write.often.Reads as often-reads
+use Rattle.octets.specs.Undivided.{Undivided}
+use Rattle.decimal.proofs.write.divided.Code.Mir.{function}
 
 -- src/write.rt:64:16
 mul-four : tie.Need-mul-four
@@ -67,3 +71,6 @@ divided-spec =
     mul-t10
     sub-t11
     returns)
+
+pub undivided : Undivided ("decimal::write::often" ∷ []) function
+undivided = refl

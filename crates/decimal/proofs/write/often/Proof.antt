@@ -1,4 +1,6 @@
 -- `decimal::write::often` meets its contract.
+use mathlib.Core.List.{[], _∷_}
+use mathlib.Core.Path.{refl}
 use Rattle.decimal.proofs.Laws.{counted}
 use borrow.Author.Needs.{needs}
 use Rattle.decimal.proofs.write.often.Statement.{statement}
@@ -6,6 +8,8 @@ use Rattle.decimal.proofs.write.often.Tie as tie
 use Rattle.decimal.proofs.write.often.Reads as reads
 use Rattle.decimal.proofs.write.often.Lts as lts
 use Rattle.decimal.proofs.write.fits.Reads as fits-reads
+use Rattle.octets.specs.Undivided.{Undivided}
+use Rattle.decimal.proofs.write.often.Code.Mir.{function}
 
 -- src/write.rt:49:17
 add-twice : tie.Need-add-twice
@@ -52,3 +56,6 @@ often-spec =
     fits-requires-3
     add-result-2
     returns)
+
+pub undivided : Undivided ("decimal::write::fits" ∷ []) function
+undivided = refl

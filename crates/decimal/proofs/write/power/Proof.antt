@@ -1,10 +1,13 @@
 -- `decimal::write::power` meets its contract: at each k the literal is that power.
-use mathlib.Core.Path.{_≡_, ap, sym}
+use mathlib.Core.List.{[]}
+use mathlib.Core.Path.{_≡_, ap, sym, refl}
 use mathlib.Core.Logic.{_≢_}
 use Prim.Native.Nat.{ℕ, zero, suc, _≤_, _^_}
 use native.Mathlib.Omega.{arith}
 use Rattle.decimal.proofs.write.power.Statement.{statement}
 use Rattle.decimal.proofs.write.power.Tie as tie
+use Rattle.octets.specs.Undivided.{Undivided}
+use Rattle.decimal.proofs.write.power.Code.Mir.{function}
 
 abbrev ten : ℕ → ℕ
 ten j = 10 ^ j
@@ -107,3 +110,6 @@ power-spec =
     returns-18
     returns-19
     returns-20)
+
+pub undivided : Undivided [] function
+undivided = refl

@@ -1,6 +1,6 @@
 -- `decimal::write::put` meets its contract.
-use mathlib.Core.Path.{_≡_, sym, ap, subst, _∙_}
-use mathlib.Core.List.{_∷_}
+use mathlib.Core.Path.{_≡_, sym, ap, subst, _∙_, refl}
+use mathlib.Core.List.{_∷_, []}
 use native.Mathlib.Omega.{arith}
 use Prim.Native.Nat.{ℕ, _+_, _-_, _^_, _≤_}
 use lib.ListN.{length, set, length-set}
@@ -16,6 +16,8 @@ use Rattle.decimal.proofs.write.put.Lts as lts
 use Rattle.decimal.proofs.write.power.Reads as power-reads
 use Rattle.decimal.proofs.write.put_digits.Reads as put-digits-reads
 use Rattle.decimal.proofs.write.width.Reads as width-reads
+use Rattle.octets.specs.Undivided.{Undivided}
+use Rattle.decimal.proofs.write.put.Code.Mir.{function}
 
 -- src/write.rt:124:9
 width-requires : tie.Need-width-requires
@@ -107,3 +109,6 @@ put-spec =
     add-result-2
     same-length-2
     returns-2)
+
+pub undivided : Undivided ("decimal::write::power" ∷ "decimal::write::put_digits" ∷ "decimal::write::width" ∷ []) function
+undivided = refl

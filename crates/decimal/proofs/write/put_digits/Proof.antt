@@ -2,7 +2,7 @@
 use mathlib.Core.Path.{ap₂, _≡_, refl, sym, ap, _∙_, subst}
 use lib.ListN.{set, length, drop, length-set}
 use Prim.Native.Nat.{_%_, _/_, ℕ, suc, _≤_, _<_, _-_, _+_, _^_}
-use mathlib.Core.List.{List}
+use mathlib.Core.List.{List, [], _∷_}
 use Rattle.decimal.proofs.Laws.{times-ten, small-power, rest-lt, digits-left, put-next, pasted, length-digitsOf}
 use native.Mathlib.Omega.{arith}
 use Rattle.decimal.specs.Decimal.{digitsOf}
@@ -10,6 +10,8 @@ use lib.Seq.{paste, paste-zero}
 use borrow.Author.Needs.{needs}
 use Rattle.decimal.proofs.write.put_digits.Statement.{statement}
 use Rattle.decimal.proofs.write.put_digits.Tie as tie
+use Rattle.octets.specs.Undivided.{Undivided}
+use Rattle.decimal.proofs.write.put_digits.Code.Mir.{function}
 
 abbrev Inv-loop : tie.InvT-loop
 Inv-loop out₀ at n k rest₀ i₀ left₀ out rest i left = (left ≤ k) × (i + left ≡ at + k) × (rest < 10 ^ left) × (drop (k - left) (digitsOf k n) ≡ digitsOf left rest) × (out ≡ paste out₀ at (digitsOf k n) (k - left)) × (length out ≡ length out₀)
@@ -97,3 +99,6 @@ put-digits-spec =
     loop-again
     same-length
     returns)
+
+pub undivided : Undivided ("decimal::write::divided" ∷ "decimal::write::power" ∷ []) function
+undivided = refl

@@ -1,11 +1,14 @@
 -- `decimal::write::width` meets its contract.
+use mathlib.Core.List.{[], _∷_}
 use Prim.Native.Nat.{ℕ, _≤_, _<_, _-_, _+_, _^_}
 use Rattle.decimal.proofs.Laws.{of-width, below}
-use mathlib.Core.Path.{_≡_, subst}
+use mathlib.Core.Path.{_≡_, subst, refl}
 use native.Mathlib.Omega.{arith}
 use borrow.Author.Needs.{needs}
 use Rattle.decimal.proofs.write.width.Statement.{statement}
 use Rattle.decimal.proofs.write.width.Tie as tie
+use Rattle.octets.specs.Undivided.{Undivided}
+use Rattle.decimal.proofs.write.width.Code.Mir.{function}
 
 abbrev Inv-loop : tie.InvT-loop
 Inv-loop n k₀ k = (0 < k) × (k ≤ 20) × (1 < k → 10 ^ (k - 1) ≤ n)
@@ -51,3 +54,6 @@ width-spec =
     loop-less
     loop-again
     returns-2)
+
+pub undivided : Undivided ("decimal::write::least_width" ∷ "decimal::write::power" ∷ []) function
+undivided = refl
