@@ -1,4 +1,7 @@
--- `script_run::gap` meets its contract.
+-- `script_run::gap` is safe: a decimal has at most 20 digits.
+use native.Mathlib.Omega.{arith}
+use lib.ListN.{length-take}
+use Rattle.decimal.proofs.Theorems.{length-decimal, put-within}
 use mathlib.Core.List.{[], _∷_}
 use mathlib.Core.Path.{refl}
 use borrow.Author.Needs.{needs}
@@ -17,13 +20,18 @@ slice-aggregate-put : tie.Need-slice-aggregate-put
 slice-aggregate-put c = search needs
 
 put-requires : tie.Need-put-requires
-put-requires c κs = search needs
+put-requires c κs = omega (arith, length-decimal (c .before .before .before .args .number))
 
 array-share-prefix-digits : tie.Need-array-share-prefix-digits
-array-share-prefix-digits c = search needs
+array-share-prefix-digits c =
+    let p = c .before .put in
+    put-within _ (p .last .0) (p .result) (c .before .before .before .before .before .args .number) refl (p .ensures .0) (p .ensures .1)
 
 slice-aggregate-write-all-2 : tie.Need-slice-aggregate-write-all-2
-slice-aggregate-write-all-2 c = search needs
+slice-aggregate-write-all-2 c =
+    let p = c .before .before .put in
+    let q = put-within _ (p .last .0) (p .result) (c .before .before .before .before .before .before .args .number) refl (p .ensures .0) (p .ensures .1) in
+    simp length-take (omega arith)
 
 write-all-requires-2 : tie.Need-write-all-requires-2
 write-all-requires-2 c κs = search needs
