@@ -1,18 +1,29 @@
 // What is printed of an answer.
 use bigendian::get_u64;
-use libc::STDOUT_FILENO;
+use bigendian::put_u64;
 use line::find;
 use octets::wide;
+use printing::hex;
+use printing::number;
 use printing::text;
 use refusal::Refusal;
 
-// A number as decimal, or in so many bytes as hexadecimal.
+// A number in decimal, or so many of its last bytes in hexadecimal.
 fn value(kind: u8, n: u64) {
     if kind == b'd' {
-        io::print_decimal(STDOUT_FILENO, n);
-    } else {
-        io::print_hex(STDOUT_FILENO, n, (kind % 16 * 2) as usize);
+        number(n);
+        return;
     }
+    let mut bytes = [0u8; 8];
+    put_u64(&mut bytes, 0, n);
+    if kind < b'1' {
+        return;
+    }
+    if b'8' < kind {
+        return;
+    }
+    let from = (b'8' - kind) as usize;
+    hex(&bytes[from..]);
 }
 
 // A text with a number in the place of each `%d`, in decimal, and of each `%1` to `%8`, in so many bytes of hexadecimal.

@@ -1,6 +1,6 @@
 -- Laws of decimal text.
 use Prim.Native.Nat.{ℕ, zero, suc, _+_, _*_, _-_, _/_, _%_, _^_, _≤_, _<_}
-use mathlib.Core.Path.{_≡_, refl, sym, ap, subst, _∙_}
+use mathlib.Core.Path.{_≡_, refl, sym, ap, ap₂, subst, _∙_}
 use mathlib.Core.Bool.{Bool, true, false, cond, _&&_}
 use mathlib.Core.List.{List, [], _∷_, _++_}
 use Rattle.octets.specs.Octets.{splice}
@@ -37,6 +37,45 @@ pub remainder : (n p d r : ℕ) → r + d * p ≡ n → r < p → r ≡ n % p
 remainder n p d r e h =
     let e₂ : d * p + r ≡ n = omega arith in
     sym (ap (λ (m : ℕ). m % p) (sym e₂) ∙ mul-add-mod-self-right d p r ∙ mod-eq-of-lt h)
+
+-- how often m goes into n, three times at most
+abbrev Often : ℕ → ℕ → ℕ → Type 0
+Often r n m = (r ≤ 3) × (r * m ≤ n) × (n < 4 * m → n < r * m + m)
+
+-- a is 1 if m is at most n, otherwise 0
+abbrev Fits : ℕ → ℕ → ℕ → Type 0
+Fits a m n = (a ≤ 1) × (m ≤ n → a ≡ 1) × (n < m → a ≡ 0)
+
+pub counted : (n m a b c : ℕ) → Fits a m n → Fits b (m + m) n → Fits c (m + m + m) n → Often (a + b + c) n m
+counted n m a b c f g h = go (decLe m n) (decLe (m + m) n) (decLe (m + m + m) n)
+  where
+    at : (r : ℕ) → a + b + c ≡ r → Often r n m → Often (a + b + c) n m
+    at r e o = subst (λ (r : ℕ). Often r n m) (sym e) o
+
+    go : Dec (m ≤ n) → Dec (m + m ≤ n) → Dec (m + m + m ≤ n) → Often (a + b + c) n m
+    go (yes p) (yes q) (yes r) = at 3 (omega (arith, f .1 p, g .1 q, h .1 r)) (omega arith, omega arith, λ z. omega arith)
+    go (yes p) (yes q) (no r) = at 2 (omega (arith, f .1 p, g .1 q, h .2 (omega arith))) (omega arith, omega arith, λ z. omega arith)
+    go (yes p) (no q) (yes r) = absurd (omega arith)
+    go (yes p) (no q) (no r) = at 1 (omega (arith, f .1 p, g .2 (omega arith), h .2 (omega arith))) (omega arith, omega arith, λ z. omega arith)
+    go (no p) (yes q) r = absurd (omega arith)
+    go (no p) (no q) (yes r) = absurd (omega arith)
+    go (no p) (no q) (no r) = at 0 (omega (arith, f .2 (omega arith), g .2 (omega arith), h .2 (omega arith))) (omega arith, omega arith, λ z. omega arith)
+
+fourfold : (a b p : ℕ) → (4 * a + b) * p ≡ a * (4 * p) + b * p
+fourfold a b p = add-mul (4 * a) b p ∙ ap (λ (m : ℕ). m + b * p) (ap (λ (m : ℕ). m * p) (mul-comm 4 a) ∙ mul-assoc a 4 p)
+
+-- four of p at a time, then one
+pub parted : (n p a b : ℕ) → n < 10 * p → Often a n (4 * p) → Often b (n - a * (4 * p)) p → (4 * a + b ≡ n / p) × (n - a * (4 * p) - b * p ≡ n % p) × (4 * a + b < 10)
+parted n p a b h f g =
+    let q : ℕ = a * (4 * p) in
+    let e₀ : (4 * a + b) * p ≡ q + b * p = fourfold a b p in
+    let u : n < q + 4 * p = f .2 (omega arith) in
+    let v : n - q < b * p + p = g .2 (omega arith) in
+    let i : q ≤ n = f .1 in
+    let j : b * p ≤ n - q = g .1 in
+    let e : n - q - b * p + (4 * a + b) * p ≡ n = omega arith in
+    let l : n - q - b * p < p = omega arith in
+    (quotient n p (4 * a + b) (n - q - b * p) e l, remainder n p (4 * a + b) (n - q - b * p) e l, small (4 * a + b) p n (omega arith) h)
 
 pub pow-pos : (k : ℕ) → 0 < 10 ^ k
 pow-pos k = one-le-pow k 10 (omega arith)
@@ -203,8 +242,30 @@ times-ten rest left p z h e =
     let q : left ≡ suc (left - 1) = omega arith in
     omega (arith, pow-suc 10 (left - 1), ap (λ (j : ℕ). 10 ^ j) q)
 
+pub small-power : (left p : ℕ) → left < 20 → 0 < left → p ≡ 10 ^ (left - 1) → p ≤ 10 ^ 18
+small-power left p h z e = omega (arith, pow-le-pow-right {n = 10} (omega arith) {i = left - 1} {j = 18} (omega arith))
+
+-- a number of k + 1 digits that begins with a 1
+pub leading-one : (k n : ℕ) → 10 ^ k ≤ n → n < 2 * 10 ^ k → digitsOf (suc k) n ≡ 49 ∷ digitsOf k (n - 10 ^ k)
+unfolding digitsOf
+leading-one k n l h =
+    let e : n - 10 ^ k + 1 * 10 ^ k ≡ n = omega arith in
+    let z : n - 10 ^ k < 10 ^ k = omega arith in
+    sym (ap₂ {C = List ℕ} (λ (d r : ℕ). (48 + d) ∷ digitsOf k r) (quotient n (10 ^ k) 1 (n - 10 ^ k) e z) (remainder n (10 ^ k) 1 (n - 10 ^ k) e z))
+
 pub pasted : (o d : List ℕ) (at k : ℕ) → length d ≡ k → paste o at d k ≡ splice o at d
 pasted o d at k e =
     ap (λ (l : List ℕ). take at o ++ l ++ drop (at + k) o) (take-all k d (omega arith))
     ∙ ap (λ (j : ℕ). take at o ++ d ++ drop (at + j) o) (sym e)
     ∙ sym (splice-nested o at d)
+
+-- ---- the number whole
+
+pub wide-as : (r n : ℕ) → decimalOf n ≡ digitsOf r n → length (decimalOf n) ≡ r
+wide-as r n e = ap length e ∙ length-digitsOf r n
+
+-- a number of 20 digits
+pub twenty : (r n : ℕ) → n < 2 ^ 64 → r ≡ 20 → decimalOf n ≡ digitsOf r n → 10 ^ (r - 1) ≤ n → decimalOf n ≡ 49 ∷ digitsOf 19 (n - 10 ^ 19)
+twenty r n h e d l =
+    let z : 10 ^ 19 ≤ n = subst (λ (j : ℕ). 10 ^ (j - 1) ≤ n) e l in
+    d ∙ ap (λ (j : ℕ). digitsOf j n) e ∙ leading-one 19 n z (omega arith)

@@ -1,6 +1,7 @@
 -- What decimalOf and numberOf are: for every number below 2^64 the one text of digits without leading zeros that makes it.
 use Prim.Native.Nat.{ℕ, zero, suc, _+_, _*_, _-_, _/_, _%_, _^_, _≤_, _<_}
 use mathlib.Core.Path.{_≡_, refl, sym, ap, ap₂, subst, _∙_}
+use mathlib.Core.Logic.{_↔_}
 use mathlib.Core.Bool.{Bool, true, false, cond, _&&_}
 use mathlib.Core.List.{List, [], _∷_}
 use native.Mathlib.Omega.{arith}
@@ -9,6 +10,8 @@ use native.Mathlib.Nat.{pow-suc, pow-zero, pow-le-pow-right, add-mul, mul-assoc,
 use lib.ListN.{length, getD}
 use lib.Dec.{leb, ltb, eqb}
 use borrow.Author.Tests.{lt-ltb, ltb-true, leb-true, eq-eqb}
+use Rattle.octets.specs.Octets.{splice}
+use Rattle.octets.proofs.Parts.{length-splice}
 use Rattle.decimal.specs.declared.Number.the-variants.{Value, Malformed}
 use Rattle.decimal.specs.Decimal.{digitsOf, decimalFrom, decimalOf, isDigit, allDigits, valueAfter, valueOf, startsWell, isNumber, numberOf}
 use Rattle.decimal.proofs.Laws.{pow-pos, length-digitsOf, digitsOf-digits, value-digitsOf, of-width, starts, quotient, remainder, below}
@@ -152,6 +155,17 @@ few-digits l d s h = go (decLe (length l) 20)
         let m : 10 ^ 20 ≤ 10 ^ (length l - 1) = pow-le-pow-right {n = 10} (omega arith) {i = 20} {j = length l - 1} (omega arith) in
         absurd (omega (arith, head-least l d s (omega arith)))
 
+-- digits without leading zeros are the decimal of what they make
+only-decimal : (l : List ℕ) → startsWell l ≡ true → allDigits l ≡ true → valueOf l < 2 ^ 64 → l ≡ decimalOf (valueOf l)
+only-decimal l s d h = sym (of-width (length l) (valueOf l) (starts-some l s) (few-digits l d s h) (value-lt l d) (head-least l d s) ∙ digits-value l d)
+
+-- document 02 [12]: "The text for every number below 2^64 is shown to be its decimal without leading zeros."
+pub decimal-exactly : (n : ℕ) (l : List ℕ) → n < 2 ^ 64 → (l ≡ decimalOf n) ↔ ((allDigits l ≡ true) × (startsWell l ≡ true) × (valueOf l ≡ n))
+decimal-exactly n l h = (
+  λ e. (ap allDigits e ∙ decimal-digits n h, ap startsWell e ∙ decimal-starts n h, ap valueOf e ∙ decimal-value n h),
+  λ t. only-decimal l (t .1) (t .0) (subst (λ (v : ℕ). v < 2 ^ 64) (sym (t .2)) h) ∙ ap decimalOf (t .2),
+)
+
 -- what reads as v is the decimal of v, and v is below 2^64
 pub parsed : (l : List ℕ) (v : ℕ) → numberOf l ≡ Value v → (v < 2 ^ 64) × (l ≡ decimalOf v)
 unfolding numberOf
@@ -163,10 +177,8 @@ parsed l v e = go (isNumber l) refl e
         let x : valueOf l ≡ v = cc in
         let t = both-true (startsWell l) (allDigits l && ltb (valueOf l) (2 ^ 64)) p in
         let u = both-true (allDigits l) (ltb (valueOf l) (2 ^ 64)) (t .1) in
-        let b : valueOf l < 2 ^ 64 = ltb-true (valueOf l) (2 ^ 64) (u .1) in (
-          omega arith,
-          sym (ap decimalOf (sym x) ∙ of-width (length l) (valueOf l) (starts-some l (t .0)) (few-digits l (u .0) (t .0) b) (value-lt l (u .0)) (head-least l (u .0) (t .0)) ∙ digits-value l (u .0)),
-        )
+        let b : valueOf l < 2 ^ 64 = ltb-true (valueOf l) (2 ^ 64) (u .1) in
+        (omega arith, only-decimal l (t .0) (u .0) b ∙ ap decimalOf x)
 
 -- "0", and no other decimal starts with a zero
 pub decimal-zero : decimalOf 0 ≡ 48 ∷ []
@@ -198,3 +210,8 @@ from-length (suc k) n = go (ltb n (10 ^ suc k)) (from-length k n)
 pub length-decimal : (n : ℕ) → length (decimalOf n) ≤ 20
 unfolding decimalOf
 length-decimal n = omega (arith, from-length 19 n)
+
+-- a decimal put into 20 bytes ends within them
+pub put-within : (z l : List ℕ) (r n : ℕ) → length z ≡ 20 → r ≡ 0 + length (decimalOf n) → l ≡ splice z 0 (decimalOf n) → r ≤ length l
+put-within z l r n e h k =
+    omega (arith, h, e, ap length k, length-decimal n, length-splice z (decimalOf n) 0 (omega (arith, e, length-decimal n)))

@@ -132,6 +132,10 @@ pub splice-byte : (l : List ℕ) (at b : ℕ) → at < length l → set l at b �
 unfolding splice
 splice-byte l at b h = set-split l at b h ∙ ap (λ (k : ℕ). take at l ++ (b ∷ drop k l)) (sym (add-one at))
 
+-- a byte, and bytes after it
+pub byte-before : (l x : List ℕ) (at b : ℕ) → at + length (b ∷ x) ≤ length l → splice (set l at b) (at + 1) x ≡ splice l at (b ∷ x)
+byte-before l x at b room = ap (λ (y : List ℕ). splice y (at + 1) x) (splice-byte l at b (omega arith)) ∙ splice-append l at (b ∷ []) x (omega arith)
+
 -- parts that were lent: `&s[a..a + n]` and `&mut s[a..a + n]`
 
 pub part-between : (l : List ℕ) (at n : ℕ) → take (at + n - at) (drop at l) ≡ part l at n

@@ -28,7 +28,7 @@ fn digit(n: u8) -> u8
 fn pair(b: u8) -> [u8; 2]
     ensures { λ r. ⌜ r ≡ hexPair b ⌝ }
 {
-    [digit(b / 16), digit(b % 16)]
+    [digit(b >> 4), digit(b & 15)]
 }
 
 // Each byte as two hexadecimal digits.

@@ -113,7 +113,9 @@ fn read_all(buffer: &mut [u8], held: &mut [u8], out: &mut [u8], p: Progress) -> 
 // Says on standard error from which line on answers are missing.
 fn gap(number: u64) {
     io::write_all(STDERR_FILENO, b"keeper: answers are missing from line ");
-    io::print_decimal(STDERR_FILENO, number);
+    let mut digits = [48u8; 20];
+    let to = decimal::put(&mut digits, 0, number);
+    io::write_all(STDERR_FILENO, &digits[..to]);
     os::fail(b" on");
 }
 

@@ -38,10 +38,6 @@ byte-after l x at to b room p e =
     ∙ splice-byte (splice l at x) (at + length x) b (omega (arith, length-splice l x at (omega arith)))
     ∙ splice-append l at x (b ∷ []) (omega arith)
 
--- a comma before a number
-pub byte-before : (l x : List ℕ) (at b : ℕ) → at + length (b ∷ x) ≤ length l → splice (set l at b) (at + 1) x ≡ splice l at (b ∷ x)
-byte-before l x at b room = ap (λ (y : List ℕ). splice y (at + 1) x) (splice-byte l at b (omega arith)) ∙ splice-append l at (b ∷ []) x (omega arith)
-
 -- a word, its fields and a newline
 pub line-put : (l w ns : List ℕ) (at e to : ℕ) {o p : List ℕ} → at + length ((w ++ ns) ++ (10 ∷ [])) ≤ length l → e ≡ at + length w → o ≡ splice l at w → to ≡ e + length ns → p ≡ splice o e ns
     → (to + 1 ≡ at + length ((w ++ ns) ++ (10 ∷ []))) × (set p to 10 ≡ splice l at ((w ++ ns) ++ (10 ∷ [])))

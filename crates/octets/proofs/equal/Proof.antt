@@ -1,4 +1,5 @@
 use Rattle.octets.proofs.Same.{same-length, same-none, same-more, same-all}
+use mathlib.Core.List.{[]}
 use Rattle.octets.specs.Octets.{same}
 use lib.Dec.{eqb}
 use native.Mathlib.Numerals.{add-one}
@@ -10,6 +11,8 @@ use Rattle.octets.proofs.equal.Statement.{statement}
 use Rattle.octets.proofs.equal.Tie as tie
 use Rattle.octets.proofs.equal.Reads as reads
 use Rattle.octets.proofs.equal.Lts as lts
+use Rattle.octets.specs.Undivided.{Undivided}
+use Rattle.octets.proofs.equal.Code.Mir.{function}
 
 abbrev Inv-loop : tie.InvT-loop
 Inv-loop a b diff₀ i₀ diff i = (i ≤ length a) × ((length a ≡ length b) × (eqb diff 0 ≡ same (take i a) (take i b)))
@@ -63,3 +66,6 @@ equal-spec =
     loop-less
     loop-again
     returns-2)
+
+pub undivided : Undivided [] function
+undivided = refl

@@ -3,13 +3,15 @@ use native.Mathlib.Numerals.{add-one}
 use native.Mathlib.Omega.{arith}
 use mathlib.Core.Path.{_≡_, refl, sym, ap, _∙_}
 use Prim.Native.Nat.{ℕ, _≤_, _-_, _+_}
-use mathlib.Core.List.{List, _++_, append-assoc}
+use mathlib.Core.List.{List, _++_, append-assoc, []}
 use lib.Seq.{paste, paste-zero, paste-suc, take-length}
 use lib.ListN.{length, drop, take, set, getD, length-set}
 use Rattle.octets.proofs.put.Statement.{statement}
 use Rattle.octets.proofs.put.Tie as tie
 use Rattle.octets.proofs.put.Reads as reads
 use Rattle.octets.proofs.put.Lts as lts
+use Rattle.octets.specs.Undivided.{Undivided}
+use Rattle.octets.proofs.put.Code.Mir.{function}
 
 abbrev Inv-loop : tie.InvT-loop
 Inv-loop out₀ at part i₀ out i = (i ≤ length part) × (length out ≡ length out₀) × (out ≡ paste out₀ at part i)
@@ -82,3 +84,6 @@ put-spec =
     loop-again
     same-length
     returns)
+
+pub undivided : Undivided [] function
+undivided = refl

@@ -1,7 +1,11 @@
 -- `printing::digit` meets its contract.
+use mathlib.Core.List.{[]}
+use mathlib.Core.Path.{refl}
 use borrow.Author.Tests.{lt-ltb, le-ltb}
 use borrow.Author.Needs.{needs}
 use Rattle.printing.proofs.digit.Statement.{statement}
+use Rattle.octets.specs.Undivided.{Undivided}
+use Rattle.printing.proofs.digit.Code.Mir.{function}
 use Rattle.printing.proofs.digit.Tie as tie
 
 add-result : tie.Need-add-result
@@ -18,3 +22,6 @@ returns-2 c = simp (le-ltb _ _ (c .if1 .left))
 
 pub digit-spec : {M : Type 1} → statement M
 digit-spec = tie.close (tie.spec add-result add-result-2 returns returns-2)
+
+pub undivided : Undivided [] function
+undivided = refl

@@ -1,8 +1,12 @@
 -- `printing::hex` is safe.
+use mathlib.Core.List.{[], _∷_}
+use mathlib.Core.Path.{refl}
 use lib.ListN.{length}
 use Prim.Native.Nat.{_≤_, _-_}
 use borrow.Author.Needs.{needs}
 use Rattle.printing.proofs.hex.Statement.{statement}
+use Rattle.octets.specs.Undivided.{Undivided}
+use Rattle.printing.proofs.hex.Code.Mir.{function}
 use Rattle.printing.proofs.hex.Tie as tie
 
 abbrev Inv-loop : tie.InvT-loop
@@ -53,3 +57,6 @@ hex-spec =
     loop-less
     loop-again
     returns)
+
+pub undivided : Undivided ("printing::pair" ∷ "printing::text" ∷ []) function
+undivided = refl

@@ -1,12 +1,15 @@
 -- `rush::main` meets its contract.
+use mathlib.Core.List.{[], _∷_}
 use Prim.Native.Nat.{_≤_}
-use mathlib.Core.Path.{_≡_}
+use mathlib.Core.Path.{_≡_, refl}
 use native.Mathlib.Omega.{arith}
 use lib.ListN.{length}
 use Rattle.workload.proofs.WholeRush.{begun-room}
 use borrow.Author.Needs.{needs}
 use Rattle.rush.proofs.main.Statement.{statement}
 use Rattle.rush.proofs.main.Tie as tie
+use Rattle.octets.specs.Undivided.{Undivided}
+use Rattle.rush.proofs.main.Code.Mir.{function}
 
 arg-count-requires : tie.Need-arg-count-requires
 arg-count-requires c κs = search needs
@@ -80,3 +83,6 @@ main-spec =
     fail-requires
     returns-2
     returns-3)
+
+pub undivided : Undivided ("io::large_buffer" ∷ "io::read_full" ∷ "os::arg_count" ∷ "os::fail" ∷ "rush::send" ∷ "rush::usage" ∷ "workload_write::begin" ∷ []) function
+undivided = refl

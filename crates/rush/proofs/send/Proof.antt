@@ -1,5 +1,6 @@
 -- `rush::send` meets its contract.
-use mathlib.Core.Path.{_≡_, sym, _∙_}
+use mathlib.Core.List.{[], _∷_}
+use mathlib.Core.Path.{_≡_, sym, _∙_, refl}
 use native.Mathlib.Omega.{arith}
 use lib.ListN.{length}
 use lib.Seq.{length-take-le}
@@ -7,6 +8,8 @@ use Rattle.workload.proofs.WholeRush.{fill-moves}
 use borrow.Author.Needs.{needs}
 use Rattle.rush.proofs.send.Statement.{statement}
 use Rattle.rush.proofs.send.Tie as tie
+use Rattle.octets.specs.Undivided.{Undivided}
+use Rattle.rush.proofs.send.Code.Mir.{function}
 
 abbrev Inv-loop : tie.InvT-loop
 Inv-loop out₀ to state₀ left₀ out state left = length out ≡ 65536
@@ -84,3 +87,6 @@ send-spec =
     loop-again
     same-length-3
     returns-3)
+
+pub undivided : Undivided ("io::write_all" ∷ "workload_write::fill" ∷ []) function
+undivided = refl

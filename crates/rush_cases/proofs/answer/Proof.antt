@@ -1,12 +1,15 @@
 -- `rush_cases::answer` meets its contract.
+use mathlib.Core.List.{[], _∷_}
 use Prim.Native.Nat.{_≤_}
-use mathlib.Core.Path.{sym}
+use mathlib.Core.Path.{sym, refl}
 use native.Mathlib.Omega.{arith}
 use lib.Seq.{length-take-le}
 use Rattle.workload.proofs.WholeRush.{begun-room}
 use borrow.Author.Needs.{needs}
 use Rattle.rush_cases.proofs.answer.Statement.{statement}
 use Rattle.rush_cases.proofs.answer.Tie as tie
+use Rattle.octets.specs.Undivided.{Undivided}
+use Rattle.rush_cases.proofs.answer.Code.Mir.{function}
 
 buffer-requires : tie.Need-buffer-requires
 buffer-requires c κs = search needs
@@ -66,3 +69,6 @@ answer-spec =
     slice-aggregate-write-all-2
     write-all-requires-2
     returns)
+
+pub undivided : Undivided ("io::buffer" ∷ "io::write_all" ∷ "workload_write::begin" ∷ "workload_write::fill" ∷ []) function
+undivided = refl

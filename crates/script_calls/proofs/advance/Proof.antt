@@ -6,11 +6,13 @@ use Rattle.script.proofs.CallLaws.{advance-changes}
 use Rattle.script.proofs.AnswerLaws.{advance-sized, change-named, change-answers}
 use Rattle.a2m.specs.TableCalls.{tableStep}
 use Prim.Native.Nat.{ℕ}
-use mathlib.Core.List.{List}
-use mathlib.Core.Path.{ap₂, _∙_}
+use mathlib.Core.List.{List, [], _∷_}
+use mathlib.Core.Path.{ap₂, _∙_, refl}
 use borrow.Author.Needs.{needs}
 use Rattle.script_calls.proofs.advance.Statement.{statement}
 use Rattle.script_calls.proofs.advance.Tie as tie
+use Rattle.octets.specs.Undivided.{Undivided}
+use Rattle.script_calls.proofs.advance.Code.Mir.{function}
 
 placed-requires : tie.Need-placed-requires
 placed-requires c κs = search needs
@@ -65,3 +67,6 @@ advance-spec =
     changed-requires
     same-length
     returns)
+
+pub undivided : Undivided ("a2m_put::advance::advance" ∷ "script_calls::changed" ∷ "script_calls::placed" ∷ []) function
+undivided = refl

@@ -6,11 +6,13 @@ use Rattle.script.proofs.CallLaws.{append-changes}
 use Rattle.script.proofs.AnswerLaws.{append-sized, change-named, change-answers}
 use Rattle.a2m.specs.TableCalls.{tableStep}
 use Prim.Native.Nat.{ℕ}
-use mathlib.Core.List.{List}
-use mathlib.Core.Path.{ap, _∙_}
+use mathlib.Core.List.{List, [], _∷_}
+use mathlib.Core.Path.{ap, _∙_, refl}
 use borrow.Author.Needs.{needs}
 use Rattle.script_calls.proofs.append.Statement.{statement}
 use Rattle.script_calls.proofs.append.Tie as tie
+use Rattle.octets.specs.Undivided.{Undivided}
+use Rattle.script_calls.proofs.append.Code.Mir.{function}
 
 placed-requires : tie.Need-placed-requires
 placed-requires c κs = search needs
@@ -55,3 +57,6 @@ append-spec =
     changed-requires
     same-length
     returns)
+
+pub undivided : Undivided ("a2m_put::append::append" ∷ "script_calls::changed" ∷ "script_calls::placed" ∷ []) function
+undivided = refl

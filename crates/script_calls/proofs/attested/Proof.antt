@@ -1,11 +1,14 @@
 -- `script_calls::attested` meets its contract.
-use mathlib.Core.Path.{ap, _∙_}
+use mathlib.Core.List.{[], _∷_}
+use mathlib.Core.Path.{ap, _∙_, refl}
 use Rattle.receipt.specs.Attestation.{readAttestation}
 use Rattle.script.specs.Answer.{letterOf}
 use Rattle.script.proofs.AnswerLaws.{attested-fields, value-read}
 use borrow.Author.Needs.{needs}
 use Rattle.script_calls.proofs.attested.Statement.{statement}
 use Rattle.script_calls.proofs.attested.Tie as tie
+use Rattle.octets.specs.Undivided.{Undivided}
+use Rattle.script_calls.proofs.attested.Code.Mir.{function}
 
 kind-of-requires : tie.Need-kind-of-requires
 kind-of-requires c κs = search needs
@@ -43,3 +46,6 @@ attested-spec =
     get-u64-requires
     row-of-requires
     returns)
+
+pub undivided : Undivided ("bigendian::get_u64" ∷ "receipt_fields::kind_of" ∷ "receipt_fields::position_of" ∷ "receipt_fields::reference_of" ∷ "receipt_fields::value_of" ∷ "script_calls::letter" ∷ "script_calls::row_of" ∷ []) function
+undivided = refl

@@ -1,12 +1,15 @@
 -- `script_calls::changed` meets its contract.
+use mathlib.Core.List.{[], _∷_}
 use Rattle.layout.specs.Layout.{readTable}
 use Rattle.a2m.specs.ImageCalls.{rowIn}
 use Rattle.script.specs.Named.{ChangeNamed, changeAnswer}
 use Rattle.a2m.specs.declared.Change.{Change}
-use mathlib.Core.Path.{sym, ap, subst, _∙_}
+use mathlib.Core.Path.{sym, ap, subst, _∙_, refl}
 use borrow.Author.Needs.{needs}
 use Rattle.script_calls.proofs.changed.Statement.{statement}
 use Rattle.script_calls.proofs.changed.Tie as tie
+use Rattle.octets.specs.Undivided.{Undivided}
+use Rattle.script_calls.proofs.changed.Code.Mir.{function}
 
 enum-known-change : tie.Need-enum-known-change
 enum-known-change c = search needs
@@ -26,3 +29,6 @@ returns-2 c = c .refused .ensures ∙ ap (λ (x : Change). changeAnswer x (rowIn
 pub changed-spec : {M : Type 1} → statement M
 changed-spec =
     tie.close (tie.spec enum-known-change enum-known-change-2 refused-requires returns returns-2)
+
+pub undivided : Undivided ("script_calls::refused" ∷ []) function
+undivided = refl

@@ -1,4 +1,5 @@
 -- `script_calls::end` meets its contract.
+use mathlib.Core.List.{[], _∷_}
 use native.Mathlib.Omega.{arith}
 use Rattle.script.proofs.CallLaws.{refused-named}
 use Rattle.refusal.specs.declared.Worked.{Worked}
@@ -11,6 +12,8 @@ use mathlib.Core.Path.{refl, sym, ap, _∙_}
 use borrow.Author.Needs.{needs}
 use Rattle.script_calls.proofs.end.Statement.{statement}
 use Rattle.script_calls.proofs.end.Tie as tie
+use Rattle.octets.specs.Undivided.{Undivided}
+use Rattle.script_calls.proofs.end.Code.Mir.{function}
 
 slice-aggregate-end : tie.Need-slice-aggregate-end
 slice-aggregate-end c = search needs
@@ -72,3 +75,6 @@ end-spec =
     refused-requires
     returns
     returns-2)
+
+pub undivided : Undivided ("a2m_read::end::end" ∷ "script_calls::attested" ∷ "script_calls::refused" ∷ []) function
+undivided = refl

@@ -1,4 +1,5 @@
 -- `script_calls::lookup` meets its contract.
+use mathlib.Core.List.{[], _∷_}
 use native.Mathlib.Omega.{arith}
 use Rattle.script.proofs.CallLaws.{refused-named}
 use Rattle.a2m.specs.declared.Finding.{Finding}
@@ -11,6 +12,8 @@ use mathlib.Core.Path.{refl, sym, ap, _∙_}
 use borrow.Author.Needs.{needs}
 use Rattle.script_calls.proofs.lookup.Statement.{statement}
 use Rattle.script_calls.proofs.lookup.Tie as tie
+use Rattle.octets.specs.Undivided.{Undivided}
+use Rattle.script_calls.proofs.lookup.Code.Mir.{function}
 
 slice-aggregate-lookup : tie.Need-slice-aggregate-lookup
 slice-aggregate-lookup c = search needs
@@ -72,3 +75,6 @@ lookup-spec =
     refused-requires
     returns
     returns-2)
+
+pub undivided : Undivided ("a2m_read::lookup::lookup" ∷ "script_calls::attested" ∷ "script_calls::refused" ∷ []) function
+undivided = refl

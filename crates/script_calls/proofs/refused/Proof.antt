@@ -1,4 +1,5 @@
 -- `script_calls::refused` meets its contract.
+use mathlib.Core.List.{[], _∷_}
 use Prim.Native.Nat.{ℕ}
 use Rattle.script.specs.declared.Answer.the-variants.{Bounded}
 use Rattle.script.specs.Answer.{replyAnswer}
@@ -8,10 +9,12 @@ use Rattle.a2m.specs.ImageCalls.{rowIn}
 use Rattle.a2m.specs.Call.{refused}
 use Rattle.refusal.specs.Number.{numberOf}
 use Rattle.script.proofs.AnswerLaws.{plain-torn, plain-no-log, bounded}
-use mathlib.Core.Path.{_≡_, ap, _∙_}
+use mathlib.Core.Path.{_≡_, ap, _∙_, refl}
 use borrow.Author.Needs.{needs}
 use Rattle.script_calls.proofs.refused.Statement.{statement}
 use Rattle.script_calls.proofs.refused.Tie as tie
+use Rattle.octets.specs.Undivided.{Undivided}
+use Rattle.script_calls.proofs.refused.Code.Mir.{function}
 
 number-requires : tie.Need-number-requires
 number-requires c κs = search needs
@@ -41,3 +44,6 @@ returns-3 c = let e : c .before .before .before .wide .result ≡ numberOf (c .b
 pub refused-spec : {M : Type 1} → statement M
 refused-spec =
     tie.close (tie.spec number-requires wide-requires returns returns-2 row-of-requires returns-3)
+
+pub undivided : Undivided ("octets::wide" ∷ "refusal::Refusal::number" ∷ "script_calls::row_of" ∷ []) function
+undivided = refl

@@ -1,9 +1,13 @@
 -- `script_calls::row_of` meets its contract.
+use mathlib.Core.List.{[], _∷_}
+use mathlib.Core.Path.{refl}
 use native.Mathlib.Omega.{arith}
 use Rattle.a2m.proofs.OpenedLaws.{whole-counted, whole-long}
 use borrow.Author.Needs.{needs}
 use Rattle.script_calls.proofs.row_of.Statement.{statement}
 use Rattle.script_calls.proofs.row_of.Tie as tie
+use Rattle.octets.specs.Undivided.{Undivided}
+use Rattle.script_calls.proofs.row_of.Code.Mir.{function}
 
 logs-of-requires : tie.Need-logs-of-requires
 logs-of-requires c κs = whole-long (c .before .args .table .now) (c .before .pre .0)
@@ -19,3 +23,6 @@ returns c = search needs
 
 pub row-of-spec : {M : Type 1} → statement M
 row-of-spec = tie.close (tie.spec logs-of-requires slots-of-requires row-at-requires returns)
+
+pub undivided : Undivided ("layout_header::logs_of" ∷ "layout_header::slots_of" ∷ "layout_rows::row_at" ∷ []) function
+undivided = refl

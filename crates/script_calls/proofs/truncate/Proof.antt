@@ -1,4 +1,5 @@
 -- `script_calls::truncate` meets its contract.
+use mathlib.Core.List.{[], _∷_}
 use native.Mathlib.Omega.{arith}
 use Rattle.a2m.specs.ImageCalls.{wrongLength}
 use Rattle.a2m.specs.Call.{truncate}
@@ -8,6 +9,8 @@ use mathlib.Core.Path.{refl, _∙_}
 use borrow.Author.Needs.{needs}
 use Rattle.script_calls.proofs.truncate.Statement.{statement}
 use Rattle.script_calls.proofs.truncate.Tie as tie
+use Rattle.octets.specs.Undivided.{Undivided}
+use Rattle.script_calls.proofs.truncate.Code.Mir.{function}
 
 truncate-requires : tie.Need-truncate-requires
 truncate-requires c κs = search needs
@@ -29,3 +32,6 @@ returns c = let a = c .before .before .before .before .before .before .before .a
 
 pub truncate-spec : {M : Type 1} → statement M
 truncate-spec = tie.close (tie.spec truncate-requires changed-requires same-length returns)
+
+pub undivided : Undivided ("a2m_truncate::truncate" ∷ "script_calls::changed" ∷ []) function
+undivided = refl

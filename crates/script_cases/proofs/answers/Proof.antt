@@ -1,10 +1,13 @@
 -- `script_cases::answers` meets its contract.
-use mathlib.Core.Path.{sym}
+use mathlib.Core.List.{[], _∷_}
+use mathlib.Core.Path.{sym, refl}
 use native.Mathlib.Omega.{arith}
 use lib.Seq.{length-take-le}
 use borrow.Author.Needs.{needs}
 use Rattle.script_cases.proofs.answers.Statement.{statement}
 use Rattle.script_cases.proofs.answers.Tie as tie
+use Rattle.octets.specs.Undivided.{Undivided}
+use Rattle.script_cases.proofs.answers.Code.Mir.{function}
 
 room-requires : tie.Need-room-requires
 room-requires c κs = search needs
@@ -46,3 +49,6 @@ answers-spec =
     slice-aggregate-write-all
     write-all-requires
     returns)
+
+pub undivided : Undivided ("io::write_all" ∷ "script_cases::room" ∷ "script_lines::pieces::feed" ∷ []) function
+undivided = refl

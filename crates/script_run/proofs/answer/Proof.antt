@@ -1,11 +1,14 @@
 -- `script_run::answer` meets its contract.
+use mathlib.Core.List.{[], _∷_}
 use Rattle.script_run.proofs.StepLaws.{missing}
-use mathlib.Core.Path.{sym}
+use mathlib.Core.Path.{sym, refl}
 use native.Mathlib.Omega.{arith}
 use lib.Seq.{length-take-le}
 use borrow.Author.Needs.{needs}
 use Rattle.script_run.proofs.answer.Statement.{statement}
 use Rattle.script_run.proofs.answer.Tie as tie
+use Rattle.octets.specs.Undivided.{Undivided}
+use Rattle.script_run.proofs.answer.Code.Mir.{function}
 
 feed-requires : tie.Need-feed-requires
 feed-requires c κs = search needs
@@ -71,3 +74,6 @@ answer-spec =
     same-length-5
     same-length-6
     returns-2)
+
+pub undivided : Undivided ("script_lines::pieces::feed" ∷ "script_run::line_after" ∷ "script_run::write_out" ∷ []) function
+undivided = refl

@@ -1,10 +1,13 @@
 -- `script_run::answer_last` meets its contract.
-use mathlib.Core.Path.{sym}
+use mathlib.Core.List.{[], _∷_}
+use mathlib.Core.Path.{sym, refl}
 use native.Mathlib.Omega.{arith}
 use lib.Seq.{length-take-le}
 use borrow.Author.Needs.{needs}
 use Rattle.script_run.proofs.answer_last.Statement.{statement}
 use Rattle.script_run.proofs.answer_last.Tie as tie
+use Rattle.octets.specs.Undivided.{Undivided}
+use Rattle.script_run.proofs.answer_last.Code.Mir.{function}
 
 finish-requires : tie.Need-finish-requires
 finish-requires c κs = search needs
@@ -54,3 +57,6 @@ answer-last-spec =
     same-length-3
     same-length-4
     returns-2)
+
+pub undivided : Undivided ("script_lines::pieces::finish" ∷ "script_run::gap" ∷ "script_run::write_out" ∷ []) function
+undivided = refl

@@ -1,4 +1,5 @@
 -- `script_run::line_after` meets its contract.
+use mathlib.Core.List.{[]}
 use Rattle.script_run.proofs.StepLaws.{counts-one, counts-none}
 use Rattle.script.proofs.StreamLaws.{newlines-end}
 use mathlib.Core.Logic.{⊎-elim}
@@ -10,6 +11,8 @@ use mathlib.Core.Path.{_≡_, refl}
 use borrow.Author.Needs.{needs}
 use Rattle.script_run.proofs.line_after.Statement.{statement}
 use Rattle.script_run.proofs.line_after.Tie as tie
+use Rattle.octets.specs.Undivided.{Undivided}
+use Rattle.script_run.proofs.line_after.Code.Mir.{function}
 
 abbrev Inv-loop : tie.InvT-loop
 Inv-loop answers first n₀ i₀ n i = (i ≤ length answers) × (n ≤ first + i) × (first + newlines answers ≡ n + newlines (drop i answers))
@@ -54,3 +57,6 @@ line-after-spec =
     loop-less
     loop-again
     returns)
+
+pub undivided : Undivided [] function
+undivided = refl

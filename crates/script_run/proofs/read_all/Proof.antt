@@ -1,6 +1,6 @@
 -- `script_run::read_all` meets its contract.
-use mathlib.Core.List.{[], _++_, List}
-use mathlib.Core.Path.{subst, _∙_, _≡_}
+use mathlib.Core.List.{[], _++_, List, _∷_}
+use mathlib.Core.Path.{subst, _∙_, _≡_, refl}
 use Rattle.script_run.specs.Steps.{Stepped}
 use Rattle.script_run.specs.declared.Step.{Step}
 use native.Mathlib.Omega.{arith}
@@ -11,6 +11,8 @@ use Prim.Native.Nat.{ℕ, _+_, _*_, _≤_}
 use borrow.Author.Needs.{needs}
 use Rattle.script_run.proofs.read_all.Statement.{statement}
 use Rattle.script_run.proofs.read_all.Tie as tie
+use Rattle.octets.specs.Undivided.{Undivided}
+use Rattle.script_run.proofs.read_all.Code.Mir.{function}
 
 abbrev Inv-loop : tie.InvT-loop
 Inv-loop buffer₀ held₀ out₀ s₀ turns₀ buffer held out s turns = (length out ≡ 1376256) × ((read : List ℕ) × After read buffer held s × (length read + turns * 8192 ≤ 1125899906842624 * 8192))
@@ -89,3 +91,6 @@ read-all-spec =
     same-length-5
     same-length-6
     returns-2)
+
+pub undivided : Undivided ("script_run::turn" ∷ []) function
+undivided = refl

@@ -1,4 +1,5 @@
 -- `script_run::run` meets its contract.
+use mathlib.Core.List.{[], _∷_}
 use Prim.Native.Nat.{ℕ}
 use Rattle.layout.specs.Layout.{largest}
 use Rattle.script_run.specs.Steps.{Ended}
@@ -10,6 +11,8 @@ use lib.ListN.{length-replicate}
 use borrow.Author.Needs.{needs}
 use Rattle.script_run.proofs.run.Statement.{statement}
 use Rattle.script_run.proofs.run.Tie as tie
+use Rattle.octets.specs.Undivided.{Undivided}
+use Rattle.script_run.proofs.run.Code.Mir.{function}
 
 slice-aggregate-write-all : tie.Need-slice-aggregate-write-all
 slice-aggregate-write-all c = search needs
@@ -103,3 +106,6 @@ run-spec =
     returns-2
     returns-3
     returns-4)
+
+pub undivided : Undivided ("io::write_all" ∷ "os::fail" ∷ "script_run::answer_last" ∷ "script_run::gap" ∷ "script_run::read_all" ∷ "script_run::room" ∷ []) function
+undivided = refl

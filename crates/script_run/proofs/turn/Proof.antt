@@ -1,10 +1,14 @@
 -- `script_run::turn` meets its contract.
+use mathlib.Core.List.{[], _∷_}
+use mathlib.Core.Path.{refl}
 use lib.ListN.{take, length-take}
 use native.Mathlib.Omega.{arith}
 use Rattle.script_run.proofs.StepLaws.{stepped}
 use borrow.Author.Needs.{needs}
 use Rattle.script_run.proofs.turn.Statement.{statement}
 use Rattle.script_run.proofs.turn.Tie as tie
+use Rattle.octets.specs.Undivided.{Undivided}
+use Rattle.script_run.proofs.turn.Code.Mir.{function}
 
 slice-aggregate-read : tie.Need-slice-aggregate-read
 slice-aggregate-read c = search needs
@@ -66,3 +70,6 @@ turn-spec =
     same-length-2
     same-length-3
     returns-3)
+
+pub undivided : Undivided ("io::count" ∷ "libc::read" ∷ "script_run::answer" ∷ []) function
+undivided = refl

@@ -1,9 +1,13 @@
 -- `script_run::write_out` meets its contract.
+use mathlib.Core.List.{[], _∷_}
+use mathlib.Core.Path.{refl}
 use Prim.Native.Nat.{_-_, _≤_}
 use lib.ListN.{length}
 use borrow.Author.Needs.{needs}
 use Rattle.script_run.proofs.write_out.Statement.{statement}
 use Rattle.script_run.proofs.write_out.Tie as tie
+use Rattle.octets.specs.Undivided.{Undivided}
+use Rattle.script_run.proofs.write_out.Code.Mir.{function}
 
 abbrev Inv-loop : tie.InvT-loop
 Inv-loop bytes done₀ done = done ≤ length bytes
@@ -61,3 +65,6 @@ write-out-spec =
     loop-less
     loop-again
     returns-2)
+
+pub undivided : Undivided ("io::count" ∷ "libc::write" ∷ []) function
+undivided = refl

@@ -1,4 +1,5 @@
 -- `sentence_write::write_certificate` meets its contract. Assumes nothing.
+use mathlib.Core.Path.{refl}
 use Rattle.quorum.specs.Certificate.{stationAnswer}
 use Rattle.sentence.specs.Sentence.{stationSaid}
 use Rattle.refusal.specs.Answer.{answer}
@@ -7,6 +8,8 @@ use Rattle.sentence_write.proofs.TextLaws.{said-as, certified-said, unc
 use borrow.Author.Needs.{needs}
 use Rattle.sentence_write.proofs.write_certificate.Statement.{statement}
 use Rattle.sentence_write.proofs.write_certificate.Tie as tie
+use Rattle.octets.specs.Undivided.{Undivided}
+use Rattle.sentence_write.proofs.write_certificate.Code.Mir.{function}
 
 enum-known-station : tie.Need-enum-known-station
 enum-known-station c = search needs
@@ -48,3 +51,6 @@ write-certificate-spec =
     returns
     same-length-2
     returns-2)
+
+pub undivided : Undivided ("refusal::Refusal::number" ∷ "sentence_write::write_certificate_values" ∷ []) function
+undivided = refl

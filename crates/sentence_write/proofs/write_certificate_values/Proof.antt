@@ -2,13 +2,15 @@
 use Rattle.sentence.specs.Sentence.{Said, stationSaid, sentenceOf, padded}
 use Prim.Native.Nat.{ℕ}
 use mathlib.Core.List.{List, [], _∷_}
-use mathlib.Core.Path.{ap, _∙_}
+use mathlib.Core.Path.{ap, _∙_, refl}
 use Rattle.octets.specs.Octets.{splice}
 use Rattle.refusal.specs.Answer.{answer}
 use Rattle.sentence_write.proofs.TextLaws.{refused-length, written}
 use borrow.Author.Needs.{needs}
 use Rattle.sentence_write.proofs.write_certificate_values.Statement.{statement}
 use Rattle.sentence_write.proofs.write_certificate_values.Tie as tie
+use Rattle.octets.specs.Undivided.{Undivided}
+use Rattle.sentence_write.proofs.write_certificate_values.Code.Mir.{function}
 
 returns : tie.Need-returns
 returns c = refused-length (c .before .before .args .out .now) (padded (sentenceOf (stationSaid (answer (c .before .before .args .number) (c .before .before .args .place ∷ c .before .before .args .mask ∷ []))))) (c .if1 .taken)
@@ -54,3 +56,6 @@ write-certificate-values-spec =
     put-requires
     same-length
     returns-2)
+
+pub undivided : Undivided ("octets::put" ∷ "sentence_write::sentences::put_certificate" ∷ "sentence_write::zero_text" ∷ []) function
+undivided = refl

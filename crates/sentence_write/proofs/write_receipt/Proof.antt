@@ -1,4 +1,5 @@
 -- `sentence_write::write_receipt` meets its contract. Assumes nothing.
+use mathlib.Core.Path.{refl}
 use Rattle.receipt.specs.Verdict.{verdictAnswer}
 use Rattle.sentence.specs.Sentence.{receiptSaid}
 use Rattle.refusal.specs.Answer.{answer}
@@ -7,6 +8,8 @@ use Rattle.sentence_write.proofs.TextLaws.{said-as, accepted-said, refu
 use borrow.Author.Needs.{needs}
 use Rattle.sentence_write.proofs.write_receipt.Statement.{statement}
 use Rattle.sentence_write.proofs.write_receipt.Tie as tie
+use Rattle.octets.specs.Undivided.{Undivided}
+use Rattle.sentence_write.proofs.write_receipt.Code.Mir.{function}
 
 enum-known-verdict : tie.Need-enum-known-verdict
 enum-known-verdict c = search needs
@@ -56,3 +59,6 @@ write-receipt-spec =
     returns
     same-length-2
     returns-2)
+
+pub undivided : Undivided ("octets::wide" ∷ "refusal::Refusal::number" ∷ "sentence_write::write_receipt_values" ∷ []) function
+undivided = refl

@@ -1,11 +1,14 @@
 -- `workload_write::begin` meets its contract.
-use mathlib.Core.Path.{sym, _∙_}
+use mathlib.Core.List.{[], _∷_}
+use mathlib.Core.Path.{sym, _∙_, refl}
 use native.Mathlib.Omega.{arith}
 use Rattle.decimal.proofs.Theorems.{length-decimal}
 use Rattle.workload_write.proofs.WriteLaws.{script-first, refused-first}
 use borrow.Author.Needs.{needs}
 use Rattle.workload_write.proofs.begin.Statement.{statement}
 use Rattle.workload_write.proofs.begin.Tie as tie
+use Rattle.octets.specs.Undivided.{Undivided}
+use Rattle.workload_write.proofs.begin.Code.Mir.{function}
 
 ask-requires : tie.Need-ask-requires
 ask-requires c κs = search needs
@@ -75,3 +78,6 @@ begin-spec =
     returns
     same-length-2
     returns-2)
+
+pub undivided : Undivided ("decimal::write::put" ∷ "octets::put" ∷ "octets::wide" ∷ "refusal::Refusal::number" ∷ "workload::input::ask" ∷ []) function
+undivided = refl

@@ -1,10 +1,13 @@
 -- `workload_write::fields_of` meets its contract.
-use mathlib.Core.Path.{ap, sym}
+use mathlib.Core.List.{[]}
+use mathlib.Core.Path.{ap, sym, refl}
 use native.Mathlib.Omega.{arith}
 use Rattle.workload.specs.Text.{fieldsIn}
 use borrow.Author.Needs.{needs}
 use Rattle.workload_write.proofs.fields_of.Statement.{statement}
 use Rattle.workload_write.proofs.fields_of.Tie as tie
+use Rattle.octets.specs.Undivided.{Undivided}
+use Rattle.workload_write.proofs.fields_of.Code.Mir.{function}
 
 enum-known-draw : tie.Need-enum-known-draw
 enum-known-draw c = search needs
@@ -50,3 +53,6 @@ fields-of-spec =
     returns-3
     returns-4
     returns-5)
+
+pub undivided : Undivided [] function
+undivided = refl

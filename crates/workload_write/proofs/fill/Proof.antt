@@ -1,4 +1,5 @@
 -- `workload_write::fill` meets its contract.
+use mathlib.Core.List.{[], _∷_}
 use mathlib.Core.Path.{_≡_, refl, _∙_}
 use mathlib.Core.Logic.{inl, inr}
 use native.Mathlib.Omega.{arith}
@@ -7,6 +8,8 @@ use Rattle.workload_write.proofs.FillLaws.{Filling, filling-none, next-
 use borrow.Author.Needs.{needs}
 use Rattle.workload_write.proofs.fill.Statement.{statement}
 use Rattle.workload_write.proofs.fill.Tie as tie
+use Rattle.octets.specs.Undivided.{Undivided}
+use Rattle.workload_write.proofs.fill.Code.Mir.{function}
 
 abbrev Inv-loop : tie.InvT-loop
 Inv-loop out₀ state left x₀ n₀ to₀ out x n to = Filling out₀ state left out x n to × (length out ≡ length out₀)
@@ -79,3 +82,6 @@ fill-spec =
     loop-again
     same-length-2
     returns-2)
+
+pub undivided : Undivided ("workload::generator::pick" ∷ "workload_write::put_line" ∷ []) function
+undivided = refl

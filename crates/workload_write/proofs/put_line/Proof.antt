@@ -1,6 +1,6 @@
 -- `workload_write::put_line` meets its contract.
-use mathlib.Core.List.{List}
-use mathlib.Core.Path.{ap, _∙_}
+use mathlib.Core.List.{List, [], _∷_}
+use mathlib.Core.Path.{ap, _∙_, refl}
 use Prim.Native.Nat.{ℕ}
 use native.Mathlib.Omega.{arith}
 use lib.ListN.{length, length-set}
@@ -10,6 +10,8 @@ use Rattle.workload_write.proofs.WriteLaws.{call-length, call-put}
 use borrow.Author.Needs.{needs}
 use Rattle.workload_write.proofs.put_line.Statement.{statement}
 use Rattle.workload_write.proofs.put_line.Tie as tie
+use Rattle.octets.specs.Undivided.{Undivided}
+use Rattle.workload_write.proofs.put_line.Code.Mir.{function}
 
 put-word-requires : tie.Need-put-word-requires
 put-word-requires c κs = omega (arith, c .before .before .pre, call-length (c .before .before .args .draw))
@@ -62,3 +64,6 @@ put-line-spec =
     add-result
     same-length
     returns)
+
+pub undivided : Undivided ("workload_write::fields_of" ∷ "workload_write::put_numbers" ∷ "workload_write::put_word" ∷ []) function
+undivided = refl

@@ -1,12 +1,15 @@
 -- `workload_write::put_number` meets its contract.
-use mathlib.Core.Path.{_∙_}
+use mathlib.Core.List.{[], _∷_}
+use mathlib.Core.Path.{_∙_, refl}
 use native.Mathlib.Omega.{arith}
 use lib.ListN.{length-set}
 use Rattle.decimal.specs.Decimal.{decimalOf}
-use Rattle.workload_write.proofs.WriteLaws.{byte-before}
+use Rattle.octets.proofs.Parts.{byte-before}
 use borrow.Author.Needs.{needs}
 use Rattle.workload_write.proofs.put_number.Statement.{statement}
 use Rattle.workload_write.proofs.put_number.Tie as tie
+use Rattle.octets.specs.Undivided.{Undivided}
+use Rattle.workload_write.proofs.put_number.Code.Mir.{function}
 
 slice-write-out : tie.Need-slice-write-out
 slice-write-out c = search needs
@@ -32,3 +35,6 @@ put-number-spec =
     put-requires
     same-length
     returns)
+
+pub undivided : Undivided ("decimal::write::put" ∷ []) function
+undivided = refl

@@ -1,7 +1,7 @@
 -- `workload_write::put_numbers` meets its contract.
 use Prim.Native.Nat.{ℕ, _+_, _-_, _≤_}
 use mathlib.Core.Path.{_≡_, refl, sym, ap, ap₂, _∙_}
-use mathlib.Core.List.{List, _∷_, _++_}
+use mathlib.Core.List.{List, _∷_, _++_, []}
 use native.Mathlib.Omega.{arith}
 use lib.ListN.{length, take, getD, length-append}
 use Rattle.octets.specs.Octets.{splice}
@@ -12,6 +12,8 @@ use Rattle.workload_write.proofs.WriteLaws.{numbers-start, numbers-more
 use borrow.Author.Needs.{needs}
 use Rattle.workload_write.proofs.put_numbers.Statement.{statement}
 use Rattle.workload_write.proofs.put_numbers.Tie as tie
+use Rattle.octets.specs.Undivided.{Undivided}
+use Rattle.workload_write.proofs.put_numbers.Code.Mir.{function}
 
 abbrev Inv-loop : tie.InvT-loop
 Inv-loop out₀ at count values to₀ i₀ out to i = (i ≤ count) × (to ≡ at + length (numbersText (take i values))) × (out ≡ splice out₀ at (numbersText (take i values))) × (length out ≡ length out₀)
@@ -82,3 +84,6 @@ put-numbers-spec =
     loop-again
     same-length
     returns)
+
+pub undivided : Undivided ("workload_write::put_number" ∷ []) function
+undivided = refl

@@ -1,9 +1,13 @@
 -- `workload_write::put_word` meets its contract.
+use mathlib.Core.List.{[], _∷_}
+use mathlib.Core.Path.{refl}
 use lib.ListN.{length}
 use Rattle.workload_write.proofs.WriteLaws.{word-room, word-put}
 use borrow.Author.Needs.{needs}
 use Rattle.workload_write.proofs.put_word.Statement.{statement}
 use Rattle.workload_write.proofs.put_word.Tie as tie
+use Rattle.octets.specs.Undivided.{Undivided}
+use Rattle.workload_write.proofs.put_word.Code.Mir.{function}
 
 enum-told : tie.Need-enum-told
 enum-told c = search needs
@@ -129,3 +133,6 @@ put-word-spec =
     returns-4
     same-length-5
     returns-5)
+
+pub undivided : Undivided ("octets::put" ∷ []) function
+undivided = refl

@@ -1,9 +1,13 @@
 -- `report::show` ends: each turn passes a `%`.
+use mathlib.Core.List.{[], _∷_}
+use mathlib.Core.Path.{refl}
 use Prim.Native.Nat.{_-_, _≤_}
 use lib.ListN.{length}
 use borrow.Author.Needs.{needs}
 use Rattle.cases.proofs.report.show.Statement.{statement}
 use Rattle.cases.proofs.report.show.Tie as tie
+use Rattle.octets.specs.Undivided.{Undivided}
+use Rattle.cases.proofs.report.show.Code.Mir.{function}
 
 abbrev Inv-loop : tie.InvT-loop
 Inv-loop t values at₀ i₀ at i = 0 ≤ at
@@ -89,3 +93,6 @@ show-spec =
     loop-less
     loop-again
     returns-2)
+
+pub undivided : Undivided ("cases::report::value" ∷ "line::fields::find" ∷ "printing::text" ∷ []) function
+undivided = refl

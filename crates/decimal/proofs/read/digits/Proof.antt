@@ -1,4 +1,5 @@
 -- `decimal::read::digits` meets its contract.
+use mathlib.Core.List.{[], _∷_}
 use Rattle.decimal.proofs.Laws.{read-on, read-out, read-end}
 use mathlib.Core.Path.{_≡_, refl, sym, _∙_}
 use borrow.Author.Needs.{needs}
@@ -8,6 +9,8 @@ use lib.ListN.{length, drop}
 use Prim.Native.Nat.{_≤_, _-_}
 use Rattle.decimal.proofs.read.digits.Statement.{statement}
 use Rattle.decimal.proofs.read.digits.Tie as tie
+use Rattle.octets.specs.Undivided.{Undivided}
+use Rattle.decimal.proofs.read.digits.Code.Mir.{function}
 
 abbrev Inv-loop : tie.InvT-loop
 Inv-loop s v₀ i₀ v i = (i ≤ length s) × (readAfter 0 s ≡ readAfter v (drop i s))
@@ -61,3 +64,6 @@ digits-spec =
     loop-less
     loop-again
     returns-2)
+
+pub undivided : Undivided ("decimal::read::more" ∷ []) function
+undivided = refl

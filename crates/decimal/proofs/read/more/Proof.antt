@@ -1,4 +1,6 @@
 -- `decimal::read::more` meets its contract.
+use mathlib.Core.List.{[]}
+use mathlib.Core.Path.{refl}
 use Rattle.decimal.specs.Decimal.{moreOf}
 use Prim.Native.Nat.{_*_, _+_, _-_, _^_}
 use native.Mathlib.Omega.{arith}
@@ -6,6 +8,8 @@ use borrow.Author.Tests.{lt-leb, le-leb, lt-ltb, le-ltb}
 use borrow.Author.Needs.{needs}
 use Rattle.decimal.proofs.read.more.Statement.{statement}
 use Rattle.decimal.proofs.read.more.Tie as tie
+use Rattle.octets.specs.Undivided.{Undivided}
+use Rattle.decimal.proofs.read.more.Code.Mir.{function}
 
 returns : tie.Need-returns
 unfolding moreOf
@@ -43,3 +47,6 @@ pub more-spec : {M : Type 1} → statement M
 more-spec =
     tie.close
     (tie.spec returns returns-2 returns-3 mul-tens cast-digit sub-if4 returns-4 add-t7 returns-5)
+
+pub undivided : Undivided [] function
+undivided = refl

@@ -1,11 +1,14 @@
 -- `decimal::read::parse` meets its contract.
+use mathlib.Core.List.{[], _∷_}
 use mathlib.Core.Logic.{⊎-elim}
 use native.Mathlib.Omega.{arith}
 use Rattle.decimal.proofs.Laws.{number-none, number-zero, number-read}
-use mathlib.Core.Path.{sym, _∙_}
+use mathlib.Core.Path.{sym, _∙_, refl}
 use borrow.Author.Needs.{needs}
 use Rattle.decimal.proofs.read.parse.Statement.{statement}
 use Rattle.decimal.proofs.read.parse.Tie as tie
+use Rattle.octets.specs.Undivided.{Undivided}
+use Rattle.decimal.proofs.read.parse.Code.Mir.{function}
 
 returns : tie.Need-returns
 returns c = sym (number-none (c .before .before .args .s .now) (omega arith))
@@ -24,3 +27,6 @@ returns-3 c = c .digits .ensures ∙ sym (number-read (c .before .before .before
 
 pub parse-spec : {M : Type 1} → statement M
 parse-spec = tie.close (tie.spec returns shared-slice-read-if3 returns-2 digits-requires returns-3)
+
+pub undivided : Undivided ("decimal::read::digits" ∷ []) function
+undivided = refl

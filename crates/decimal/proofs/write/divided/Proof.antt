@@ -1,33 +1,76 @@
 -- `decimal::write::divided` meets its contract.
-use Rattle.decimal.proofs.Laws.{small, quotient, remainder}
-use mathlib.Core.Path.{_≡_}
+use mathlib.Core.List.{[], _∷_}
+use mathlib.Core.Path.{refl}
+use Rattle.decimal.proofs.Laws.{parted}
 use borrow.Author.Needs.{needs}
-use native.Mathlib.Omega.{arith}
-use Prim.Native.Nat.{_-_, _+_, _*_}
 use Rattle.decimal.proofs.write.divided.Statement.{statement}
 use Rattle.decimal.proofs.write.divided.Tie as tie
+use Rattle.decimal.proofs.write.divided.Reads as reads
+use Rattle.decimal.proofs.write.divided.Lts as lts
+use Rattle.decimal.proofs.write.often.Reads as often-reads
+use Rattle.octets.specs.Undivided.{Undivided}
+use Rattle.decimal.proofs.write.divided.Code.Mir.{function}
 
-abbrev Inv-loop : tie.InvT-loop
-Inv-loop n p rest₀ digit₀ rest digit = rest + digit * p ≡ n
+-- src/write.rt:64:16
+mul-four : tie.Need-mul-four
+mul-four c = search needs
 
-abbrev μ-loop : tie.MeasureT-loop
-μ-loop n p rest₀ digit₀ rest digit = rest
+-- src/write.rt:65:9
+often-requires : tie.Need-often-requires
+often-requires c κs = search needs
 
-loop-holds : tie.Need-loop-holds Inv-loop μ-loop
-loop-holds c = search needs
+-- src/write.rt:66:20
+mul-left : tie.Need-mul-left
+mul-left c = search needs
 
-add-digit : tie.Need-add-digit Inv-loop μ-loop
-add-digit c = record { fits = omega (arith, small (c .before .loop .digit) (c .before .before .args .p) (c .before .before .args .n) (omega arith) (omega arith)) }
+-- src/write.rt:66:16
+sub-left : tie.Need-sub-left
+sub-left c = search needs
 
-loop-less : tie.Need-loop-less Inv-loop μ-loop
-loop-less c = search needs
+-- src/write.rt:67:9
+often-requires-2 : tie.Need-often-requires-2
+often-requires-2 c κs = search needs
 
-loop-again : tie.Need-loop-again Inv-loop μ-loop
-loop-again c = search needs
+-- src/write.rt:69:17
+mul-t7 : tie.Need-mul-t7
+mul-t7 c = search needs
 
-returns : tie.Need-returns Inv-loop μ-loop
-returns c = (quotient (c .before .before .args .n) (c .before .before .args .p) (c .before .loop .digit) (c .before .loop .rest) (omega arith) (omega arith), remainder (c .before .before .args .n) (c .before .before .args .p) (c .before .loop .digit) (c .before .loop .rest) (omega arith) (omega arith), small (c .before .loop .digit) (c .before .before .args .p) (c .before .before .args .n) (omega arith) (omega arith))
+-- src/write.rt:69:17
+add-t8 : tie.Need-add-t8
+add-t8 c = search needs
+
+-- src/write.rt:69:16
+cast-t9 : tie.Need-cast-t9
+cast-t9 c = search needs
+
+-- src/write.rt:70:22
+mul-t10 : tie.Need-mul-t10
+mul-t10 c = search needs
+
+-- src/write.rt:70:15
+sub-t11 : tie.Need-sub-t11
+sub-t11 c = search needs
+
+-- src/write.rt:60:1
+returns : tie.Need-returns
+returns c = let a = c .before .before .args in
+    parted (a .n) (a .p) (c .before .often .result) (c .often2 .result) (c .before .before .pre .0) (c .before .often .ensures) (c .often2 .ensures)
 
 pub divided-spec : {M : Type 1} → statement M
 divided-spec =
-    tie.close (tie.spec Inv-loop μ-loop loop-holds add-digit loop-less loop-again returns)
+    tie.close
+    (tie.spec
+    mul-four
+    often-requires
+    mul-left
+    sub-left
+    often-requires-2
+    mul-t7
+    add-t8
+    cast-t9
+    mul-t10
+    sub-t11
+    returns)
+
+pub undivided : Undivided ("decimal::write::often" ∷ []) function
+undivided = refl

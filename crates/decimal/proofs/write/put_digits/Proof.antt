@@ -2,14 +2,16 @@
 use mathlib.Core.Path.{ap₂, _≡_, refl, sym, ap, _∙_, subst}
 use lib.ListN.{set, length, drop, length-set}
 use Prim.Native.Nat.{_%_, _/_, ℕ, suc, _≤_, _<_, _-_, _+_, _^_}
-use mathlib.Core.List.{List}
-use Rattle.decimal.proofs.Laws.{times-ten, rest-lt, digits-left, put-next, pasted, length-digitsOf}
+use mathlib.Core.List.{List, [], _∷_}
+use Rattle.decimal.proofs.Laws.{times-ten, small-power, rest-lt, digits-left, put-next, pasted, length-digitsOf}
 use native.Mathlib.Omega.{arith}
 use Rattle.decimal.specs.Decimal.{digitsOf}
 use lib.Seq.{paste, paste-zero}
 use borrow.Author.Needs.{needs}
 use Rattle.decimal.proofs.write.put_digits.Statement.{statement}
 use Rattle.decimal.proofs.write.put_digits.Tie as tie
+use Rattle.octets.specs.Undivided.{Undivided}
+use Rattle.decimal.proofs.write.put_digits.Code.Mir.{function}
 
 abbrev Inv-loop : tie.InvT-loop
 Inv-loop out₀ at n k rest₀ i₀ left₀ out rest i left = (left ≤ k) × (i + left ≡ at + k) × (rest < 10 ^ left) × (drop (k - left) (digitsOf k n) ≡ digitsOf left rest) × (out ≡ paste out₀ at (digitsOf k n) (k - left)) × (length out ≡ length out₀)
@@ -31,7 +33,7 @@ power-requires : tie.Need-power-requires Inv-loop μ-loop
 power-requires c κs = search needs
 
 divided-requires : tie.Need-divided-requires Inv-loop μ-loop
-divided-requires c κs = times-ten (c .before .before .loop .rest) (c .before .before .loop .left) (c .power .result) (omega arith) (c .before .before .loop .inv .2) (c .power .ensures)
+divided-requires c κs = let l = c .before .before .loop in (times-ten (l .rest) (l .left) (c .power .result) (omega arith) (l .inv .2) (c .power .ensures), small-power (l .left) (c .power .result) (omega arith) (omega arith) (c .power .ensures))
 
 add-out : tie.Need-add-out Inv-loop μ-loop
 add-out c = search needs
@@ -97,3 +99,6 @@ put-digits-spec =
     loop-again
     same-length
     returns)
+
+pub undivided : Undivided ("decimal::write::divided" ∷ "decimal::write::power" ∷ []) function
+undivided = refl

@@ -1,9 +1,12 @@
 -- `line::answer::put_byte` meets its contract.
+use mathlib.Core.List.{[]}
 use Rattle.octets.proofs.Parts.{splice-byte}
 use mathlib.Core.Path.{refl}
 use borrow.Author.Needs.{needs}
 use Rattle.line.proofs.answer.put_byte.Statement.{statement}
 use Rattle.line.proofs.answer.put_byte.Tie as tie
+use Rattle.octets.specs.Undivided.{Undivided}
+use Rattle.line.proofs.answer.put_byte.Code.Mir.{function}
 
 slice-write-out : tie.Need-slice-write-out
 slice-write-out c = search needs
@@ -19,3 +22,6 @@ returns c = (refl, splice-byte (c .args .out .now) (c .args .at) (c .args .b) (s
 
 pub put-byte-spec : {M : Type 1} → statement M
 put-byte-spec = tie.close (tie.spec slice-write-out add-result same-length returns)
+
+pub undivided : Undivided [] function
+undivided = refl

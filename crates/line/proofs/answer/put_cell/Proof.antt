@@ -6,10 +6,12 @@ use lib.ListN.{length, length-append}
 use Rattle.line.specs.Answer.{cellText}
 use Rattle.octets.proofs.Parts.{length-splice, splice-append}
 use Rattle.octets.specs.Octets.{splice}
-use mathlib.Core.Path.{ap, ap₂, _∙_}
+use mathlib.Core.Path.{ap, ap₂, _∙_, refl}
 use borrow.Author.Needs.{needs}
 use Rattle.line.proofs.answer.put_cell.Statement.{statement}
 use Rattle.line.proofs.answer.put_cell.Tie as tie
+use Rattle.octets.specs.Undivided.{Undivided}
+use Rattle.line.proofs.answer.put_cell.Code.Mir.{function}
 
 put-text-requires : tie.Need-put-text-requires
 put-text-requires c κs = omega (arith, length-append (cellText (c .before .before .args .cell)) (c .before .before .args .mark ∷ []))
@@ -32,3 +34,6 @@ returns c = let a = c .before .before .before .before .before .before .before .b
 
 pub put-cell-spec : {M : Type 1} → statement M
 put-cell-spec = tie.close (tie.spec put-text-requires put-byte-requires same-length returns)
+
+pub undivided : Undivided ("line::answer::put_byte" ∷ "line::answer::put_text" ∷ []) function
+undivided = refl

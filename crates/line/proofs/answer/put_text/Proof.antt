@@ -1,14 +1,17 @@
 -- `line::answer::put_text` meets its contract.
+use mathlib.Core.List.{[], _∷_}
 use native.Mathlib.Omega.{arith}
 use Prim.Native.Nat.{_+_, _≤_}
 use lib.ListN.{length}
 use Rattle.line.specs.Answer.{cellText}
 use Rattle.octets.specs.Octets.{splice}
 use Rattle.line.specs.declared.Cell.{Cell}
-use mathlib.Core.Path.{sym, ap, subst, _∙_}
+use mathlib.Core.Path.{sym, ap, subst, _∙_, refl}
 use borrow.Author.Needs.{needs}
 use Rattle.line.proofs.answer.put_text.Statement.{statement}
 use Rattle.line.proofs.answer.put_text.Tie as tie
+use Rattle.octets.specs.Undivided.{Undivided}
+use Rattle.line.proofs.answer.put_text.Code.Mir.{function}
 
 enum-told : tie.Need-enum-told
 enum-told c = search needs
@@ -62,3 +65,6 @@ put-text-spec =
     returns-2
     same-length-3
     returns-3)
+
+pub undivided : Undivided ("decimal::write::put" ∷ "line::answer::put_byte" ∷ []) function
+undivided = refl

@@ -12,6 +12,8 @@ use mathlib.Core.Path.{_≡_, refl, sym, ap, ap₂, _∙_}
 use borrow.Author.Needs.{needs}
 use Rattle.line.proofs.answer.render.Statement.{statement}
 use Rattle.line.proofs.answer.render.Tie as tie
+use Rattle.octets.specs.Undivided.{Undivided}
+use Rattle.line.proofs.answer.render.Code.Mir.{function}
 
 abbrev Inv-loop : tie.InvT-loop
 Inv-loop out₀ at cells to₀ i₀ out to i = (i ≤ 7) × (to ≡ at + length (commas (take i cells))) × (out ≡ splice out₀ at (commas (take i cells))) × (length out ≡ length out₀)
@@ -85,3 +87,6 @@ render-spec =
     put-cell-requires-2
     same-length
     returns)
+
+pub undivided : Undivided ("line::answer::put_cell" ∷ []) function
+undivided = refl

@@ -1,4 +1,5 @@
 -- `line::commands::command` meets its contract.
+use mathlib.Core.List.{[], _∷_}
 use Prim.Native.Nat.{ℕ, _+_}
 use mathlib.Core.Logic.{⊎-elim}
 use lib.ListN.{getD}
@@ -13,6 +14,8 @@ use borrow.Author.Needs.{needs}
 use Rattle.line.proofs.commands.command.Statement.{statement}
 use Rattle.line.specs.declared.Word.the-variants as word
 use Rattle.line.proofs.commands.command.Tie as tie
+use Rattle.octets.specs.Undivided.{Undivided}
+use Rattle.line.proofs.commands.command.Code.Mir.{function}
 
 array-read-log : tie.Need-array-read-log
 array-read-log c = search needs
@@ -168,3 +171,6 @@ command-spec =
     enum-told-7
     alone-requires-6
     returns-7)
+
+pub undivided : Undivided ("line::commands::alone" ∷ "line::commands::following" ∷ []) function
+undivided = refl

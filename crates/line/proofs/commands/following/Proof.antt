@@ -1,4 +1,5 @@
 -- `line::commands::following` meets its contract.
+use mathlib.Core.List.{[]}
 use Prim.Native.Nat.{_≤_, _-_}
 use lib.ListN.{length, take, drop, length-set}
 use native.Mathlib.Omega.{arith}
@@ -7,6 +8,8 @@ use Rattle.line.proofs.CommandLaws.{following-more, following-all}
 use borrow.Author.Needs.{needs}
 use Rattle.line.proofs.commands.following.Statement.{statement}
 use Rattle.line.proofs.commands.following.Tie as tie
+use Rattle.octets.specs.Undivided.{Undivided}
+use Rattle.line.proofs.commands.following.Code.Mir.{function}
 
 abbrev Inv-loop : tie.InvT-loop
 Inv-loop v r₀ i₀ r i = (i ≤ 16) × (length r ≡ 16) × (take i r ≡ take i (drop 3 v))
@@ -61,3 +64,6 @@ following-spec =
     loop-less
     loop-again
     returns)
+
+pub undivided : Undivided [] function
+undivided = refl

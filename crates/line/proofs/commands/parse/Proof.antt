@@ -1,6 +1,6 @@
 -- `line::commands::parse` meets its contract.
 use Prim.Native.Nat.{ℕ, _+_, _-_}
-use mathlib.Core.List.{List}
+use mathlib.Core.List.{List, [], _∷_}
 use mathlib.Core.Option.{Option}
 use lib.ListN.{drop, take}
 use lib.Seq.{length-take-le}
@@ -14,6 +14,8 @@ use Rattle.line.proofs.FieldLaws.{field-part, last-field, more-fields}
 use borrow.Author.Needs.{needs}
 use Rattle.line.proofs.commands.parse.Statement.{statement}
 use Rattle.line.proofs.commands.parse.Tie as tie
+use Rattle.octets.specs.Undivided.{Undivided}
+use Rattle.line.proofs.commands.parse.Code.Mir.{function}
 
 alone-requires : tie.Need-alone-requires
 alone-requires c κs = search needs
@@ -103,3 +105,6 @@ parse-spec =
     returns-3
     command-requires
     returns-4)
+
+pub undivided : Undivided ("line::commands::alone" ∷ "line::commands::command" ∷ "line::commands::word" ∷ "line::fields::find" ∷ "line::fields::numbers" ∷ []) function
+undivided = refl

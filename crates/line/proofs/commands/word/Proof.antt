@@ -1,8 +1,11 @@
 -- `line::commands::word` meets its contract.
-use mathlib.Core.Path.{sym, _∙_}
+use mathlib.Core.List.{[], _∷_}
+use mathlib.Core.Path.{sym, _∙_, refl}
 use borrow.Author.Needs.{needs}
 use Rattle.line.proofs.commands.word.Statement.{statement}
 use Rattle.line.proofs.commands.word.Tie as tie
+use Rattle.octets.specs.Undivided.{Undivided}
+use Rattle.line.proofs.commands.word.Code.Mir.{function}
 
 slice-aggregate-equal : tie.Need-slice-aggregate-equal
 slice-aggregate-equal c = search needs
@@ -84,3 +87,6 @@ word-spec =
     equal-requires-6
     returns-6
     returns-7)
+
+pub undivided : Undivided ("octets::equal" ∷ []) function
+undivided = refl

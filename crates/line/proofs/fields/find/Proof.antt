@@ -1,13 +1,16 @@
 -- `line::fields::find` meets its contract.
+use mathlib.Core.List.{[]}
 use Rattle.line.specs.Fields.{upTo}
 use lib.ListN.{length, drop}
 use Prim.Native.Nat.{_+_, _-_, _≤_, max}
 use Rattle.line.proofs.FieldLaws.{first-comma, first-more, first-none}
 use native.Mathlib.Omega.{arith}
-use mathlib.Core.Path.{_≡_}
+use mathlib.Core.Path.{_≡_, refl}
 use borrow.Author.Needs.{needs}
 use Rattle.line.proofs.fields.find.Statement.{statement}
 use Rattle.line.proofs.fields.find.Tie as tie
+use Rattle.octets.specs.Undivided.{Undivided}
+use Rattle.line.proofs.fields.find.Code.Mir.{function}
 
 abbrev Inv-loop : tie.InvT-loop
 Inv-loop s from mark i₀ i = (i ≤ max from (length s)) × (from + length (upTo mark (drop from s)) ≡ i + length (upTo mark (drop i s)))
@@ -49,3 +52,6 @@ find-spec =
     loop-less
     loop-again
     returns-2)
+
+pub undivided : Undivided [] function
+undivided = refl

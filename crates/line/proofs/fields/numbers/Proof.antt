@@ -5,7 +5,7 @@ use mathlib.Core.List.{List, [], _∷_, _++_}
 use mathlib.Core.Option.{some}
 use lib.ListN.{length, drop, length-append, length-set}
 use native.Mathlib.Omega.{arith}
-use mathlib.Core.Path.{_≡_, sym, ap, _∙_}
+use mathlib.Core.Path.{_≡_, sym, ap, _∙_, refl}
 use Rattle.octets.specs.Octets.{zeros}
 use Rattle.line.specs.declared.Count.the-variants.{Of}
 use Rattle.line.specs.Fields.{fieldsOf, numbersOf}
@@ -15,6 +15,8 @@ use Rattle.line.proofs.FieldLaws.{Reading, reading-none, reading-bad, r
 use borrow.Author.Needs.{needs}
 use Rattle.line.proofs.fields.numbers.Statement.{statement}
 use Rattle.line.proofs.fields.numbers.Tie as tie
+use Rattle.octets.specs.Undivided.{Undivided}
+use Rattle.line.proofs.fields.numbers.Code.Mir.{function}
 
 abbrev Inv-loop : tie.InvT-loop
 Inv-loop s from values₀ at₀ n₀ values at n = (at ≤ length s) × (n ≤ at) × (length values ≡ 19) × Reading s from at n values
@@ -141,3 +143,6 @@ numbers-spec =
     add-at
     loop-less
     loop-again)
+
+pub undivided : Undivided ("decimal::read::parse" ∷ "line::fields::find" ∷ []) function
+undivided = refl

@@ -1,16 +1,18 @@
 -- `script_lines::lines::answer_line` meets its contract.
 use Prim.Native.Nat.{_+_}
-use mathlib.Core.List.{List}
+use mathlib.Core.List.{List, [], _∷_}
 use lib.ListN.{length}
 use Rattle.octets.specs.Octets.{splice}
 use Rattle.line.specs.declared.Cell.{Cell}
 use Rattle.line.specs.Answer.{lineText}
 use Rattle.script.specs.Script.{cellsOf, answerText, tableAfter}
 use Rattle.script.proofs.ReserveLaws.{line-turns}
-use mathlib.Core.Path.{ap, _∙_}
+use mathlib.Core.Path.{ap, _∙_, refl}
 use borrow.Author.Needs.{needs}
 use Rattle.script_lines.proofs.lines.answer_line.Statement.{statement}
 use Rattle.script_lines.proofs.lines.answer_line.Tie as tie
+use Rattle.octets.specs.Undivided.{Undivided}
+use Rattle.script_lines.proofs.lines.answer_line.Code.Mir.{function}
 
 parse-requires : tie.Need-parse-requires
 parse-requires c κs = search needs
@@ -60,3 +62,6 @@ answer-line-spec =
     same-length
     same-length-2
     returns)
+
+pub undivided : Undivided ("line::answer::render" ∷ "line::commands::parse" ∷ "script_lines::lines::cells" ∷ "script_lines::tables::carry_out" ∷ []) function
+undivided = refl

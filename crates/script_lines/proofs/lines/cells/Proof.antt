@@ -1,10 +1,13 @@
 -- `script_lines::lines::cells` meets its contract.
+use mathlib.Core.List.{[]}
 use Rattle.script.specs.Script.{cellsOf}
 use Rattle.script.specs.declared.Answer.{Answer}
-use mathlib.Core.Path.{sym, ap}
+use mathlib.Core.Path.{sym, ap, refl}
 use borrow.Author.Needs.{needs}
 use Rattle.script_lines.proofs.lines.cells.Statement.{statement}
 use Rattle.script_lines.proofs.lines.cells.Tie as tie
+use Rattle.octets.specs.Undivided.{Undivided}
+use Rattle.script_lines.proofs.lines.cells.Code.Mir.{function}
 
 enum-known-answer : tie.Need-enum-known-answer
 enum-known-answer c = search needs
@@ -34,3 +37,6 @@ cells-spec =
     returns
     returns-2
     returns-3)
+
+pub undivided : Undivided [] function
+undivided = refl

@@ -2,8 +2,8 @@
 use Rattle.script.specs.declared.Progress.{Progress}
 use Rattle.script.proofs.Reading.{state, feeds-none, feeds-part, feeds-line, from-start}
 use Prim.Native.Nat.{ℕ, _<_, _≤_, _-_}
-use mathlib.Core.List.{List}
-use mathlib.Core.Path.{subst, _≡_, sym}
+use mathlib.Core.List.{List, [], _∷_}
+use mathlib.Core.Path.{subst, _≡_, sym, refl}
 use lib.ListN.{length-take, length, take}
 use lib.Seq.{take-all, length-take-le}
 use mathlib.Core.Logic.{_≢_}
@@ -12,6 +12,8 @@ use native.Mathlib.Omega.{arith}
 use borrow.Author.Needs.{needs}
 use Rattle.script_lines.proofs.pieces.feed.Statement.{statement}
 use Rattle.script_lines.proofs.pieces.feed.Tie as tie
+use Rattle.octets.specs.Undivided.{Undivided}
+use Rattle.script_lines.proofs.pieces.feed.Code.Mir.{function}
 
 abbrev Inv-loop : tie.InvT-loop
 Inv-loop piece buffer₀ held₀ out₀ at₀ s₀ buffer held out at s = (at ≤ length piece) × Feeds (take at piece) buffer₀ held₀ out₀ s₀ buffer held out s × (length out ≡ length out₀)
@@ -127,3 +129,6 @@ feed-spec =
     same-length-5
     same-length-6
     returns-2)
+
+pub undivided : Undivided ("line::fields::find" ∷ "script_lines::lines::answer_line" ∷ "script_lines::pieces::keep" ∷ []) function
+undivided = refl

@@ -3,13 +3,15 @@ use Rattle.script.proofs.StreamLaws.{kept-bytes}
 use native.Mathlib.Numerals.{add-one}
 use lib.Seq.{paste, paste-zero, paste-suc, take-paste, length-take-le}
 use lib.ListN.{length, take, set, length-set, getD}
-use mathlib.Core.List.{List}
+use mathlib.Core.List.{List, [], _∷_}
 use Prim.Native.Nat.{ℕ, _+_, _-_, _≤_}
 use native.Mathlib.Omega.{arith}
 use mathlib.Core.Path.{_≡_, refl, sym, ap, _∙_}
 use borrow.Author.Needs.{needs}
 use Rattle.script_lines.proofs.pieces.keep.Statement.{statement}
 use Rattle.script_lines.proofs.pieces.keep.Tie as tie
+use Rattle.octets.specs.Undivided.{Undivided}
+use Rattle.script_lines.proofs.pieces.keep.Code.Mir.{function}
 
 abbrev Inv-loop : tie.InvT-loop
 Inv-loop held₀ kept part n i₀ held i = (i ≤ n) × (held ≡ paste held₀ kept part i) × (length held ≡ length held₀)
@@ -92,3 +94,6 @@ keep-spec =
     add-result
     same-length
     returns)
+
+pub undivided : Undivided ("script_lines::pieces::least" ∷ []) function
+undivided = refl

@@ -1,4 +1,5 @@
 -- `script_lines::tables::carry_out` meets its contract.
+use mathlib.Core.List.{[], _∷_}
 use Rattle.a2m.proofs.Unchanged.{read-unchanged}
 use lib.ListN.{take}
 use Rattle.script.specs.Script.{commandAnswer, commandTable, lent, Turns}
@@ -10,6 +11,8 @@ use mathlib.Core.Path.{refl, sym, ap, subst, _∙_}
 use borrow.Author.Needs.{needs}
 use Rattle.script_lines.proofs.tables.carry_out.Statement.{statement}
 use Rattle.script_lines.proofs.tables.carry_out.Tie as tie
+use Rattle.octets.specs.Undivided.{Undivided}
+use Rattle.script_lines.proofs.tables.carry_out.Code.Mir.{function}
 
 enum-known-command : tie.Need-enum-known-command
 enum-known-command c = search needs
@@ -207,3 +210,6 @@ carry-out-spec =
     same-length-6
     returns-6
     returns-7)
+
+pub undivided : Undivided ("octets::wide" ∷ "refusal::Refusal::number" ∷ "script_calls::advance" ∷ "script_calls::append" ∷ "script_calls::end" ∷ "script_calls::lookup" ∷ "script_calls::truncate" ∷ "script_lines::tables::format" ∷ []) function
+undivided = refl

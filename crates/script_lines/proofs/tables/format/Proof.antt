@@ -3,14 +3,16 @@ use Rattle.layout.specs.Layout.{largest}
 use Rattle.refusal.specs.Number.{numberOf}
 use Rattle.octets.specs.Octets.{zeros}
 use Prim.Native.Nat.{ℕ, _≤_}
-use mathlib.Core.List.{List}
+use mathlib.Core.List.{List, [], _∷_}
 use lib.ListN.{take}
 use Rattle.script.proofs.TurnLaws.{many-logs, many-slots, format-counts, format-done, format-refused}
 use native.Mathlib.Omega.{arith}
-use mathlib.Core.Path.{_≡_, _∙_}
+use mathlib.Core.Path.{_≡_, _∙_, refl}
 use borrow.Author.Needs.{needs}
 use Rattle.script_lines.proofs.tables.format.Statement.{statement}
 use Rattle.script_lines.proofs.tables.format.Tie as tie
+use Rattle.octets.specs.Undivided.{Undivided}
+use Rattle.script_lines.proofs.tables.format.Code.Mir.{function}
 
 returns : tie.Need-returns
 returns c =
@@ -116,3 +118,6 @@ format-spec =
     returns-3
     same-length-2
     returns-4)
+
+pub undivided : Undivided ("layout::places::table_size" ∷ "octets::wide" ∷ "refusal::Refusal::number" ∷ "table_format::format" ∷ []) function
+undivided = refl

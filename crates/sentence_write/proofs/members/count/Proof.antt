@@ -1,13 +1,16 @@
 -- `sentence_write::members::count` meets its contract. Assumes nothing.
+use mathlib.Core.List.{[], _∷_}
 use Prim.Native.Nat.{ℕ, _+_, _≤_, _-_}
 use Rattle.sentence.specs.Sentence.{membersBelow}
 use lib.ListN.{length}
-use mathlib.Core.Path.{_≡_, ap, _∙_}
+use mathlib.Core.Path.{_≡_, ap, _∙_, refl}
 use native.Mathlib.Omega.{arith}
 use Rattle.sentence_write.proofs.LedLaws.{count-none, count-more, count-most}
 use borrow.Author.Needs.{needs}
 use Rattle.sentence_write.proofs.members.count.Statement.{statement}
 use Rattle.sentence_write.proofs.members.count.Tie as tie
+use Rattle.octets.specs.Undivided.{Undivided}
+use Rattle.sentence_write.proofs.members.count.Code.Mir.{function}
 
 abbrev Inv-loop : tie.InvT-loop
 Inv-loop mask n₀ i₀ n i = (i ≤ 32) × (n ≡ length (membersBelow i mask))
@@ -40,3 +43,6 @@ pub count-spec : {M : Type 1} → statement M
 count-spec =
     tie.close
     (tie.spec Inv-loop μ-loop loop-holds bit-of-requires add-n add-i loop-less loop-again returns)
+
+pub undivided : Undivided ("sentence_write::members::bit_of" ∷ []) function
+undivided = refl

@@ -1,9 +1,13 @@
 -- `sentence_write::members::put_member` meets its contract. Assumes nothing.
+use mathlib.Core.List.{[], _∷_}
+use mathlib.Core.Path.{refl}
 use Rattle.sentence.specs.Text.{ascii}
 use Rattle.sentence_write.proofs.LedLaws.{none-wrote, comma-wrote, alone-wrote, first-wrote}
 use borrow.Author.Needs.{needs}
 use Rattle.sentence_write.proofs.members.put_member.Statement.{statement}
 use Rattle.sentence_write.proofs.members.put_member.Tie as tie
+use Rattle.octets.specs.Undivided.{Undivided}
+use Rattle.sentence_write.proofs.members.put_member.Code.Mir.{function}
 
 bit-of-requires : tie.Need-bit-of-requires
 bit-of-requires c κs = search needs
@@ -68,3 +72,6 @@ put-member-spec =
     put-number-requires-3
     same-length-3
     returns-4)
+
+pub undivided : Undivided ("sentence_write::members::bit_of" ∷ "sentence_write::pieces::put_number" ∷ []) function
+undivided = refl

@@ -1,4 +1,6 @@
 -- `sentence_write::members::put_members` meets its contract. Assumes nothing.
+use mathlib.Core.List.{[], _∷_}
+use mathlib.Core.Path.{refl}
 use Prim.Native.Nat.{_-_}
 use native.Mathlib.Omega.{arith}
 use Rattle.sentence.specs.Text.{ascii}
@@ -6,6 +8,8 @@ use Rattle.sentence_write.proofs.LedLaws.{Listing, listing-none, listin
 use borrow.Author.Needs.{needs}
 use Rattle.sentence_write.proofs.members.put_members.Statement.{statement}
 use Rattle.sentence_write.proofs.members.put_members.Tie as tie
+use Rattle.octets.specs.Undivided.{Undivided}
+use Rattle.sentence_write.proofs.members.put_members.Code.Mir.{function}
 
 abbrev Inv-loop : tie.InvT-loop
 Inv-loop out₀ at mask all to₀ before₀ i₀ out to before i = Listing out₀ at mask all out to before i
@@ -76,3 +80,6 @@ put-members-spec =
     loop-again
     same-length-2
     returns-2)
+
+pub undivided : Undivided ("sentence_write::members::bit_of" ∷ "sentence_write::members::count" ∷ "sentence_write::members::put_member" ∷ "sentence_write::pieces::put_words" ∷ []) function
+undivided = refl

@@ -1,10 +1,14 @@
 -- `sentence_write::pieces::put_certificate_reason` meets its contract. Assumes nothing.
+use mathlib.Core.List.{[], _∷_}
+use mathlib.Core.Path.{refl}
 use Rattle.sentence.specs.Text.{ascii}
 use Rattle.sentence.specs.Words.{certificate, meanings, meaningIn}
 use Rattle.sentence_write.proofs.PieceLaws.{reason-told, certificate-other}
 use borrow.Author.Needs.{needs}
 use Rattle.sentence_write.proofs.pieces.put_certificate_reason.Statement.{statement}
 use Rattle.sentence_write.proofs.pieces.put_certificate_reason.Tie as tie
+use Rattle.octets.specs.Undivided.{Undivided}
+use Rattle.sentence_write.proofs.pieces.put_certificate_reason.Code.Mir.{function}
 
 slice-aggregate-put-words : tie.Need-slice-aggregate-put-words
 slice-aggregate-put-words c = search needs
@@ -107,3 +111,6 @@ put-certificate-reason-spec =
     returns-5
     same-length-6
     returns-6)
+
+pub undivided : Undivided ("sentence_write::pieces::put_word" ∷ "sentence_write::pieces::put_words" ∷ []) function
+undivided = refl

@@ -1,9 +1,13 @@
 -- `sentence_write::pieces::put_kind` meets its contract. Assumes nothing.
+use mathlib.Core.List.{[], _∷_}
+use mathlib.Core.Path.{refl}
 use Rattle.sentence.specs.Text.{ascii}
 use Rattle.sentence_write.proofs.TextLaws.{kind-wrote}
 use borrow.Author.Needs.{needs}
 use Rattle.sentence_write.proofs.pieces.put_kind.Statement.{statement}
 use Rattle.sentence_write.proofs.pieces.put_kind.Tie as tie
+use Rattle.octets.specs.Undivided.{Undivided}
+use Rattle.sentence_write.proofs.pieces.put_kind.Code.Mir.{function}
 
 slice-aggregate-put-words : tie.Need-slice-aggregate-put-words
 slice-aggregate-put-words c = search needs
@@ -38,3 +42,6 @@ put-kind-spec =
     put-number-requires
     same-length
     returns)
+
+pub undivided : Undivided ("sentence_write::pieces::put_kind_word" ∷ "sentence_write::pieces::put_number" ∷ "sentence_write::pieces::put_words" ∷ []) function
+undivided = refl

@@ -1,10 +1,14 @@
 -- `sentence_write::pieces::put_kind_word` meets its contract. Assumes nothing.
+use mathlib.Core.List.{[], _∷_}
+use mathlib.Core.Path.{refl}
 use Rattle.sentence.specs.Words.{kindWords}
 use Rattle.sentence.specs.Text.{ascii}
 use Rattle.sentence_write.proofs.PieceLaws.{kind-told, kind-unknown}
 use borrow.Author.Needs.{needs}
 use Rattle.sentence_write.proofs.pieces.put_kind_word.Statement.{statement}
 use Rattle.sentence_write.proofs.pieces.put_kind_word.Tie as tie
+use Rattle.octets.specs.Undivided.{Undivided}
+use Rattle.sentence_write.proofs.pieces.put_kind_word.Code.Mir.{function}
 
 slice-aggregate-put-words : tie.Need-slice-aggregate-put-words
 slice-aggregate-put-words c = search needs
@@ -95,3 +99,6 @@ put-kind-word-spec =
     returns-4
     same-length-5
     returns-5)
+
+pub undivided : Undivided ("sentence_write::pieces::put_words" ∷ []) function
+undivided = refl

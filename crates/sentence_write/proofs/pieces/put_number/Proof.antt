@@ -1,8 +1,12 @@
 -- `sentence_write::pieces::put_number` meets its contract. Assumes nothing.
+use mathlib.Core.List.{[], _∷_}
+use mathlib.Core.Path.{refl}
 use Rattle.sentence_write.proofs.PieceLaws.{wrote-number, number-room}
 use borrow.Author.Needs.{needs}
 use Rattle.sentence_write.proofs.pieces.put_number.Statement.{statement}
 use Rattle.sentence_write.proofs.pieces.put_number.Tie as tie
+use Rattle.octets.specs.Undivided.{Undivided}
+use Rattle.sentence_write.proofs.pieces.put_number.Code.Mir.{function}
 
 put-words-requires : tie.Need-put-words-requires
 put-words-requires c κs = search needs
@@ -18,3 +22,6 @@ returns c = wrote-number (c .before .before .before .before .before .before .bef
 
 pub put-number-spec : {M : Type 1} → statement M
 put-number-spec = tie.close (tie.spec put-words-requires put-requires same-length returns)
+
+pub undivided : Undivided ("decimal::write::put" ∷ "sentence_write::pieces::put_words" ∷ []) function
+undivided = refl

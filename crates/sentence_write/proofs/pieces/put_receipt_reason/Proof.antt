@@ -1,10 +1,14 @@
 -- `sentence_write::pieces::put_receipt_reason` meets its contract. Assumes nothing.
+use mathlib.Core.List.{[], _∷_}
+use mathlib.Core.Path.{refl}
 use Rattle.sentence.specs.Text.{ascii}
 use Rattle.sentence.specs.Words.{receipt, meanings, meaningIn}
 use Rattle.sentence_write.proofs.PieceLaws.{reason-told, receipt-other}
 use borrow.Author.Needs.{needs}
 use Rattle.sentence_write.proofs.pieces.put_receipt_reason.Statement.{statement}
 use Rattle.sentence_write.proofs.pieces.put_receipt_reason.Tie as tie
+use Rattle.octets.specs.Undivided.{Undivided}
+use Rattle.sentence_write.proofs.pieces.put_receipt_reason.Code.Mir.{function}
 
 slice-aggregate-put-words : tie.Need-slice-aggregate-put-words
 slice-aggregate-put-words c = search needs
@@ -90,3 +94,6 @@ put-receipt-reason-spec =
     returns-4
     same-length-5
     returns-5)
+
+pub undivided : Undivided ("sentence_write::pieces::put_word" ∷ "sentence_write::pieces::put_words" ∷ []) function
+undivided = refl

@@ -1,10 +1,14 @@
 -- `sentence_write::pieces::put_word` meets its contract. Assumes nothing.
+use mathlib.Core.List.{[], _∷_}
+use mathlib.Core.Path.{refl}
 use Rattle.sentence.specs.Words.{refusalWords}
 use Rattle.sentence.specs.Text.{ascii}
 use Rattle.sentence_write.proofs.PieceLaws.{word-told, word-unknown}
 use borrow.Author.Needs.{needs}
 use Rattle.sentence_write.proofs.pieces.put_word.Statement.{statement}
 use Rattle.sentence_write.proofs.pieces.put_word.Tie as tie
+use Rattle.octets.specs.Undivided.{Undivided}
+use Rattle.sentence_write.proofs.pieces.put_word.Code.Mir.{function}
 
 slice-aggregate-put-words : tie.Need-slice-aggregate-put-words
 slice-aggregate-put-words c = search needs
@@ -333,3 +337,6 @@ put-word-spec =
     returns-18
     same-length-19
     returns-19)
+
+pub undivided : Undivided ("sentence_write::pieces::put_words" ∷ []) function
+undivided = refl

@@ -1,8 +1,12 @@
 -- `sentence_write::sentences::put_certificate` meets its contract. Assumes nothing.
+use mathlib.Core.List.{[], _∷_}
+use mathlib.Core.Path.{refl}
 use Rattle.sentence_write.proofs.TextLaws.{station-zero, station-other}
 use borrow.Author.Needs.{needs}
 use Rattle.sentence_write.proofs.sentences.put_certificate.Statement.{statement}
 use Rattle.sentence_write.proofs.sentences.put_certificate.Tie as tie
+use Rattle.octets.specs.Undivided.{Undivided}
+use Rattle.sentence_write.proofs.sentences.put_certificate.Code.Mir.{function}
 
 put-certified-requires : tie.Need-put-certified-requires
 put-certified-requires c κs = search needs
@@ -32,3 +36,6 @@ put-certificate-spec =
     put-certificate-refused-requires
     same-length-2
     returns-2)
+
+pub undivided : Undivided ("sentence_write::sentences::put_certificate_refused" ∷ "sentence_write::sentences::put_certified" ∷ []) function
+undivided = refl

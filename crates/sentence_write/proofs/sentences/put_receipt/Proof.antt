@@ -1,8 +1,12 @@
 -- `sentence_write::sentences::put_receipt` meets its contract. Assumes nothing.
+use mathlib.Core.List.{[], _∷_}
+use mathlib.Core.Path.{refl}
 use Rattle.sentence_write.proofs.TextLaws.{receipt-zero, receipt-other}
 use borrow.Author.Needs.{needs}
 use Rattle.sentence_write.proofs.sentences.put_receipt.Statement.{statement}
 use Rattle.sentence_write.proofs.sentences.put_receipt.Tie as tie
+use Rattle.octets.specs.Undivided.{Undivided}
+use Rattle.sentence_write.proofs.sentences.put_receipt.Code.Mir.{function}
 
 put-accepted-requires : tie.Need-put-accepted-requires
 put-accepted-requires c κs = search needs
@@ -32,3 +36,6 @@ put-receipt-spec =
     put-receipt-refused-requires
     same-length-2
     returns-2)
+
+pub undivided : Undivided ("sentence_write::sentences::put_accepted" ∷ "sentence_write::sentences::put_receipt_refused" ∷ []) function
+undivided = refl

@@ -1,6 +1,6 @@
 -- `workload::input::ask` meets its contract.
 use Prim.Native.Nat.{ℕ}
-use mathlib.Core.List.{List}
+use mathlib.Core.List.{List, [], _∷_}
 use mathlib.Core.Option.{Option}
 use mathlib.Core.Path.{_≡_, refl, sym, ap, _∙_}
 use native.Mathlib.Omega.{arith}
@@ -13,6 +13,8 @@ use Rattle.workload.proofs.AskedLaws.{asked-long, more-lines, long-line
 use borrow.Author.Needs.{needs}
 use Rattle.workload.proofs.input.ask.Statement.{statement}
 use Rattle.workload.proofs.input.ask.Tie as tie
+use Rattle.octets.specs.Undivided.{Undivided}
+use Rattle.workload.proofs.input.ask.Code.Mir.{function}
 
 returns : tie.Need-returns
 returns c = sym (asked-long (c .before .before .args .text .now) (omega arith))
@@ -116,3 +118,6 @@ ask-spec =
     asked-by-requires
     returns-5
     returns-6)
+
+pub undivided : Undivided ("line::fields::find" ∷ "line::fields::numbers" ∷ "workload::input::asked_by" ∷ []) function
+undivided = refl

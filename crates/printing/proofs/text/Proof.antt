@@ -1,0 +1,20 @@
+-- `printing::text` meets its contract.
+use mathlib.Core.List.{[], _∷_}
+use mathlib.Core.Path.{refl}
+use borrow.Author.Needs.{needs}
+use Rattle.printing.proofs.text.Statement.{statement}
+use Rattle.octets.specs.Undivided.{Undivided}
+use Rattle.printing.proofs.text.Code.Mir.{function}
+use Rattle.printing.proofs.text.Tie as tie
+
+write-all-requires : tie.Need-write-all-requires
+write-all-requires c κs = search needs
+
+returns : tie.Need-returns
+returns c = search needs
+
+pub text-spec : {M : Type 1} → statement M
+text-spec = tie.close (tie.spec write-all-requires returns)
+
+pub undivided : Undivided ("io::write_all" ∷ []) function
+undivided = refl
