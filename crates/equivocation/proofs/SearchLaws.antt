@@ -57,11 +57,17 @@ module _ (marks pile : List ℕ) where
 
   -- the same of first places
   module _ (count p : ℕ) where
-    pub first-step : p < count → firstIn marks pile (count - p) p ≡ orElse marks pile p (secondFor marks pile p (count - (p + 1))) (firstIn marks pile (count - (p + 1)) (p + 1))
+    first-step : p < count → firstIn marks pile (count - p) p ≡ orElse marks pile p (secondFor marks pile p (count - (p + 1))) (firstIn marks pile (count - (p + 1)) (p + 1))
     unfolding firstIn
     first-step l =
         let e : count - p ≡ suc (count - (p + 1)) = omega arith in
         ap (λ (j : ℕ). firstIn marks pile j p) e ∙ ap (λ (n : ℕ). orElse marks pile p (secondFor marks pile p (count - (p + 1))) (firstIn marks pile (count - (p + 1)) n)) (sym (add-one p))
+
+    pub first-found : {f : Found} (q : ℕ) → p < count → f ≡ secondFor marks pile p (count - (p + 1)) → f ≡ At q → firstIn marks pile (count - p) p ≡ answer 0 (p ∷ q ∷ [])
+    first-found q l e h = first-step l ∙ ap (λ (x : Found). orElse marks pile p x (firstIn marks pile (count - (p + 1)) (p + 1))) (sym e ∙ h)
+
+    pub first-on : {f : Found} → p < count → f ≡ secondFor marks pile p (count - (p + 1)) → f ≡ Nothing → firstIn marks pile (count - p) p ≡ firstIn marks pile (count - (p + 1)) (p + 1)
+    first-on l e h = first-step l ∙ ap (λ (x : Found). orElse marks pile p x (firstIn marks pile (count - (p + 1)) (p + 1))) (sym e ∙ h)
 
     pub first-none : count ≤ p → answer 0 [] ≡ firstIn marks pile (count - p) p
     unfolding firstIn
@@ -109,7 +115,7 @@ module _ (roster pile marks : List ℕ) (d : distinct roster (size roster) ≡ t
   or-is p none x = refl
   or-is p (some q) x = refl
 
-  first-is : (j p : ℕ) → p + j ≤ receiptCount pile → firstIn marks pile j p ≡ answer 0 (placesOf (firstOf roster pile j p))
+  pub first-is : (j p : ℕ) → p + j ≤ receiptCount pile → firstIn marks pile j p ≡ answer 0 (placesOf (firstOf roster pile j p))
   unfolding firstIn firstOf
   first-is zero p l = refl
   first-is (suc j) p l =
