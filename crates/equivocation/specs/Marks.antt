@@ -41,6 +41,10 @@ module _ (marks pile : List ℕ) where
   secondIn p zero q = Nothing
   secondIn p (suc j) q = cond (against p q) (At q) (secondIn p j (suc q))
 
+  -- of the j places after p, the first that makes a pair with it
+  unfoldable pub secondFor : ℕ → ℕ → Found
+  secondFor p j = cond (marked p) (secondIn p j (suc p)) Nothing
+
   -- p with the place found for it, or what comes later
   abbrev pub orElse : ℕ → Found → Answer → Answer
   orElse p (At q) later = answer 0 (p ∷ q ∷ [])
@@ -49,4 +53,4 @@ module _ (marks pile : List ℕ) where
   -- the first pair of j places from p on
   unfoldable pub firstIn : ℕ → ℕ → Answer
   firstIn zero p = answer 0 []
-  firstIn (suc j) p = orElse p (cond (marked p) (secondIn p j (suc p)) Nothing) (firstIn j (suc p))
+  firstIn (suc j) p = orElse p (secondFor p j) (firstIn j (suc p))

@@ -5,7 +5,7 @@ ghost use lib.ListN.{length};
 ghost use Rattle.receipt.specs.Attestation.{receiptSize, readAttestation};
 ghost use Rattle.quorum.specs.Certificate.{receiptAt};
 ghost use Rattle.equivocation.specs.Pairs.{storiesDiffer, conflicting, contradictionAnswer, contradictionBlocks};
-ghost use Rattle.equivocation.specs.Marks.{against, secondIn, firstIn};
+ghost use Rattle.equivocation.specs.Marks.{against, secondFor, firstIn};
 use super::Contradiction;
 use octets::equal;
 use quorum::receipt_at;
@@ -65,11 +65,14 @@ fn is_against(marks: &[u8], pile: &[u8], p: usize, q: usize) -> bool
     conflict(r, s)
 }
 
-// The first place after p that is marked and contradicts it.
+// The first place after p that makes a pair with it: both are marked, and they contradict each other.
 fn second_of(marks: &[u8], pile: &[u8], count: usize, p: usize) -> Found
     requires { ⌜ (count ≤ length (now marks)) × ((count * receiptSize ≤ length (now pile)) × (p < count)) ⌝ }
-    ensures { λ r. ⌜ r ≡ secondIn (now (marks .entry)) (now (pile .entry)) p (count - (p + 1)) (p + 1) ⌝ }
+    ensures { λ r. ⌜ r ≡ secondFor (now (marks .entry)) (now (pile .entry)) p (count - (p + 1)) ⌝ }
 {
+    if marks[p] == 0 {
+        return Found::Nothing;
+    }
     let mut q = p + 1;
     while q < count {
         if is_against(marks, pile, p, q) {
@@ -87,14 +90,12 @@ pub fn first_pair(marks: &[u8], pile: &[u8], count: usize, blocks: u64) -> Contr
 {
     let mut p = 0;
     while p < count {
-        if marks[p] != 0 {
-            if let Found::At(q) = second_of(marks, pile, count, p) {
-                return Contradiction::Pair {
-                    first: p,
-                    second: q,
-                    blocks,
-                };
-            }
+        if let Found::At(q) = second_of(marks, pile, count, p) {
+            return Contradiction::Pair {
+                first: p,
+                second: q,
+                blocks,
+            };
         }
         p += 1;
     }

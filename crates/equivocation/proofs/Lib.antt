@@ -1,0 +1,4 @@
+pub mod Answers
+pub mod CheckLaws
+pub mod SearchLaws
+pub mod StoryLaws

@@ -1,0 +1,69 @@
+-- `equivocation::find` meets its contract.
+use mathlib.Core.Path.{_≡_, refl, sym, ap, ap₂, _∙_}
+use Prim.Native.Nat.{_/_}
+use native.Mathlib.Omega.{arith}
+use borrow.Author.Tests.{not-true, not-false}
+use lib.ListN.{length}
+use Rattle.receipt.specs.Attestation.{receiptSize}
+use Rattle.quorum.specs.Certificate.{receiptCount, pileBlocks}
+use Rattle.quorum.proofs.Tallies.{is-certificate}
+use Rattle.equivocation.proofs.Answers.{no-profile, no-roster, not-whole, too-many, by-marks}
+use mathlib.Core.Bool.{true}
+use Rattle.refusal.specs.Unwritten.{unwritten, counts}
+use Rattle.equivocation.proofs.find.Code.Mir.{function}
+use borrow.Author.Needs.{needs}
+use Rattle.equivocation.proofs.find.Statement.{statement}
+use Rattle.equivocation.proofs.find.Tie as tie
+
+is-permitted-requires : tie.Need-is-permitted-requires
+is-permitted-requires c κs = search needs
+
+returns : tie.Need-returns
+returns c = let a = c .before .before .before .before .args in no-profile (a .members) (a .needed) (a .roster .now) (a .pile .now) (sym (c .before .is-permitted .ensures) ∙ not-true _ (c .if1 .taken))
+
+is-roster-requires : tie.Need-is-roster-requires
+is-roster-requires c κs = search needs
+
+returns-2 : tie.Need-returns-2
+returns-2 c = let a = c .before .before .before .before .before .before .args in no-roster (a .members) (a .needed) (a .roster .now) (a .pile .now) (sym (c .before .before .before .is-permitted .ensures) ∙ not-false _ (c .before .before .if1 .left)) (sym (c .before .is-roster .ensures) ∙ not-true _ (c .if2 .taken))
+
+returns-3 : tie.Need-returns-3
+returns-3 c = let a = c .before .before .before .before .before .before .before .args in not-whole (a .members) (a .needed) (a .roster .now) (a .pile .now) (sym (c .before .before .before .before .is-permitted .ensures) ∙ not-false _ (c .before .before .before .if1 .left)) (sym (c .before .before .is-roster .ensures) ∙ not-false _ (c .before .if2 .left)) (c .if3 .taken)
+
+returns-4 : tie.Need-returns-4
+returns-4 c = let a = c .before .before .before .before .before .before .before .before .args in too-many (a .members) (a .needed) (a .roster .now) (a .pile .now) (sym (c .before .before .before .before .before .is-permitted .ensures) ∙ not-false _ (c .before .before .before .before .if1 .left)) (sym (c .before .before .before .is-roster .ensures) ∙ not-false _ (c .before .before .if2 .left)) (c .before .if3 .left) (c .if4 .taken)
+
+marks-of-requires : tie.Need-marks-of-requires
+marks-of-requires c κs = (omega (arith, c .before .if3 .left), c .if4 .left)
+
+slice-aggregate-first-pair : tie.Need-slice-aggregate-first-pair
+slice-aggregate-first-pair c = search needs
+
+first-pair-requires : tie.Need-first-pair-requires
+first-pair-requires c κs = (omega (arith, c .before .before .marks-of .ensures .0, c .before .before .before .if4 .left), omega (arith, c .before .before .before .before .if3 .left))
+
+returns-5 : tie.Need-returns-5
+unfolding receiptCount pileBlocks
+returns-5 c = let a = c .before .before .before .before .before .before .before .before .before .before .before .before .args in
+    let m = c .before .before .before .marks-of in
+    let w = by-marks (a .members) (a .needed) (a .roster .now) (a .pile .now) (sym (c .before .before .before .before .before .before .before .before .before .is-permitted .ensures) ∙ not-false _ (c .before .before .before .before .before .before .before .before .if1 .left)) (sym (c .before .before .before .before .before .before .before .is-roster .ensures) ∙ not-false _ (c .before .before .before .before .before .before .if2 .left)) (is-certificate (a .pile .now) (c .before .before .before .before .before .if3 .left) (c .before .before .before .before .if4 .left)) (m .result .places) (m .ensures .1 .0) in
+    (c .first-pair .ensures .0 ∙ w .0, c .first-pair .ensures .1 ∙ m .ensures .1 .1 ∙ w .1)
+
+pub find-spec : {M : Type 1} → statement M
+find-spec =
+    tie.close
+    (tie.spec
+    is-permitted-requires
+    returns
+    is-roster-requires
+    returns-2
+    returns-3
+    returns-4
+    marks-of-requires
+    slice-aggregate-first-pair
+    first-pair-requires
+    returns-5)
+
+-- no literal of the body becomes the count
+pub counted : unwritten counts (function .body) ≡ true
+counted = refl
