@@ -181,10 +181,13 @@ pub searched : {n b f p q j k : ℕ} {a s : Answer} (found first second : ℕ) �
     → Contradicts n b f p q found first second s k
 searched found first second h e = (
   h .0 ∙ ap (λ (x : Answer). x .number) (e .0),
-  (h .1 .0 ∙ e .1, (
-    h .1 .1 .0 ∙ ap (λ (x : Answer). foundAfter x found) (e .0),
-    (h .1 .1 .1 .0 ∙ ap (λ (x : Answer). firstAfter x first) (e .0), h .1 .1 .1 .1 ∙ ap (λ (x : Answer). secondAfter x second) (e .0)),
-  )),
+  (
+    h .1 .0 ∙ e .1,
+    (
+      h .1 .1 .0 ∙ ap (λ (x : Answer). foundAfter x found) (e .0),
+      (h .1 .1 .1 .0 ∙ ap (λ (x : Answer). firstAfter x first) (e .0), h .1 .1 .1 .1 ∙ ap (λ (x : Answer). secondAfter x second) (e .0)),
+    ),
+  ),
 )
 
 -- ---- runs
