@@ -1859,7 +1859,7 @@ impl Check {
             let station = Station::random(members, &mut self.random);
             let half = members / 2 + 1;
             let any = half + self.random.below(members - half + 1);
-            let (lies, strays) = (self.random.pick(&[2, 8, 40, 1 << 40]), self.random.pick(&[1, 3, 10, 1 << 40]));
+            let (lies, strays) = (self.random.pick(&[2, 4, 12, 1 << 40]), self.random.pick(&[2, 5, 20, 1 << 40]));
             let count = match self.random.below(6) {
                 0 => self.random.below(34),
                 1 => 32,
@@ -1869,7 +1869,7 @@ impl Check {
             let mut pile: Vec<Made> =
                 (0..count).map(|_| station.receipt(lies, strays, &mut self.random)).collect();
             let mut roster = station.roster();
-            let profile = match self.random.below(16) {
+            let profile = match self.random.below(32) {
                 0 => (members, members / 2),
                 1 => (members, members + 1),
                 2 => (self.random.below(35), self.random.below(35)),
