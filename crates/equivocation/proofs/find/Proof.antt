@@ -1,10 +1,7 @@
 -- `equivocation::find` meets its contract.
-use mathlib.Core.Path.{_≡_, refl, sym, ap, ap₂, _∙_}
-use Prim.Native.Nat.{_/_}
+use mathlib.Core.Path.{_≡_, refl, sym, _∙_}
 use native.Mathlib.Omega.{arith}
 use borrow.Author.Tests.{not-true, not-false}
-use lib.ListN.{length}
-use Rattle.receipt.specs.Attestation.{receiptSize}
 use Rattle.quorum.specs.Certificate.{receiptCount, pileBlocks}
 use Rattle.quorum.proofs.Tallies.{is-certificate}
 use Rattle.equivocation.proofs.Answers.{no-profile, no-roster, not-whole, too-many, by-marks}

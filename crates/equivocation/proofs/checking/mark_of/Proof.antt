@@ -1,8 +1,7 @@
 -- `equivocation::checking::mark_of` meets its contract.
-use mathlib.Core.Path.{_≡_, sym, ap, _∙_}
+use mathlib.Core.Path.{sym, ap, _∙_}
 use mathlib.Core.Bool.{cond}
 use lib.Dec.{eqb}
-use Prim.Native.Nat.{ℕ}
 use Rattle.receipt.specs.Verdict.{verdictAnswer}
 use Rattle.receipt.specs.declared.Verdict.{Verdict}
 use Rattle.equivocation.proofs.CheckLaws.{refused-mark}

@@ -11,7 +11,6 @@ use Rattle.equivocation.proofs.CheckLaws.{marks-step}
 use mathlib.Core.Bool.{true}
 use Rattle.refusal.specs.Unwritten.{unwritten, counts}
 use Rattle.equivocation.proofs.checking.marks_of.Code.Mir.{function}
-use borrow.Author.Needs.{needs}
 use Rattle.equivocation.proofs.checking.marks_of.Statement.{statement}
 use Rattle.equivocation.proofs.checking.marks_of.Tie as tie
 

@@ -1,5 +1,5 @@
 -- `equivocation::checking::own_ask` meets its contract.
-use mathlib.Core.Path.{_≡_, refl, sym, ap, _∙_}
+use mathlib.Core.Path.{sym, _∙_}
 use Rattle.equivocation.proofs.CheckLaws.{asks-lookup, asks-end}
 use borrow.Author.Needs.{needs}
 use Rattle.equivocation.proofs.checking.own_ask.Statement.{statement}

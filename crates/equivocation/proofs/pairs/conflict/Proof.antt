@@ -1,5 +1,5 @@
 -- `equivocation::pairs::conflict` meets its contract.
-use mathlib.Core.Path.{_≡_, sym, _∙_}
+use mathlib.Core.Path.{sym, _∙_}
 use Rattle.equivocation.proofs.StoryLaws.{other-keeper, other-log, other-position, by-stories}
 use borrow.Author.Needs.{needs}
 use Rattle.equivocation.proofs.pairs.conflict.Statement.{statement}

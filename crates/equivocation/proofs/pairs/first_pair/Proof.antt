@@ -1,6 +1,6 @@
 -- `equivocation::pairs::first_pair` meets its contract.
 use mathlib.Core.Path.{_≡_, refl, sym, ap, _∙_}
-use Prim.Native.Nat.{ℕ, _+_, _-_, _≤_}
+use Prim.Native.Nat.{ℕ, _-_, _≤_}
 use native.Mathlib.Omega.{arith}
 use Rattle.equivocation.specs.Marks.{firstIn}
 use Rattle.equivocation.proofs.SearchLaws.{first-found, first-on, first-none}

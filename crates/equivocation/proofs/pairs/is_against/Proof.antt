@@ -1,5 +1,5 @@
 -- `equivocation::pairs::is_against` meets its contract.
-use mathlib.Core.Path.{_≡_, ap₂, _∙_}
+use mathlib.Core.Path.{ap₂, _∙_}
 use mathlib.Core.List.{List}
 use Prim.Native.Nat.{ℕ}
 use Rattle.receipt.specs.Attestation.{readAttestation}

@@ -4,7 +4,6 @@ use Prim.Native.Nat.{_+_, _-_, _≤_}
 use native.Mathlib.Omega.{arith}
 use Rattle.equivocation.specs.Marks.{secondIn}
 use Rattle.equivocation.proofs.SearchLaws.{second-found, second-on, second-none, unmarked, by-later}
-use borrow.Author.Needs.{needs}
 use Rattle.equivocation.proofs.pairs.second_of.Statement.{statement}
 use Rattle.equivocation.proofs.pairs.second_of.Tie as tie
 

@@ -1,6 +1,6 @@
 -- `equivocation::pairs::stories_differ` meets its contract.
-use mathlib.Core.Path.{_≡_, refl, sym, ap, ap₂, _∙_}
-use mathlib.Core.Bool.{Bool, not}
+use mathlib.Core.Path.{sym, ap, ap₂, _∙_}
+use mathlib.Core.Bool.{not}
 use lib.Dec.{eqb}
 use Prim.Native.Nat.{ℕ}
 use Rattle.octets.specs.Octets.{same}
