@@ -466,7 +466,7 @@ impl Table {
         let mut random = Random(12);
         let keys = random.bytes(96);
         let key = |m: u64| &keys[32 * m as usize..32 * (m as usize + 1)];
-        let roster: Vec<u8> = (0..3).flat_map(|m| [&(m + 100).to_be_bytes()[..], key(m)].concat()).collect();
+        let roster: Vec<u8> = (0..3u64).flat_map(|m| [&(m + 100).to_be_bytes()[..], key(m)].concat()).collect();
         let (pair, other) = (random.bytes(64), random.bytes(64));
         for (receipts, last) in [(2, true), (16, true), (32, true), (2, false), (16, false), (32, false)] {
             let mut pile = Vec::new();
