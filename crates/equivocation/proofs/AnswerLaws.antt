@@ -1,4 +1,4 @@
--- The answer beside a certificate's: its refusals and its blocks; that 6 does not occur; and that no two answers are alike.
+-- The answer beside a certificate's: its refusals and its blocks; and that no two answers are alike.
 use mathlib.Core.Path.{_≡_, refl, sym, ap, ap₂}
 use mathlib.Core.Logic.{_↔_, _≢_}
 use Prim.Native.Nat.{ℕ}
@@ -12,7 +12,6 @@ use Rattle.refusal.specs.Number.{numberOf}
 use Rattle.refusal.specs.Order.{firstFault}
 use Rattle.refusal.specs.Answer.{Answer}
 use Rattle.refusal.proofs.NumberLaws.{numberOf-injective, numberOf-positive}
-use Rattle.refusal.proofs.UnusedLaws.{never, never-numbered}
 use Rattle.roster.specs.Profile.{permitted}
 use Rattle.roster.specs.Roster.{isRoster}
 use Rattle.quorum.specs.Certificate.{isCertificate, unread, isNone, firstPlace, certificateRefusal, certificateBlocks}
@@ -40,11 +39,6 @@ module _ (n k : ℕ) (roster pile : List ℕ) where
         go true true false d = (λ e. e, λ e. e)
         go true true true false = (λ e. e, λ e. e)
         go true true true true = (λ e. absurd (Option·none-ne-some m e), λ e. absurd (h (sym (Option·some-injective 13 m e))))
-
-  -- [6]: 6 does not occur
-  pub never-six : contradiction n k roster pile .number ≢ 6
-  unfolding contradiction contradictionRefusal
-  never-six = never-numbered 6 (λ z. omega arith) (firstFault _) (placesOf (firstPair roster pile)) (never 6 _ refl)
 
 -- no two answers have one number, places and number of blocks
 pub contradiction-injective : (s t : Contradiction) → contradictionAnswer s ≡ contradictionAnswer t → contradictionBlocks s ≡ contradictionBlocks t → s ≡ t

@@ -228,3 +228,11 @@ module _ (n k : ℕ) (roster pile : List ℕ) where
       refuted : (p q : ℕ) → p < q → q < receiptCount pile → (IsPair roster pile p q → ⊥) → (b : Bool) → isPair roster pile p q ≡ b → isPair roster pile p q ≡ false
       refuted p q l w h true e = absurd (h (is-pair roster pile p q l w .0 e))
       refuted p q l w h false e = e
+
+  -- "whenever the pile has one it is found"
+  pub always-found : Admitted n k roster pile → (p q : ℕ) → IsPair roster pile p q → (i j : ℕ) × (contradiction n k roster pile ≡ answer 0 (i ∷ j ∷ []))
+  always-found a p q h = go (firstPair roster pile) refl
+    where
+      go : (o : Option (ℕ × ℕ)) → firstPair roster pile ≡ o → (i j : ℕ) × (contradiction n k roster pile ≡ answer 0 (i ∷ j ∷ []))
+      go none e = absurd (no-pair roster pile e p q h)
+      go (some x) e = (x .0, x .1, sym (is-first a) ∙ ap (λ (o : Option (ℕ × ℕ)). answer 0 (placesOf o)) e)

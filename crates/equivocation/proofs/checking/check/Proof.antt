@@ -28,7 +28,10 @@ enum-told : tie.Need-enum-told
 enum-told c = search needs
 
 returns : tie.Need-returns
-returns c = let x = c .before .before .before .before .before .before .args in stranger (x .roster .now) (x .r .now) (c .before .before .before .keeper-of .result) (c .before .before .before .keeper-of .ensures) (sym (c .before .before .find .ensures) ∙ c .enum-told .given .1)
+returns c =
+    let p3 = c .before .before .before in
+    let p6 = p3 .before .before .before in
+    let x = p6 .args in stranger (x .roster .now) (x .r .now) (p3 .keeper-of .result) (p3 .keeper-of .ensures) (sym (c .before .before .find .ensures) ∙ c .enum-told .given .1)
 
 -- the member that was found, and that it is in the roster
 found : (c : tie.After-i) → let p3 = c .before .before .before in let roster = p3 .before .before .before .args .roster .now in member roster (p3 .keeper-of .result) (length roster / 40) ≡ At (c .i .given .0 .0)
@@ -66,7 +69,9 @@ part-verify-start : tie.Need-part-verify-start
 part-verify-start c = search needs
 
 part-verify-end : tie.Need-part-verify-end
-part-verify-end c = omega (arith, within (c .before .before .before .before))
+part-verify-end c =
+    let p4 = c .before .before .before .before in
+    omega (arith, within p4)
 
 nonce-of-requires : tie.Need-nonce-of-requires
 nonce-of-requires c κs = search needs
@@ -81,13 +86,18 @@ blocks-of-requires : tie.Need-blocks-of-requires
 blocks-of-requires c κs = search needs
 
 returns-2 : tie.Need-returns-2
-returns-2 c = let p9 = c .before .before .before .before .before .before .before .before .before in
+returns-2 c =
+    let p3 = c .before .before .before in
+    let p5 = p3 .before .before in
+    let p6 = p5 .before in
+    let p7 = p6 .before in
+    let p9 = p7 .before .before in
     let i = p9 .i .given .0 .0 in
     let k = p9 .before .before .before .keeper-of in
     let start = p9 .before .before .before .before .before .before in
     let x = start .args in
-    let nonce = c .before .before .before .nonce-of in (
-      of-member (x .roster .now) (x .r .now) (k .result) i _ _ _ _ _ (c .before .before .verify .result) (k .ensures) (found p9) (key-size i) (c .before .before .before .before .before .wide .ensures .0 ∙ c .before .before .before .before .before .before .log-of .ensures) (c .before .before .before .before .before .before .before .own-ask .ensures) (nonce .ensures) (c .before .before .verify .ensures .0) (c .before .mark-of .ensures),
+    let nonce = p3 .nonce-of in (
+      of-member (x .roster .now) (x .r .now) (k .result) i _ _ _ _ _ (c .before .before .verify .result) (k .ensures) (found p9) (key-size i) (p5 .wide .ensures .0 ∙ p6 .log-of .ensures) (p7 .own-ask .ensures) (nonce .ensures) (c .before .before .verify .ensures .0) (c .before .mark-of .ensures),
       c .blocks-of .ensures ∙ member-blocks (x .roster .now) (x .r .now) (k .result) (k .ensures) _ i _ (found p9) (key-size i) (ap length (nonce .ensures) ∙ nonce-size (x .r .now) (start .pre)) (start .pre) (c .before .before .verify .ensures .1 .1),
     )
 

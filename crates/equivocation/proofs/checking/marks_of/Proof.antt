@@ -24,18 +24,25 @@ loop-holds : tie.Need-loop-holds Inv-loop μ-loop
 loop-holds c = let x = c .before .before .args in (omega arith, (blocks-start (x .roster .now) (x .pile .now), (refl, λ q h. absurd (not-suc-le-zero h))))
 
 receipt-at-requires : tie.Need-receipt-at-requires Inv-loop μ-loop
-receipt-at-requires c κs = omega (arith, c .before .before .before .before .pre .0)
+receipt-at-requires c κs =
+    let p4 = c .before .before .before .before in
+    omega (arith, p4 .pre .0)
 
 check-requires : tie.Need-check-requires Inv-loop μ-loop
 check-requires c κs = c .receipt-at .ensures .1
 
 array-write-places : tie.Need-array-write-places Inv-loop μ-loop
-array-write-places c = omega (arith, c .before .before .before .before .before .before .pre .1)
+array-write-places c =
+    let p6 = c .before .before .before .before .before .before in
+    omega (arith, p6 .pre .1)
 
 add-blocks : tie.Need-add-blocks Inv-loop μ-loop
-add-blocks c = let l = c .before .before .before .before .loop in
-    let x = c .before .before .before .before .before .before .before .args in
-    omega (arith, c .before .before .before .before .before .before .before .pre .1, l .inv .1 .0, blocks-few (x .roster .now) (x .pile .now) (l .p), c .before .check .ensures .1, receipt-few (x .roster .now) (c .before .before .receipt-at .result .now))
+add-blocks c =
+    let p4 = c .before .before .before .before in
+    let p7 = p4 .before .before .before in
+    let l = p4 .loop in
+    let x = p7 .args in
+    omega (arith, p7 .pre .1, l .inv .1 .0, blocks-few (x .roster .now) (x .pile .now) (l .p), c .before .check .ensures .1, receipt-few (x .roster .now) (c .before .before .receipt-at .result .now))
 
 add-p : tie.Need-add-p Inv-loop μ-loop
 add-p c = omega arith
@@ -44,19 +51,24 @@ loop-less : tie.Need-loop-less Inv-loop μ-loop
 loop-less c = omega arith
 
 loop-again : tie.Need-loop-again Inv-loop μ-loop
-loop-again c = let l = c .before .before .before .before .loop in
-    let x = c .before .before .before .before .before .before .before .args in
+loop-again c =
+    let p4 = c .before .before .before .before in
+    let p7 = p4 .before .before .before in
+    let l = p4 .loop in
+    let x = p7 .args in
     let r = c .before .before .receipt-at .ensures .0 in (
       omega arith,
       (
         blocks-step (x .roster .now) (x .pile .now) (l .p) (l .inv .1 .0) r (ap (λ (n : ℕ). l .blocks + n) (c .before .check .ensures .1)),
-        (length-set (l .places) (l .p) _ ∙ l .inv .1 .1 .0, marks-step (x .roster .now) (x .pile .now) (l .places) (l .p) _ (omega (arith, c .before .before .before .before .before .before .before .pre .1, l .inv .1 .1 .0)) (l .inv .1 .1 .1) r (c .before .check .ensures .0)),
+        (length-set (l .places) (l .p) _ ∙ l .inv .1 .1 .0, marks-step (x .roster .now) (x .pile .now) (l .places) (l .p) _ (omega (arith, p7 .pre .1, l .inv .1 .1 .0)) (l .inv .1 .1 .1) r (c .before .check .ensures .0)),
       ),
     )
 
 returns : tie.Need-returns Inv-loop μ-loop
-returns c = let l = c .before .loop in
-    let x = c .before .before .before .before .args in
+returns c =
+    let p4 = c .before .before .before .before in
+    let l = c .before .loop in
+    let x = p4 .args in
     let all : l .p ≡ x .count = omega arith in
     (l .inv .1 .1 .0, ((λ q h. l .inv .1 .1 .1 q (omega arith)), l .inv .1 .0 ∙ ap (blocksBelow (x .roster .now) (x .pile .now)) all))
 

@@ -21,16 +21,21 @@ loop-holds : tie.Need-loop-holds Inv-loop μ-loop
 loop-holds c = let x = c .before .before .args in let e : x .count ≡ x .count - 0 = omega arith in (omega arith, ap (λ (j : ℕ). firstIn (x .marks .now) (x .pile .now) j 0) e)
 
 second-of-requires : tie.Need-second-of-requires Inv-loop μ-loop
-second-of-requires c κs = (c .before .before .before .before .pre .0, (c .before .before .before .before .pre .1, omega arith))
+second-of-requires c κs =
+    let p4 = c .before .before .before .before in
+    (p4 .pre .0, (p4 .pre .1, omega arith))
 
 enum-known-q : tie.Need-enum-known-q Inv-loop μ-loop
 enum-known-q c = search needs
 
 returns : tie.Need-returns Inv-loop μ-loop
 returns c =
-    let x = c .before .before .before .before .before .before .before .before .args in
-    let l = c .before .before .before .before .before .loop in
-    (sym (l .inv .1 ∙ first-found (x .marks .now) (x .pile .now) (x .count) (l .p) _ (omega arith) (c .before .before .before .second-of .ensures) (c .before .q .given .1)), refl)
+    let p3 = c .before .before .before in
+    let p5 = p3 .before .before in
+    let p8 = p5 .before .before .before in
+    let x = p8 .args in
+    let l = p5 .loop in
+    (sym (l .inv .1 ∙ first-found (x .marks .now) (x .pile .now) (x .count) (l .p) _ (omega arith) (p3 .second-of .ensures) (c .before .q .given .1)), refl)
 
 enum-told : tie.Need-enum-told Inv-loop μ-loop
 enum-told c = search needs
@@ -43,12 +48,16 @@ loop-less c = omega arith
 
 loop-again : tie.Need-loop-again Inv-loop μ-loop
 loop-again c =
-    let x = c .before .before .before .before .before .before .before .args in
-    let l = c .before .before .before .before .loop in
+    let p4 = c .before .before .before .before in
+    let p7 = p4 .before .before .before in
+    let x = p7 .args in
+    let l = p4 .loop in
     (omega arith, l .inv .1 ∙ first-on (x .marks .now) (x .pile .now) (x .count) (l .p) (omega arith) (c .before .before .second-of .ensures) (c .enum-told .given .1))
 
 returns-2 : tie.Need-returns-2 Inv-loop μ-loop
-returns-2 c = let x = c .before .before .before .before .args in
+returns-2 c =
+    let p4 = c .before .before .before .before in
+    let x = p4 .args in
     let l = c .before .loop in
     (first-none (x .marks .now) (x .pile .now) (x .count) (l .p) (omega arith) ∙ sym (l .inv .1), refl)
 

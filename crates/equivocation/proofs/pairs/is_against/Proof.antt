@@ -13,7 +13,9 @@ shared-slice-read-if1 : tie.Need-shared-slice-read-if1
 shared-slice-read-if1 c = search needs
 
 returns : tie.Need-returns
-returns c = not-marked (c .before .before .before .before .args .marks .now) (c .before .before .before .before .args .pile .now) (c .before .before .before .before .args .p) (c .before .before .before .before .args .q) (c .if1 .taken)
+returns c =
+    let p4 = c .before .before .before .before in
+    not-marked (p4 .args .marks .now) (p4 .args .pile .now) (p4 .args .p) (p4 .args .q) (c .if1 .taken)
 
 receipt-at-requires : tie.Need-receipt-at-requires
 receipt-at-requires c κs = search needs
@@ -25,7 +27,10 @@ conflict-requires : tie.Need-conflict-requires
 conflict-requires c κs = (c .before .receipt-at .ensures .1, c .receipt-at2 .ensures .1)
 
 returns-2 : tie.Need-returns-2
-returns-2 c = c .conflict .ensures ∙ ap₂ (λ (x y : List ℕ). conflicting (readAttestation x) (readAttestation y)) (c .before .before .receipt-at .ensures .0) (c .before .receipt-at2 .ensures .0) ∙ by-conflict (c .before .before .before .before .before .before .before .args .marks .now) (c .before .before .before .before .before .before .before .args .pile .now) (c .before .before .before .before .before .before .before .args .p) (c .before .before .before .before .before .before .before .args .q) (c .before .before .before .if1 .left)
+returns-2 c =
+    let p3 = c .before .before .before in
+    let p7 = p3 .before .before .before .before in
+    c .conflict .ensures ∙ ap₂ (λ (x y : List ℕ). conflicting (readAttestation x) (readAttestation y)) (c .before .before .receipt-at .ensures .0) (c .before .receipt-at2 .ensures .0) ∙ by-conflict (p7 .args .marks .now) (p7 .args .pile .now) (p7 .args .p) (p7 .args .q) (p3 .if1 .left)
 
 pub is-against-spec : {M : Type 1} → statement M
 is-against-spec =

@@ -14,25 +14,39 @@ abbrev μ-loop : tie.MeasureT-loop
 μ-loop marks pile count p q₀ q = count - q
 
 shared-slice-read-if1 : tie.Need-shared-slice-read-if1 Inv-loop μ-loop
-shared-slice-read-if1 c = omega (arith, c .before .before .before .pre .0, c .before .before .before .pre .1 .1)
+shared-slice-read-if1 c =
+    let p3 = c .before .before .before in
+    omega (arith, p3 .pre .0, p3 .pre .1 .1)
 
 returns : tie.Need-returns Inv-loop μ-loop
-returns c = let x = c .before .before .before .before .args in unmarked (x .marks .now) (x .pile .now) (x .p) (x .count - (x .p + 1)) (c .if1 .taken)
+returns c =
+    let p4 = c .before .before .before .before in
+    let x = p4 .args in unmarked (x .marks .now) (x .pile .now) (x .p) (x .count - (x .p + 1)) (c .if1 .taken)
 
 add-q : tie.Need-add-q Inv-loop μ-loop
-add-q c = omega (arith, c .before .before .before .before .pre .1 .1)
+add-q c =
+    let p4 = c .before .before .before .before in
+    omega (arith, p4 .pre .1 .1)
 
 loop-holds : tie.Need-loop-holds Inv-loop μ-loop
-loop-holds c = (omega (arith, c .before .before .before .before .pre .1 .1), refl)
+loop-holds c =
+    let p4 = c .before .before .before .before in
+    (omega (arith, p4 .pre .1 .1), refl)
 
 is-against-requires : tie.Need-is-against-requires Inv-loop μ-loop
-is-against-requires c κs = let s = c .before .before .before .before .before .before in (omega (arith, s .pre .0), (omega (arith, s .pre .1 .0, s .pre .1 .1), omega (arith, s .pre .1 .0)))
+is-against-requires c κs =
+    let p6 = c .before .before .before .before .before .before in
+    let s = p6 in (omega (arith, s .pre .0), (omega (arith, s .pre .1 .0, s .pre .1 .1), omega (arith, s .pre .1 .0)))
 
 returns-2 : tie.Need-returns-2 Inv-loop μ-loop
-returns-2 c = let l = c .before .before .before .loop in
-    let x = c .before .before .before .before .before .before .before .before .args in
+returns-2 c =
+    let p3 = c .before .before .before in
+    let p4 = p3 .before in
+    let p8 = p4 .before .before .before .before in
+    let l = p3 .loop in
+    let x = p8 .args in
     sym (l .inv .1 ∙ second-found (x .marks .now) (x .pile .now) (x .p) (x .count) (l .q) (omega arith) (sym (c .before .is-against .ensures) ∙ c .if2 .taken))
-    ∙ by-later (x .marks .now) (x .pile .now) (x .p) (x .count - (x .p + 1)) (c .before .before .before .before .if1 .left)
+    ∙ by-later (x .marks .now) (x .pile .now) (x .p) (x .count - (x .p + 1)) (p4 .if1 .left)
 
 add-q-2 : tie.Need-add-q-2 Inv-loop μ-loop
 add-q-2 c = omega arith
@@ -41,13 +55,18 @@ loop-less : tie.Need-loop-less Inv-loop μ-loop
 loop-less c = omega arith
 
 loop-again : tie.Need-loop-again Inv-loop μ-loop
-loop-again c = let l = c .before .before .before .loop in
-    let x = c .before .before .before .before .before .before .before .before .args in
+loop-again c =
+    let p3 = c .before .before .before in
+    let p8 = p3 .before .before .before .before .before in
+    let l = p3 .loop in
+    let x = p8 .args in
     (omega arith, l .inv .1 ∙ second-on (x .marks .now) (x .pile .now) (x .p) (x .count) (l .q) (omega arith) (sym (c .before .is-against .ensures) ∙ c .if2 .left))
 
 returns-3 : tie.Need-returns-3 Inv-loop μ-loop
-returns-3 c = let l = c .before .loop in
-    let x = c .before .before .before .before .before .before .args in
+returns-3 c =
+    let p6 = c .before .before .before .before .before .before in
+    let l = c .before .loop in
+    let x = p6 .args in
     sym (l .inv .1 ∙ second-none (x .marks .now) (x .pile .now) (x .p) (x .count) (l .q) (omega arith))
     ∙ by-later (x .marks .now) (x .pile .now) (x .p) (x .count - (x .p + 1)) (c .before .before .if1 .left)
 
