@@ -1,5 +1,5 @@
-/* The keeper in plain C: the bench's yardstick, and an independent reading of document 01 and requests [1] to [13]. Portable C,
- * no intrinsics. Blocks are counted where they are compressed, and added up on the way out. */
+/* The keeper in plain C: the bench's yardstick, and an independent reading of document 01 and requests [1] to [10] and [13].
+ * Portable C, no intrinsics. Blocks are counted where they are compressed, and added up on the way out. */
 #include "plain.h"
 
 #include <inttypes.h>

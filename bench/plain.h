@@ -1,4 +1,4 @@
-/* The keeper in plain C, written for the bench from document 01 and requests [1] to [13] alone: the same calls as in
+/* The keeper in plain C, written for the bench from document 01 and requests [1] to [10] and [13] alone: the same calls as in
  * keeper.h, with the same arguments, numbers and orders of refusal. The constants and the types of result and verdict are
  * keeper.h's. */
 #ifndef PLAIN_H
