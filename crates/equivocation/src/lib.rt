@@ -40,8 +40,8 @@ pub struct Marks {
     pub blocks: u64,
 }
 
-// The first pair in a pile of receipts by a station's keepers, of which there are `members`; `needed` is tested alone. Refused with 17: no
-// such profile; 12: no roster of so many members; 9: not 0 to 32 whole receipts.
+// The first pair in a pile of receipts by a station's keepers, of which there are `members`; `needed` takes part in the test for 17 alone.
+// Refused with 17: no such profile; 12: no roster of so many members; 9: not 0 to 32 whole receipts.
 pub fn find(members: u64, needed: u64, roster: &[u8], pile: &[u8]) -> Contradiction
     ensures answer { λ r. ⌜ contradictionAnswer r ≡ contradiction members needed (now (roster .entry)) (now (pile .entry)) ⌝ }
     ensures blocks { λ r. ⌜ contradictionBlocks r ≡ contradictionBlocksOf members needed (now (roster .entry)) (now (pile .entry)) ⌝ }

@@ -52,7 +52,7 @@ fn conflict(r: &[u8], s: &[u8]) -> bool
     stories_differ(r, s)
 }
 
-// Whether place q is marked and its receipt contradicts r, that of place p.
+// Whether place q is marked and its receipt contradicts that of place p.
 fn is_against(marks: &[u8], pile: &[u8], p: usize, q: usize) -> bool
     requires { ⌜ (q < length (now marks)) × ((p * receiptSize + receiptSize ≤ length (now pile)) × (q * receiptSize + receiptSize ≤ length (now pile))) ⌝ }
     ensures { λ b. ⌜ b ≡ against (now (marks .entry)) (now (pile .entry)) p q ⌝ }
