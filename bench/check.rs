@@ -1,12 +1,13 @@
 //! The differential check: the same calls on both sides, and every number, block count, result and lent byte compared.
 use crate::old::{old_of, Entry, Field, Log, Said};
+use crate::piles::{first_pair, pile_bytes, refusal, Made, Station};
 use crate::sides::{KeeperResult, Random, Run, Side, Verdict, KEEPER, PLAIN};
 use crate::tables::*;
 
-pub const CALLS: [&str; 22] = [
+pub const CALLS: [&str; 23] = [
     "hash", "tag", "format", "check", "free", "carry", "append", "advance", "truncate", "lookup", "end", "pack",
-    "split", "survey advance", "survey lookup", "survey close", "verify", "verify end", "certify", "receipt sentence",
-    "certificate sentence", "compare",
+    "split", "survey advance", "survey lookup", "survey close", "verify", "verify end", "certify", "contradiction",
+    "receipt sentence", "certificate sentence", "compare",
 ];
 const HASH: usize = 0;
 const TAG: usize = 1;
@@ -27,9 +28,10 @@ const SURVEY_CLOSE: usize = 15;
 const VERIFY: usize = 16;
 const VERIFY_END: usize = 17;
 const CERTIFY: usize = 18;
-const RECEIPT_SENTENCE: usize = 19;
-const CERTIFICATE_SENTENCE: usize = 20;
-const COMPARE: usize = 21;
+const CONTRADICTION: usize = 19;
+const RECEIPT_SENTENCE: usize = 20;
+const CERTIFICATE_SENTENCE: usize = 21;
+const COMPARE: usize = 22;
 
 /// The numbers that calls return: 15 is for lines of a script.
 const NUMBERS: [usize; 17] = [0, 1, 2, 3, 4, 5, 7, 8, 9, 10, 11, 12, 13, 14, 16, 17, 18];
@@ -121,10 +123,12 @@ pub struct Check {
     random: Random,
     /// Answers by call and number.
     pub counts: [[u64; 19]; CALLS.len()],
-    /// Accepted comparisons of runs by verdict, accepted lookups by kind, and accepted ends, of fresh logs and of others.
+    /// Accepted comparisons of runs by verdict, accepted lookups by kind, accepted ends, of fresh logs and of others, and
+    /// accepted piles, without a contradiction and with one.
     pub verdicts: [u64; 3],
     pub kinds: [u64; 4],
     pub ends: [u64; 2],
+    pub piles: [u64; 2],
     pub longest: usize,
     spoil: Option<(usize, Part)>,
 }
@@ -167,6 +171,7 @@ impl Check {
             verdicts: [0; 3],
             kinds: [0; 4],
             ends: [0; 2],
+            piles: [0; 2],
             longest: 0,
             spoil,
         }
@@ -494,6 +499,45 @@ impl Check {
         };
         let says = || format!("roster, nonce, certificate; profile {profile:?}, log {log}, position {n}");
         self.case(CERTIFY, &[roster, nonce, certificate], run, says)
+    }
+
+    fn contradiction(&mut self, profile: (u64, u64), roster: &[u8], receipts: &[u8]) -> Checked<Answer> {
+        let run = |side: &Side, b: &mut [Lent], r: &mut [u64; 5]| {
+            let [mut first, mut second, found, ..] = *r;
+            let mut seen = found as u8;
+            let returned = side.contradiction(profile, b[0].get(), b[1].get(), &mut seen, &mut first, &mut second);
+            (r[0], r[1], r[2]) = (first, second, found >> 8 << 8 | seen as u64);
+            returned
+        };
+        let says = || format!("roster, receipts; profile {profile:?}");
+        let answer = self.case(CONTRADICTION, &[roster, receipts], run, says)?;
+        if answer.number == 0 {
+            let found = answer.results[2] as u8;
+            if found > 1 || found == 0 && answer.results[..2] != [UNTOUCHED; 2] {
+                return Err(format!("contradiction: found {found}, places {:?}", &answer.results[..2]));
+            }
+            self.piles[found as usize] += 1;
+        }
+        Ok(answer)
+    }
+
+    /// The answer of the driver's own reading: the first pair and the blocks of a pile, unless there is a refusal. A certificate
+    /// of the same receipts counts the same blocks, whatever it is asked for.
+    fn pooled(&mut self, profile: (u64, u64), roster: &[u8], pile: &[Made]) -> Checked<()> {
+        let receipts = pile_bytes(pile);
+        let answer = self.contradiction(profile, roster, &receipts)?;
+        let number = refusal(profile, roster, receipts.len());
+        let found = (answer.number == 0 && answer.results[2] as u8 == 1).then(|| (answer.results[0], answer.results[1]));
+        let due = if number == 0 { first_pair(pile) } else { None };
+        if answer.number != number || found != due {
+            return Err(format!("contradiction: {} and {found:?}, not {number} and {due:?}", answer.number));
+        }
+        let hashed = if number == 0 { 6 * pile.iter().filter(|made| made.hashed).count() } else { 0 };
+        reports(CONTRADICTION, answer, hashed as u64)?;
+        let (nonce, log) = (self.random.bytes(32), self.random.below(2));
+        let certified = self.certify(profile, roster, &nonce, log, 1, &receipts)?;
+        reports(CERTIFY, certified, hashed as u64)?;
+        Ok(())
     }
 
     fn receipt_sentence(&mut self, number: u8, v: &Verdict, bytes: usize) -> Checked<Answer> {
@@ -1711,6 +1755,163 @@ impl Check {
     }
 
     /// Packing and splitting, and a list of calls whose answers stand in request [10]: a survey closed, and closed again.
+    /// Piles of a station of three, keepers 7, 8 and 9, each with its first pair and its blocks.
+    fn known_piles(&mut self) -> Checked<()> {
+        let station = Station((7..10).map(|number| (number, self.random.bytes(32))).collect());
+        let (nonce, other_nonce) = (self.random.bytes(32), self.random.bytes(32));
+        let story = |value: u8, digest: u8| [[value; 32], [digest; 32]].concat();
+        let assigned = |n: u64, value: u8| Receipt::assigned(7, 0, n, &nonce, &story(value, 9));
+        let skipped = |shown: Vec<u8>| Receipt { kind: 2, reference: 5, pair: shown, ..assigned(3, 0) };
+        let other = |kind: u8, reference: u64| Receipt { kind, reference, pair: vec![0; 64], ..assigned(3, 0) };
+        let made = |letter: char| {
+            let key = |m: usize| &station.0[m].1[..];
+            let good = |fields: Receipt| Made::good(fields, key(0));
+            match letter {
+                'a' => good(assigned(3, 41)),
+                'A' => good(assigned(3, 42)),
+                'd' => good(Receipt { pair: story(41, 8), ..assigned(3, 41) }),
+                'e' => good(Receipt { name: *b"END\0\0\0", nonce: other_nonce.clone(), pair: story(41, 8), ..assigned(3, 41) }),
+                'l' => good(Receipt { log: 1, ..assigned(3, 42) }),
+                'b' => Made::good(Receipt { keeper: 8, ..assigned(3, 42) }, key(1)),
+                'c' => good(assigned(4, 41)),
+                'C' => good(assigned(4, 42)),
+                's' => good(skipped(story(43, 7))),
+                'S' => good(skipped(vec![0; 64])),
+                'u' => good(other(0, 2)),
+                'f' => good(other(3, 4)),
+                'n' => good(Receipt::fresh_end(7, 0, &nonce)),
+                'x' => Made::forged(assigned(3, 42), key(1)),
+                'i' => Made::passed_over(Receipt { kind: 4, ..assigned(3, 42) }, key(0)),
+                _ => Made::passed_over(Receipt { keeper: 10, ..assigned(3, 42) }, key(0)),
+            }
+        };
+        for (pile, due, blocks) in [
+            ("", None, 0), ("a", None, 6), ("aa", None, 12), ("ab", None, 12), ("al", None, 12), ("ac", None, 12),
+            ("aA", Some((0, 1)), 12), ("ad", Some((0, 1)), 12), ("ae", Some((0, 1)), 12), ("sa", Some((0, 1)), 12),
+            ("aS", Some((0, 1)), 12), ("sS", None, 12), ("aufn", None, 24), ("su", None, 12), ("bsAa", Some((1, 2)), 24),
+            ("uaxA", Some((1, 3)), 24), ("acCA", Some((0, 3)), 24), ("cACa", Some((0, 2)), 24), ("taiA", Some((1, 3)), 12),
+            ("tA", None, 6), ("xx", None, 12), ("xa", None, 12), ("ititx", None, 6), ("aaaaaaA", Some((0, 6)), 42),
+        ] {
+            let made: Vec<Made> = pile.chars().map(made).collect();
+            let answer = self.contradiction((3, 2), &station.roster(), &pile_bytes(&made))?;
+            let found = (answer.results[2] as u8 == 1).then(|| (answer.results[0], answer.results[1]));
+            if answer.number != 0 || found != due {
+                return Err(format!("contradiction: of {pile:?} {} and {found:?}, not {due:?}", answer.number));
+            }
+            reports(CONTRADICTION, answer, blocks)?;
+            self.pooled((3, 2), &station.roster(), &made)?;
+        }
+        // The refusals in their order.
+        let zeros = vec![0; 33 * 160];
+        for (profile, bytes, number) in [
+            ((3, 2), 159, 9), ((3, 3), 161, 9), ((3, 2), 33 * 160, 9), ((3, 2), 32 * 160, 0), ((3, 1), 160, 17),
+            ((3, 4), 160, 17), ((4, 3), 159, 12), ((2, 2), 160, 12), ((0, 0), 159, 17), ((33, 17), 0, 17),
+        ] {
+            let answer = self.contradiction(profile, &station.roster(), &zeros[..bytes])?;
+            if (answer.number, answer.blocks) != (number, 0) {
+                return Err(format!("contradiction: {profile:?} with {bytes} bytes gives {}, not {number}", answer.number));
+            }
+        }
+        Ok(())
+    }
+
+    /// What one list of calls wrote is never a pair. The table is then put back to what it was, and called on: the two lists
+    /// together may have pairs.
+    fn listed_piles(&mut self) -> Checked<()> {
+        let station = Station::random(1, &mut self.random);
+        let (number, key) = station.0[0].clone();
+        let (g, s) = (1 + self.random.below(3), 1 + self.random.below(8));
+        let nothing = vec![0; table_bytes(g, s)];
+        let mut t = self.format(&nothing, g, s, number, &key, &vec![0; g as usize])?.lent.swap_remove(0);
+        let (mut before, mut lists) = (t.clone(), [Vec::new(), Vec::new()]);
+        for (i, list) in lists.iter_mut().enumerate() {
+            for turn in 0..80 {
+                if i == 0 && turn == 20 {
+                    before = t.clone();
+                }
+                let (after, receipt) = self.step(&t)?;
+                t = after;
+                list.extend(receipt.map(|(bytes, _)| bytes));
+            }
+            t = before.clone();
+        }
+        for of in [&lists[..1], &lists[1..], &lists[..]] {
+            let all: Vec<&[u8]> = of.iter().flatten().map(Vec::as_slice).collect();
+            for _ in 0..4 {
+                let count = if all.is_empty() { 0 } else { self.random.below(33) };
+                let pile: Vec<Made> = (0..count).map(|_| Made::written(self.random.pick(&all))).collect();
+                if of.len() == 1 && first_pair(&pile).is_some() {
+                    return Err("contradiction: one list of calls has written a pair".to_string());
+                }
+                self.pooled((1, 1), &station.roster(), &pile)?;
+            }
+        }
+        Ok(())
+    }
+
+    fn contradictions(&mut self, times: u64) -> Checked<()> {
+        self.known_piles()?;
+        for _ in 0..8 * times {
+            self.listed_piles()?;
+        }
+        for _ in 0..200 * times {
+            let members = self.random.pick(&[1, 2, 3, 3, 4, 7, 31, 32]);
+            let station = Station::random(members, &mut self.random);
+            let half = members / 2 + 1;
+            let any = half + self.random.below(members - half + 1);
+            let (lies, strays) = (self.random.pick(&[2, 4, 12, 1 << 40]), self.random.pick(&[2, 5, 20, 1 << 40]));
+            let count = match self.random.below(6) {
+                0 => self.random.below(34),
+                1 => 32,
+                2 => self.random.below(3),
+                _ => self.random.below(12),
+            };
+            let mut pile: Vec<Made> =
+                (0..count).map(|_| station.receipt(lies, strays, &mut self.random)).collect();
+            let mut roster = station.roster();
+            let profile = match self.random.below(32) {
+                0 => (members, members / 2),
+                1 => (members, members + 1),
+                2 => (self.random.below(35), self.random.below(35)),
+                3 => (members, half + (1 << 63)),
+                4 => (members + (1 << 32), half),
+                _ => (members, any),
+            };
+            match self.random.below(16) {
+                0 if profile.0 == members => {
+                    let n = self.random.pick(&[0, roster.len() + 1, roster.len() - 1, roster.len() - 40, roster.len() + 40]);
+                    roster.resize(n, 0);
+                }
+                1 if members > 1 => {
+                    // Two members with one number: no roster.
+                    let (from, to) = (self.random.below(members), self.random.below(members));
+                    let number = roster[40 * from as usize..][..8].to_vec();
+                    roster[40 * to as usize..][..8].copy_from_slice(&number);
+                }
+                _ => {}
+            }
+            if self.random.once_in(16) {
+                // A receipt that lost bytes on the way, or got some.
+                if let Some(last) = pile.last_mut() {
+                    let n = self.random.pick(&[0, 1, 80, 159, 161, 240]);
+                    last.bytes.resize(n, 0);
+                    if n == 0 {
+                        pile.pop();
+                    }
+                }
+            }
+            self.pooled(profile, &roster, &pile)?;
+            // A bit turned somewhere: the sides are held against each other alone.
+            let mut receipts = pile_bytes(&pile);
+            if !receipts.is_empty() {
+                let at = self.random.below(receipts.len() as u64) as usize;
+                receipts[at] ^= 1 << self.random.below(8);
+                self.contradiction(profile, &roster, &receipts)?;
+            }
+        }
+        Ok(())
+    }
+
     fn surveys(&mut self, times: u64) -> Checked<()> {
         let (last, end) = ((1 << 40) - 1, u64::MAX);
         for n in [0, 1, last, last + 1, last + 2, end - 1, end, 1 << 39, 1 << 41, 1 << 63] {
@@ -1996,6 +2197,7 @@ impl Check {
         self.carries(times)?;
         self.tables(times)?;
         self.certificates(times)?;
+        self.contradictions(times)?;
         self.sentences(times)?;
         self.runs(times)?;
         self.every_byte()?;
@@ -2106,6 +2308,7 @@ pub fn run(seed: u64, times: u64) -> bool {
     let (k, e) = (check.kinds, check.ends);
     println!("  lookups: {} unassigned, {} assigned, {} skipped, {} forgotten", k[0], k[1], k[2], k[3]);
     println!("  ends: {} of fresh logs, {} of others", e[0], e[1]);
+    println!("  piles: {} with a contradiction, {} without", check.piles[1], check.piles[0]);
     println!(
         "  comparisons: {} differ, {} agree, {} collisions (one would need a collision of SHA-256)",
         check.verdicts[0], check.verdicts[1], check.verdicts[2]
@@ -2123,7 +2326,8 @@ pub fn run(seed: u64, times: u64) -> bool {
             full = false;
         }
     }
-    if check.kinds.contains(&0) || check.ends.contains(&0) || check.verdicts[0] == 0 || check.verdicts[1] == 0 {
+    let some_never = check.kinds.contains(&0) || check.ends.contains(&0) || check.piles.contains(&0);
+    if some_never || check.verdicts[0] == 0 || check.verdicts[1] == 0 {
         println!("  some kind or verdict never came up: the check is too weak");
         full = false;
     }

@@ -1,6 +1,7 @@
 //! The bench's driver. `bench/run` builds it and calls it.
 mod check;
 mod old;
+mod piles;
 mod sides;
 mod table;
 mod tables;

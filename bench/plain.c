@@ -1,5 +1,5 @@
-/* The keeper in plain C: the bench's yardstick, and an independent reading of document 01 and requests [1] to [10]. Portable C,
- * no intrinsics. Blocks are counted where they are compressed, and added up on the way out. */
+/* The keeper in plain C: the bench's yardstick, and an independent reading of document 01 and requests [1] to [10] and [13].
+ * Portable C, no intrinsics. Blocks are counted where they are compressed, and added up on the way out. */
 #include "plain.h"
 
 #include <inttypes.h>
@@ -779,26 +779,45 @@ keeper_result plain_verify_end(const uint8_t *key, size_t key_bytes, const uint8
 
 enum { MEMBER = 40, MAX_MEMBERS = 32, MAX_RECEIPTS = 32 };
 
-keeper_result plain_certify(uint64_t members, uint64_t needed, const uint8_t *roster, size_t roster_bytes,
-                            const uint8_t *nonce, size_t nonce_bytes, uint64_t log, uint64_t position,
-                            const uint8_t *certificate, size_t certificate_bytes, uint64_t *place, uint32_t *mask)
+/* The refusal of a profile, its roster and a pile of receipts, or KEEPER_DONE and the members' keeper numbers. */
+static uint64_t station(uint64_t members, uint64_t needed, const uint8_t *roster, size_t roster_bytes, size_t pile_bytes,
+                        uint64_t number[MAX_MEMBERS])
 {
-    if (nonce_bytes != 32)
-        return refused(KEEPER_LENGTH);
-    size_t receipts = certificate_bytes / 160;
     if (members < 1 || members > MAX_MEMBERS || needed > members || needed <= members / 2)
-        return refused(KEEPER_PROFILE);
+        return KEEPER_PROFILE;
     if (roster_bytes != MEMBER * members)
-        return refused(KEEPER_ROSTER);
-    uint64_t number[MAX_MEMBERS];
+        return KEEPER_ROSTER;
     for (size_t i = 0; i < members; i++) {
         number[i] = get64(roster + MEMBER * i);
         for (size_t j = 0; j < i; j++)
             if (number[j] == number[i])
-                return refused(KEEPER_ROSTER);
+                return KEEPER_ROSTER;
     }
-    if (certificate_bytes % 160 != 0 || receipts > MAX_RECEIPTS)
-        return refused(KEEPER_NO_RECEIPT);
+    if (pile_bytes % 160 != 0 || pile_bytes / 160 > MAX_RECEIPTS)
+        return KEEPER_NO_RECEIPT;
+    return KEEPER_DONE;
+}
+
+/* The member with this keeper number, or members if there is none. */
+static size_t member_of(const uint64_t *number, size_t members, uint64_t keeper)
+{
+    size_t m = 0;
+    while (m < members && number[m] != keeper)
+        m++;
+    return m;
+}
+
+keeper_result plain_certify(uint64_t members, uint64_t needed, const uint8_t *roster, size_t roster_bytes,
+                            const uint8_t *nonce, size_t nonce_bytes, uint64_t log, uint64_t position,
+                            const uint8_t *certificate, size_t certificate_bytes, uint64_t *place, uint32_t *mask)
+{
+    uint64_t number[MAX_MEMBERS];
+    if (nonce_bytes != 32)
+        return refused(KEEPER_LENGTH);
+    uint64_t refusal = station(members, needed, roster, roster_bytes, certificate_bytes, number);
+    if (refusal != KEEPER_DONE)
+        return refused(refusal);
+    size_t receipts = certificate_bytes / 160;
 
     /* One row for each pair of value and digest that a good receipt shows, by the first place that shows it. */
     struct {
@@ -811,9 +830,7 @@ keeper_result plain_certify(uint64_t members, uint64_t needed, const uint8_t *ro
     for (size_t p = 0; p < receipts; p++) {
         const uint8_t *c = certificate + 160 * p;
         uint64_t keeper = get64(c + C_KEEPER);
-        size_t m = 0;
-        while (m < members && number[m] != keeper)
-            m++;
+        size_t m = member_of(number, members, keeper);
         if (m == members)
             continue;
         keeper_verdict verdict;
@@ -840,6 +857,59 @@ keeper_result plain_certify(uint64_t members, uint64_t needed, const uint8_t *ro
         }
     }
     return (keeper_result){KEEPER_TOO_FEW, blocks};
+}
+
+/* ---- a keeper that contradicts itself ---- */
+
+/* Two accepted receipts: "with one keeper, log and position that are both assigned with different values or digests, or one
+ * assigned and one skipped". */
+static int contradict(const uint8_t *a, const uint8_t *b)
+{
+    if (get64(a + C_KEEPER) != get64(b + C_KEEPER) || a[C_LOG] != b[C_LOG] || get64(a + C_POSITION) != get64(b + C_POSITION))
+        return 0;
+    if (a[C_KIND] == KEEPER_ASSIGNED && b[C_KIND] == KEEPER_ASSIGNED)
+        return memcmp(a + C_VALUE, b + C_VALUE, 64) != 0;
+    return (a[C_KIND] == KEEPER_ASSIGNED && b[C_KIND] == KEEPER_SKIPPED) ||
+           (a[C_KIND] == KEEPER_SKIPPED && b[C_KIND] == KEEPER_ASSIGNED);
+}
+
+keeper_result plain_contradiction(uint64_t members, uint64_t needed, const uint8_t *roster, size_t roster_bytes,
+                                  const uint8_t *receipts, size_t receipts_bytes, uint8_t *found, uint64_t *first,
+                                  uint64_t *second)
+{
+    uint64_t number[MAX_MEMBERS];
+    uint64_t refusal = station(members, needed, roster, roster_bytes, receipts_bytes, number);
+    if (refusal != KEEPER_DONE)
+        return refused(refusal);
+
+    /* Places of accepted receipts, each checked for the question that it carries itself, its own nonce included. */
+    size_t accepted[MAX_RECEIPTS], count = 0;
+    uint64_t blocks = 0;
+    for (size_t p = 0; p < receipts_bytes / 160; p++) {
+        const uint8_t *c = receipts + 160 * p;
+        uint64_t keeper = get64(c + C_KEEPER), position = get64(c + C_POSITION);
+        size_t m = member_of(number, members, keeper);
+        if (m == members)
+            continue;
+        int end = memcmp(c + C_NAME, name_end, 6) == 0;
+        keeper_verdict verdict;
+        keeper_result checked = verify(roster + MEMBER * m + 8, 32, c, 160, c + C_NONCE, 32, keeper, c[C_LOG],
+                                       end ? NULL : &position, &verdict);
+        blocks += checked.blocks;
+        if (checked.number == KEEPER_DONE)
+            accepted[count++] = p;
+    }
+    *found = 0;
+    for (size_t i = 0; i < count && !*found; i++) {
+        for (size_t j = i + 1; j < count && !*found; j++) {
+            if (contradict(receipts + 160 * accepted[i], receipts + 160 * accepted[j])) {
+                *found = 1;
+                *first = accepted[i];
+                *second = accepted[j];
+            }
+        }
+    }
+    return done(blocks);
 }
 
 /* ---- verdicts in words (docs/SENTENCES.md) ---- */

@@ -1,4 +1,4 @@
-/* The keeper in plain C, written for the bench from document 01 and requests [1] to [10] alone: the same calls as in
+/* The keeper in plain C, written for the bench from document 01 and requests [1] to [10] and [13] alone: the same calls as in
  * keeper.h, with the same arguments, numbers and orders of refusal. The constants and the types of result and verdict are
  * keeper.h's. */
 #ifndef PLAIN_H
@@ -64,6 +64,10 @@ keeper_result plain_verify_end(const uint8_t *key, size_t key_bytes, const uint8
 keeper_result plain_certify(uint64_t members, uint64_t needed, const uint8_t *roster, size_t roster_bytes,
                             const uint8_t *nonce, size_t nonce_bytes, uint64_t log, uint64_t position,
                             const uint8_t *certificate, size_t certificate_bytes, uint64_t *place, uint32_t *mask);
+
+keeper_result plain_contradiction(uint64_t members, uint64_t needed, const uint8_t *roster, size_t roster_bytes,
+                                  const uint8_t *receipts, size_t receipts_bytes, uint8_t *found, uint64_t *first,
+                                  uint64_t *second);
 
 uint8_t plain_receipt_sentence(uint8_t number, const keeper_verdict *verdict, uint8_t *sentence, size_t sentence_bytes);
 

@@ -28,6 +28,7 @@ type Verify = unsafe extern "C" fn(In, usize, In, usize, In, usize, u64, u64, u6
 type VerifyEnd = unsafe extern "C" fn(In, usize, In, usize, In, usize, u64, u64, *mut Verdict) -> KeeperResult;
 type Certify =
     unsafe extern "C" fn(u64, u64, In, usize, In, usize, u64, u64, In, usize, Num, *mut u32) -> KeeperResult;
+type Contradiction = unsafe extern "C" fn(u64, u64, In, usize, In, usize, *mut u8, Num, Num) -> KeeperResult;
 type ReceiptSentence = unsafe extern "C" fn(u8, *const Verdict, Out, usize) -> u8;
 type CertificateSentence = unsafe extern "C" fn(u8, u64, u32, Out, usize) -> u8;
 type Compare =
@@ -54,6 +55,7 @@ pub struct Side {
     verify_lookup: Verify,
     verify_end: VerifyEnd,
     certify: Certify,
+    contradiction: Contradiction,
     receipt_sentence: ReceiptSentence,
     certificate_sentence: CertificateSentence,
     compare: Compare,
@@ -63,7 +65,7 @@ macro_rules! side {
     ($side:ident, $label:expr, $hash:ident, $tag:ident, $format:ident, $check:ident, $free:ident, $carry:ident,
      $append:ident, $advance:ident, $truncate:ident, $lookup:ident, $end:ident, $pack:ident, $split:ident,
      $survey_advance:ident, $survey_lookup:ident, $survey_close:ident, $verify_lookup:ident, $verify_end:ident,
-     $certify:ident, $receipt_sentence:ident, $certificate_sentence:ident, $compare:ident) => {
+     $certify:ident, $contradiction:ident, $receipt_sentence:ident, $certificate_sentence:ident, $compare:ident) => {
         extern "C" {
             fn $hash(message: In, message_bytes: usize, digest: Out, digest_bytes: usize) -> KeeperResult;
             fn $tag(key: In, key_bytes: usize, text: In, text_bytes: usize, tag: Out, tag_bytes: usize) -> KeeperResult;
@@ -114,6 +116,10 @@ macro_rules! side {
                 members: u64, needed: u64, roster: In, roster_bytes: usize, nonce: In, nonce_bytes: usize, log: u64,
                 position: u64, certificate: In, certificate_bytes: usize, place: Num, mask: *mut u32,
             ) -> KeeperResult;
+            fn $contradiction(
+                members: u64, needed: u64, roster: In, roster_bytes: usize, receipts: In, receipts_bytes: usize,
+                found: *mut u8, first: Num, second: Num,
+            ) -> KeeperResult;
             fn $receipt_sentence(number: u8, verdict: *const Verdict, sentence: Out, sentence_bytes: usize) -> u8;
             fn $certificate_sentence(number: u8, place: u64, mask: u32, sentence: Out, sentence_bytes: usize) -> u8;
             fn $compare(
@@ -143,6 +149,7 @@ macro_rules! side {
             verify_lookup: $verify_lookup,
             verify_end: $verify_end,
             certify: $certify,
+            contradiction: $contradiction,
             receipt_sentence: $receipt_sentence,
             certificate_sentence: $certificate_sentence,
             compare: $compare,
@@ -154,13 +161,13 @@ side!(
     KEEPER, "keeper", keeper_hash, keeper_tag, keeper_format, keeper_check, keeper_free, keeper_carry, keeper_append,
     keeper_advance, keeper_truncate, keeper_lookup, keeper_end, keeper_pack, keeper_split, keeper_survey_advance,
     keeper_survey_lookup, keeper_survey_close, keeper_verify_lookup, keeper_verify_end, keeper_certify,
-    keeper_receipt_sentence, keeper_certificate_sentence, keeper_compare
+    keeper_contradiction, keeper_receipt_sentence, keeper_certificate_sentence, keeper_compare
 );
 side!(
     PLAIN, "plain C", plain_hash, plain_tag, plain_format, plain_check, plain_free, plain_carry, plain_append,
     plain_advance, plain_truncate, plain_lookup, plain_end, plain_pack, plain_split, plain_survey_advance,
     plain_survey_lookup, plain_survey_close, plain_verify_lookup, plain_verify_end, plain_certify,
-    plain_receipt_sentence, plain_certificate_sentence, plain_compare
+    plain_contradiction, plain_receipt_sentence, plain_certificate_sentence, plain_compare
 );
 
 // What keeper.h asks holds of slices and references: pointers that are not null, bytes that can be read or written, and
@@ -302,6 +309,17 @@ impl Side {
             (self.certify)(
                 profile.0, profile.1, roster.as_ptr(), roster.len(), nonce.as_ptr(), nonce.len(), log, position,
                 certificate.as_ptr(), certificate.len(), place, mask,
+            )
+        }
+    }
+
+    pub fn contradiction(
+        &self, profile: (u64, u64), roster: &[u8], receipts: &[u8], found: &mut u8, first: &mut u64, second: &mut u64,
+    ) -> KeeperResult {
+        unsafe {
+            (self.contradiction)(
+                profile.0, profile.1, roster.as_ptr(), roster.len(), receipts.as_ptr(), receipts.len(), found, first,
+                second,
             )
         }
     }

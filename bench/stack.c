@@ -49,6 +49,7 @@ CALL(keeper_survey_close, table, sizeof table, 0, 1, value, 32, &low, &high)
 CALL(keeper_verify_lookup, key, 32, receipt, 160, nonce, 32, 7, 0, 9, &verdict)
 CALL(keeper_verify_end, key, 32, end, 160, nonce, 32, 7, 0, &verdict)
 CALL(keeper_certify, 3, 2, roster, sizeof roster, nonce, 32, 0, 9, certificate, sizeof certificate, &place, &mask)
+CALL(keeper_contradiction, 3, 2, roster, sizeof roster, certificate, sizeof certificate, &found, &low, &high)
 CALL_ALONE(keeper_receipt_sentence, 0, &verdict, sentence, sizeof sentence)
 CALL_ALONE(keeper_certificate_sentence, 0, 31, UINT32_MAX, sentence, sizeof sentence)
 CALL(keeper_compare, nonce, 32, 1, values, sizeof values, nonce, 32, 1, values, sizeof values, collision, 144, &found)
@@ -116,6 +117,11 @@ int main(void)
     certificate[160 + KEEPER_AT_KEEPER + 7] = 6;
     keeper_tag(roster + 48, 32, certificate + 160, KEEPER_AT_TAG, certificate + 160 + KEEPER_AT_TAG, 32);
     MEASURE(keeper_certify);
+    /* The first receipt again with another value: both are assigned, and differ. */
+    memcpy(certificate + 320, receipt, 160);
+    certificate[320 + KEEPER_AT_VALUE] ^= 1;
+    keeper_tag(roster + 88, 32, certificate + 320, KEEPER_AT_TAG, certificate + 320 + KEEPER_AT_TAG, 32);
+    MEASURE(keeper_contradiction);
     MEASURE(keeper_receipt_sentence);
     MEASURE(keeper_certificate_sentence);
     MEASURE(keeper_compare);

@@ -459,6 +459,39 @@ impl Table {
         }
     }
 
+    /// Piles of three keepers' receipts on one position, in turn. Keeper 100's are on another where the last two contradict
+    /// each other: every other pair is looked at first.
+    fn contradictions(&mut self) {
+        self.head("Contradictions", "plain C");
+        let mut random = Random(12);
+        let keys = random.bytes(96);
+        let key = |m: u64| &keys[32 * m as usize..32 * (m as usize + 1)];
+        let roster: Vec<u8> = (0..3u64).flat_map(|m| [&(m + 100).to_be_bytes()[..], key(m)].concat()).collect();
+        let (pair, other) = (random.bytes(64), random.bytes(64));
+        for (receipts, last) in [(2, true), (16, true), (32, true), (2, false), (16, false), (32, false)] {
+            let mut pile = Vec::new();
+            for p in 0..receipts {
+                let nonce = random.bytes(32);
+                let receipt = if last && p + 2 >= receipts {
+                    let told = if p + 1 == receipts { &other } else { &pair };
+                    Receipt::assigned(100, 3, 98, &nonce, told).write(key(0))
+                } else {
+                    Receipt::assigned(p % 3 + 100, 3, 99, &nonce, &pair).write(key(p % 3))
+                };
+                pile.extend(receipt);
+            }
+            let due = if last { (1, receipts - 2, receipts - 1) } else { (0, 0, 0) };
+            let find = |side: &Side| {
+                let (mut found, mut first, mut second) = (9, 0, 0);
+                let answer = side.contradiction((3, 2), &roster, black_box(&pile), &mut found, &mut first, &mut second);
+                assert_eq!((answer.number, (found as u64, first, second)), (0, due));
+            };
+            let times = self.timer.pair(|| find(&KEEPER), || find(&PLAIN));
+            let what = if last { "the last two contradict" } else { "none" };
+            self.row(&format!("{receipts} receipts of three keepers, {what}"), &times, None, "");
+        }
+    }
+
     /// An accepted verdict of short numbers and one of long ones, and the least and most members.
     fn sentences(&mut self) {
         self.head("Verdicts in words", "plain C");
@@ -558,6 +591,7 @@ pub fn run(quick: bool) -> bool {
     table.surveys();
     table.verifiers();
     table.certificates();
+    table.contradictions();
     table.sentences();
     table.runs();
     println!("\n{} rows, {} over their aim", table.rows, table.over.len());

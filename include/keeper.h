@@ -35,7 +35,7 @@ extern "C" {
 #endif
 
 /* One more with each change of a prototype, a constant, a rule, or the bytes of a table or receipt. */
-#define KEEPER_VERSION 11
+#define KEEPER_VERSION 12
 
 /* Numbers returned. */
 enum {
@@ -49,7 +49,8 @@ enum {
     KEEPER_LENGTH = 7,          /* a buffer of another length than its own, another number of reserves than logs, or a
                                    message longer than FIPS 180-4 allows */
     KEEPER_COUNTS = 8,          /* format with a log or slot count out of range, or reserves that together pass the slots */
-    KEEPER_NO_RECEIPT = 9,      /* not 160 bytes or no possible entry; a certificate that is not 0 to 32 whole receipts */
+    KEEPER_NO_RECEIPT = 9,      /* not 160 bytes or no possible entry; a certificate or pile that is not 0 to 32 whole
+                                   receipts */
     KEEPER_TAG = 10,            /* the tag is wrong */
     KEEPER_OTHER_QUESTION = 11, /* the receipt answers another question */
     KEEPER_ROSTER = 12,         /* no roster of the profile's number of members */
@@ -252,6 +253,23 @@ keeper_result keeper_verify_end(const uint8_t *key, size_t key_bytes, const uint
 keeper_result keeper_certify(uint64_t members, uint64_t needed, const uint8_t *roster, size_t roster_bytes,
                              const uint8_t *nonce, size_t nonce_bytes, uint64_t log, uint64_t position,
                              const uint8_t *certificate, size_t certificate_bytes, uint64_t *place, uint32_t *mask);
+
+/* Whether a member of a station contradicts itself in a pile, 0 to 32 receipts on end, as offices pool them: the profile and
+ * the roster are those of keeper_certify. A receipt of a member, by its keeper number, counts if it is accepted under that
+ * member's key for the question that it carries itself, LOOKUP or END, its own nonce included; others are passed over. Two
+ * that count are a contradiction if keeper, log and position are the same and either both are assigned, with different values
+ * or digests, or one is assigned and the other skipped.
+ *
+ * found becomes 1, and first and second the places, from 0, of the first such pair: the least first place, then the least
+ * second one behind it. If there is none, found becomes 0, and first and second stay as they were. A keeper whose table was
+ * formatted once and from then on only called, and carried once at most, never contradicts itself. needed takes part in the
+ * test for 17 alone.
+ *
+ * Blocks: 6 for each receipt that is a possible entry with the keeper number of a member, accepted or not; with a refusal none.
+ * Refused, in this order: 17; 12; 9. */
+keeper_result keeper_contradiction(uint64_t members, uint64_t needed, const uint8_t *roster, size_t roster_bytes,
+                                   const uint8_t *receipts, size_t receipts_bytes, uint8_t *found, uint64_t *first,
+                                   uint64_t *second);
 
 /* Writes a verdict on a receipt as one English sentence in ASCII, for a duty book: number is what keeper_verify_lookup or
  * keeper_verify_end returned, verdict what it filled. Number 0 says the verdict's five numbers, any other the refusal, whatever

@@ -1,13 +1,15 @@
-/* Writes the file of receipts that examples/python reads: a keeper's key, then questions, each with the receipt that came for
- * it. The first receipts are good; the others were spoiled, or are shown for another question. */
+/* Writes the files of receipts that examples/python reads: a keeper's key, then questions, each with the receipt that came for
+ * it. Of the first file the first receipts are good; the others were spoiled, or are shown for another question. With an argument
+ * it writes another office's file: that office asked keeper 8 too, and keeper 7 after its memory had been put back. */
 #include "keeper.h"
 #include <stdio.h>
-#include <string.h>
+#include <stdlib.h>
 
-enum { KEEPER = 7, STAGE = 0, LOGS = 2, SLOTS = 6 };
+enum { STAGE = 0, LOGS = 2, SLOTS = 6, NEXT = 0 };
 
 static uint8_t table[KEEPER_TABLE_BYTES(LOGS, SLOTS)];
-static const uint8_t key[KEEPER_KEY_BYTES] = "32 bytes that only two know.....";
+static int keeper = 7;
+static uint8_t key[KEEPER_KEY_BYTES] = "32 bytes that only two know.....";
 static const uint64_t reserves[LOGS]; /* no slot is promised */
 static uint8_t nonce[KEEPER_NONCE_BYTES];
 static uint8_t receipt[KEEPER_RECEIPT_BYTES];
@@ -22,67 +24,125 @@ static void print_hex(char before, const uint8_t *bytes, size_t size)
 static void print_question(int position, size_t receipt_bytes)
 {
     if (position > 0)
-        printf("lookup,%d,%d,%d", KEEPER, STAGE, position);
+        printf("lookup,%d,%d,%d", keeper, STAGE, position);
     else
-        printf("end,%d,%d", KEEPER, STAGE);
+        printf("end,%d,%d", keeper, STAGE);
     print_hex(',', nonce, sizeof nonce);
     print_hex(',', receipt, receipt_bytes);
     putchar('\n');
 }
 
-static uint64_t fetch(int position)
+/* Ends the program where a call was refused, since nothing below expects that. */
+static void done(uint64_t number)
+{
+    if (number != KEEPER_DONE)
+        exit(1);
+}
+
+static void fetch(int position)
 {
     uint64_t examined;
     nonce[0]++; /* a fresh one for each question; in earnest, random bytes */
     if (position > 0)
-        return keeper_lookup(table, sizeof table, STAGE, position, nonce, sizeof nonce, receipt, sizeof receipt, &examined)
-            .number;
-    return keeper_end(table, sizeof table, STAGE, nonce, sizeof nonce, receipt, sizeof receipt).number;
+        done(keeper_lookup(table, sizeof table, STAGE, position, nonce, sizeof nonce, receipt, sizeof receipt, &examined)
+                 .number);
+    else
+        done(keeper_end(table, sizeof table, STAGE, nonce, sizeof nonce, receipt, sizeof receipt).number);
 }
 
-int main(void)
+static void ask(int position)
 {
-    static const int good[] = {5, 4, 1, 9, 0};
-    const uint8_t digest[KEEPER_DIGEST_BYTES] = {0};
-    uint8_t value[KEEPER_VALUE_BYTES] = {0};
-    uint64_t low, high;
+    fetch(position);
+    print_question(position, sizeof receipt);
+}
 
-    uint64_t failed = keeper_format(table, sizeof table, LOGS, SLOTS, KEEPER, key, sizeof key, reserves, LOGS).number;
-    printf("# key,KEEPER,KEY; then questions: lookup,KEEPER,LOG,POSITION,NONCE,RECEIPT and end,KEEPER,LOG,NONCE,RECEIPT\n");
-    printf("key,%d", KEEPER);
+/* Formats the keeper's table, and writes the line with its key. */
+static void begin(void)
+{
+    done(keeper_format(table, sizeof table, LOGS, SLOTS, keeper, key, sizeof key, reserves, LOGS).number);
+    printf("key,%d", keeper);
     print_hex(',', key, sizeof key);
     putchar('\n');
+}
+
+/* A reading at a position above the last one, or at the next; readings are numbers below 2^16, in the last bytes of a value. */
+static void put(int position, int reading)
+{
+    const uint8_t digest[KEEPER_DIGEST_BYTES] = {0};
+    const uint8_t value[KEEPER_VALUE_BYTES] = {[30] = (uint8_t)(reading >> 8), [31] = (uint8_t)reading};
+    uint64_t low, high;
+    if (position > 0)
+        done(keeper_advance(table, sizeof table, STAGE, position, digest, sizeof digest, value, sizeof value, &low, &high)
+                 .number);
+    else
+        done(keeper_append(table, sizeof table, STAGE, value, sizeof value, &low, &high).number);
+}
+
+static void first_office(void)
+{
+    uint64_t low, high;
+    begin();
 
     /* The log's end before its first reading. */
-    failed |= fetch(0);
-    print_question(0, sizeof receipt);
+    ask(0);
 
-    /* Readings 412, 431 and 455 at positions 1, 2 and 5, the first of which is then forgotten. */
-    value[30] = 1, value[31] = 156;
-    failed |= keeper_append(table, sizeof table, STAGE, value, sizeof value, &low, &high).number;
-    value[31] = 175;
-    failed |= keeper_append(table, sizeof table, STAGE, value, sizeof value, &low, &high).number;
-    value[31] = 199;
-    failed |= keeper_advance(table, sizeof table, STAGE, 5, digest, sizeof digest, value, sizeof value, &low, &high).number;
-    failed |= keeper_truncate(table, sizeof table, STAGE, 2, &low, &high).number;
+    /* Readings at positions 1, 2 and 5, the first of which is then forgotten. */
+    put(NEXT, 412);
+    put(NEXT, 431);
+    put(5, 455);
+    done(keeper_truncate(table, sizeof table, STAGE, 2, &low, &high).number);
+    ask(5);
+    ask(4);
+    ask(1);
+    ask(9);
+    ask(0);
 
-    for (size_t i = 0; i < sizeof good / sizeof *good; i++) {
-        failed |= fetch(good[i]);
-        print_question(good[i], sizeof receipt);
-    }
-
-    failed |= fetch(5);
+    fetch(5);
     receipt[KEEPER_AT_VALUE + 31]--;
     printf("# another value was written into the receipt\n");
     print_question(5, sizeof receipt);
-    failed |= fetch(5);
+    fetch(5);
     printf("# an old receipt, for another nonce\n");
     nonce[0]++;
     print_question(5, sizeof receipt);
-    failed |= fetch(5);
+    fetch(5);
     printf("# a receipt for another position\n");
     print_question(2, sizeof receipt);
     printf("# the last byte was lost\n");
     print_question(5, sizeof receipt - 1);
-    return failed != 0;
+}
+
+/* Every receipt is good by itself. Keeper 8's sensor misread the crest, which is no contradiction. Keeper 7 was made to begin again
+ * after its second reading: now one stands at position 4, which the first office was shown as skipped, and another at 5. */
+static void other_office(void)
+{
+    nonce[1] = 1; /* other nonces than the first office's */
+    keeper = 8;
+    key[31] = '!';
+    begin();
+    put(NEXT, 412);
+    put(5, 155);
+    ask(5);
+
+    keeper = 7;
+    key[31] = '.';
+    begin();
+    put(NEXT, 412);
+    put(NEXT, 431);
+    put(4, 440);
+    put(NEXT, 460);
+    ask(2);
+    ask(5);
+    ask(4);
+}
+
+int main(int argc, char **argv)
+{
+    (void)argv;
+    printf("# key,KEEPER,KEY; then questions: lookup,KEEPER,LOG,POSITION,NONCE,RECEIPT and end,KEEPER,LOG,NONCE,RECEIPT\n");
+    if (argc > 1)
+        other_office();
+    else
+        first_office();
+    return 0;
 }

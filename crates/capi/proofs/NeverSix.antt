@@ -24,6 +24,7 @@ use Rattle.receipt.specs.Writer.{writeRefusal}
 use Rattle.receipt.specs.Verdict.{carried, unread, verifyRefusal, verdict}
 use Rattle.receipt.specs.declared.Question.{Question}
 use Rattle.quorum.specs.Certificate.{unread as unreadPile, firstPlace, named, certificateRefusal, certificate}
+use Rattle.equivocation.specs.Pairs.{firstPair, placesOf, contradictionRefusal, contradiction}
 use Rattle.sentence.specs.Sentence.{sentenceRefusal}
 use Rattle.a2m.specs.Call.{Call, Reply, refused, done, found, ended}
 use Rattle.a2m.specs.TableCalls.{tableStep}
@@ -121,6 +122,17 @@ module _ (n k : ℕ) (roster nonce : List ℕ) (log position : ℕ) (cert : List
   pub certify-number : certificate n k roster nonce log position cert .number ≢ 6
   unfolding certificate
   certify-number = never-numbered 6 not-done (certificateRefusal n k roster nonce log position cert) (named roster nonce log position cert (firstPlace roster nonce log position cert k)) certify-refusal
+
+-- ---- contradictions
+
+module _ (n k : ℕ) (roster pile : List ℕ) where
+  contradiction-refusal : contradictionRefusal n k roster pile ≢ some 6
+  unfolding contradictionRefusal
+  contradiction-refusal = never 6 _ refl
+
+  pub contradiction-number : contradiction n k roster pile .number ≢ 6
+  unfolding contradiction
+  contradiction-number = never-numbered 6 not-done (contradictionRefusal n k roster pile) (placesOf (firstPair roster pile)) contradiction-refusal
 
 -- ---- verdicts in words
 

@@ -2,6 +2,7 @@
 // number, with the blocks hashed where it counts them, and writes results where the number is 0, and only there.
 pub mod calls;
 pub mod comparing;
+pub mod contradictions;
 pub mod hashes;
 pub mod sentences;
 pub mod surveys;

@@ -23,9 +23,12 @@ use Rattle.refusal.specs.Answer.{Answer, answer}
 use Rattle.receipt.specs.Verdict.{verdictAnswer, verdictBlocks}
 use Rattle.receipt.specs.declared.Verdict.{Verdict}
 use Rattle.receipt.specs.declared.Verdict.the-variants as verdict
+use Rattle.equivocation.specs.Pairs.{contradictionAnswer, contradictionBlocks}
+use Rattle.equivocation.specs.declared.Contradiction.{Contradiction}
+use Rattle.equivocation.specs.declared.Contradiction.the-variants as contradiction
 use Rattle.runs.specs.Call.{comparisonAnswer, comparisonBlocks, Answer as Compared}
 use Rattle.runs.specs.declared.Comparison.{Comparison}
-use Rattle.capi_results.specs.Results.{replyNumber, lowAfter, highAfter, examinedAfter, freeAfter, positionAfter, verdictAfter, placeAfter, maskAfter, codeAfter}
+use Rattle.capi_results.specs.Results.{replyNumber, lowAfter, highAfter, examinedAfter, freeAfter, positionAfter, verdictAfter, placeAfter, maskAfter, pairCode, foundAfter, firstAfter, secondAfter, codeAfter}
 
 -- no refusal has the number 0
 not-done : (why : Refusal) → eqb (numberOf why) 0 ≡ false
@@ -149,6 +152,43 @@ certified p m place mask = (refl, (refl, refl))
 pub not-certified : (why : Refusal) (place mask : ℕ) → Certifies (numberOf why) place mask place mask (answer (numberOf why) [])
 unfolding placeAfter maskAfter
 not-certified why place mask = (refl, (sym (ap (λ (t : Bool). cond t (getD {A = ℕ} [] 0 0) place) (not-done why)), sym (ap (λ (t : Bool). cond t (getD {A = ℕ} [] 1 0) mask) (not-done why))))
+
+-- ---- contradictions
+
+-- what a search gives: its number n, the blocks b, and the results f, p and q
+abbrev pub Contradicts : (n b f p q found first second : ℕ) → Answer → ℕ → Type 0
+Contradicts n b f p q found first second a k =
+    (n ≡ a .number) × ((b ≡ k) × ((f ≡ foundAfter a found) × ((p ≡ firstAfter a first) × (q ≡ secondAfter a second))))
+
+module _ (v : Contradiction) (found first second : ℕ) where
+  pub pair-found : (p q b : ℕ) → v ≡ contradiction.Pair p q b → Contradicts 0 b 1 p q found first second (contradictionAnswer v) (contradictionBlocks v)
+  unfolding pairCode foundAfter firstAfter secondAfter
+  pair-found p q b e = subst (λ (x : Contradiction). Contradicts 0 b 1 p q found first second (contradictionAnswer x) (contradictionBlocks x)) (sym e) (refl, (refl, (refl, (refl, refl))))
+
+  pub none-found : (b : ℕ) → v ≡ contradiction.Nothing b → Contradicts 0 b 0 first second found first second (contradictionAnswer v) (contradictionBlocks v)
+  unfolding pairCode foundAfter firstAfter secondAfter
+  none-found b e = subst (λ (x : Contradiction). Contradicts 0 b 0 first second found first second (contradictionAnswer x) (contradictionBlocks x)) (sym e) (refl, (refl, (refl, (refl, refl))))
+
+  pub refused-search : {n b : ℕ} (why : Refusal) (k : ℕ) → v ≡ contradiction.Refused why k → (n ≡ numberOf why) × (b ≡ k)
+      → Contradicts n b found first second found first second (contradictionAnswer v) (contradictionBlocks v)
+  unfolding pairCode foundAfter firstAfter secondAfter
+  refused-search {n} {b} why k e h =
+      let kept : (x old : ℕ) → old ≡ cond (eqb (numberOf why) 0) x old = λ x old. sym (ap (λ (t : Bool). cond t x old) (not-done why)) in
+      subst (λ (x : Contradiction). Contradicts n b found first second found first second (contradictionAnswer x) (contradictionBlocks x)) (sym e) (h .0, (h .1, (kept 0 found, (kept first first, kept second second))))
+
+-- the same of the answer and the blocks that the search's contract names
+pub searched : {n b f p q j k : ℕ} {a s : Answer} (found first second : ℕ) → Contradicts n b f p q found first second a j → (a ≡ s) × (j ≡ k)
+    → Contradicts n b f p q found first second s k
+searched found first second h e = (
+  h .0 ∙ ap (λ (x : Answer). x .number) (e .0),
+  (
+    h .1 .0 ∙ e .1,
+    (
+      h .1 .1 .0 ∙ ap (λ (x : Answer). foundAfter x found) (e .0),
+      (h .1 .1 .1 .0 ∙ ap (λ (x : Answer). firstAfter x first) (e .0), h .1 .1 .1 .1 ∙ ap (λ (x : Answer). secondAfter x second) (e .0)),
+    ),
+  ),
+)
 
 -- ---- runs
 

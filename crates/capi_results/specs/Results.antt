@@ -2,7 +2,7 @@
 -- (document 02 [2]: "a refusal returns its number with them"), so that a refusal leaves every result as it was.
 use Prim.Native.Nat.{ℕ}
 use mathlib.Core.Bool.{cond}
-use mathlib.Core.List.{List}
+use mathlib.Core.List.{List, [], _∷_}
 use mathlib.Core.Option.{Option, none, some}
 use lib.Dec.{eqb}
 use lib.ListN.{getD}
@@ -60,6 +60,23 @@ placeAfter a old = cond (eqb (a .number) 0) (getD (a .values) 0 0) old
 
 unfoldable pub maskAfter : Answer → ℕ → ℕ
 maskAfter a old = cond (eqb (a .number) 0) (getD (a .values) 1 0) old
+
+-- ---- contradictions
+
+-- "answer the first pair .. If there is none, say so": 1 for an answer with places, 0 for one without
+unfoldable pub pairCode : List ℕ → ℕ
+pairCode [] = 0
+pairCode (p ∷ ps) = 1
+
+unfoldable pub foundAfter : Answer → ℕ → ℕ
+foundAfter a old = cond (eqb (a .number) 0) (pairCode (a .values)) old
+
+-- a pair's two places; where there are none, both results stay too
+unfoldable pub firstAfter : Answer → ℕ → ℕ
+firstAfter a old = cond (eqb (a .number) 0) (getD (a .values) 0 old) old
+
+unfoldable pub secondAfter : Answer → ℕ → ℕ
+secondAfter a old = cond (eqb (a .number) 0) (getD (a .values) 1 old) old
 
 -- ---- runs
 

@@ -1,6 +1,7 @@
 // What C gets of an answer: its number and the blocks hashed, and the results of an accepted call.
 use a2m::Change;
 use a2m::Finding;
+use equivocation::Contradiction;
 use octets::wide;
 use receipt::Verdict;
 use refusal::Refusal;
@@ -11,7 +12,8 @@ ghost use Rattle.refusal.specs.Number.{numberOf};
 ghost use Rattle.refusal.specs.Work.{workedNumber, workedBlocks};
 ghost use Rattle.a2m.specs.Opened.{changeReply, changeBlocks, findingReply, findingBlocks};
 ghost use Rattle.receipt.specs.Verdict.{verdictAnswer, verdictBlocks};
-ghost use Rattle.capi_results.specs.Results.{replyNumber, lowAfter, highAfter, examinedAfter, verdictAfter};
+ghost use Rattle.equivocation.specs.Pairs.{contradictionAnswer, contradictionBlocks};
+ghost use Rattle.capi_results.specs.Results.{replyNumber, lowAfter, highAfter, examinedAfter, verdictAfter, foundAfter, firstAfter, secondAfter};
 
 // C's keeper_result, returned by value: document 01's number, and the blocks hashed (document 02 [2]). A refusal has both,
 // so that none has to write a result.
@@ -100,5 +102,37 @@ pub fn judged(judgement: Verdict, verdict: &mut [u64; 5]) -> KeeperResult
             KeeperResult { number: 0, blocks }
         }
         Verdict::Refused { why, blocks } => refused(why, blocks),
+    }
+}
+
+// The result of a search for a contradiction, and the places of a pair that it found.
+pub fn contradicted(
+    contradiction: Contradiction,
+    found: &mut u8,
+    first: &mut u64,
+    second: &mut u64,
+) -> KeeperResult
+    ensures answer { λ r. ⌜ r .number ≡ contradictionAnswer contradiction .number ⌝ }
+    ensures blocks { λ r. ⌜ r .blocks ≡ contradictionBlocks contradiction ⌝ }
+    ensures found { λ _. ⌜ now (found .exit) ≡ foundAfter (contradictionAnswer contradiction) (now (found .entry)) ⌝ }
+    ensures first { λ _. ⌜ now (first .exit) ≡ firstAfter (contradictionAnswer contradiction) (now (first .entry)) ⌝ }
+    ensures second { λ _. ⌜ now (second .exit) ≡ secondAfter (contradictionAnswer contradiction) (now (second .entry)) ⌝ }
+{
+    match contradiction {
+        Contradiction::Pair {
+            first: p,
+            second: q,
+            blocks,
+        } => {
+            *found = 1;
+            *first = p as u64;
+            *second = q as u64;
+            KeeperResult { number: 0, blocks }
+        }
+        Contradiction::Nothing { blocks } => {
+            *found = 0;
+            KeeperResult { number: 0, blocks }
+        }
+        Contradiction::Refused { why, blocks } => refused(why, blocks),
     }
 }

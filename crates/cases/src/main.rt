@@ -37,6 +37,8 @@
 // certify MEMBERS NEEDED SLOT SIZE NONCE LOG POSITION RECEIPTS SIZE
 //                                          a profile; a roster, from a slot on; a byte for each receipt, its slot; the bytes of the
 //                                          certificate
+// contradict MEMBERS NEEDED SLOT SIZE RECEIPTS SIZE
+//                                          the same for the first contradicting pair
 // compare START FIRST VALUES START FIRST VALUES SLOT SIZE
 //                                          two runs, and the slot whose first bytes are lent
 mod comparing;
@@ -61,6 +63,7 @@ use printing::text;
 use receipt::Ask;
 use receipt::Name;
 use receipts::certified;
+use receipts::contradicted;
 use receipts::flip;
 use receipts::tagged;
 use receipts::verified;
@@ -137,6 +140,7 @@ lookup n n n x n n
 close n n x
 pack n n
 split n
+contradict n n n n x n
 ",
     ) {
         0 => return Step::Each(v.a),
@@ -173,6 +177,7 @@ split n
         29 => closes(v, store, table),
         30 => packed(v.a, v.b),
         31 => placed(v.a),
+        32 => contradicted(v, store, pile),
         _ => unknown(form),
     }
     Step::On

@@ -4,6 +4,8 @@ use crate::report::show;
 use case_fields::Values;
 use case_fields::keep;
 use case_fields::slot;
+use equivocation::Contradiction;
+use equivocation::find;
 use hmac::tag;
 use octets::wide;
 use printing::text;
@@ -119,5 +121,23 @@ pub fn certified(v: Values, store: &[u8], pile: &[u8]) {
             &[place as u64, mask as u64, blocks],
         ),
         Station::Refused { why, blocks } => refused(b"refused: %d, %d blocks\n", why, blocks),
+    }
+}
+
+// The first pair of a pile's receipts that contradict each other.
+pub fn contradicted(v: Values, store: &[u8], pile: &[u8]) {
+    let mut receipts = [0u8; 5280];
+    gather(pile, slot(store, 5, v.e), &mut receipts);
+    match find(v.a, v.b, slot(pile, v.c, v.d), slot(&receipts, 0, v.f)) {
+        Contradiction::Pair {
+            first,
+            second,
+            blocks,
+        } => show(
+            b"pair: places %d and %d, %d blocks\n",
+            &[first as u64, second as u64, blocks],
+        ),
+        Contradiction::Nothing { blocks } => show(b"no pair, %d blocks\n", &[blocks]),
+        Contradiction::Refused { why, blocks } => refused(b"refused: %d, %d blocks\n", why, blocks),
     }
 }

@@ -67,7 +67,7 @@ pub record Keeps (b : Model) : Type 0 where
 step-keeps : (ru : Rules) (b : Model) → Keeps b → (c : Call) → Wide c → Keeps (modelStep ru b c .state)
 step-keeps ru b k c w = record { sound = step-sound ru b (k .sound) c; keeper = rw (step-fixed ru b c .keeper) (k .keeper); fits = step-fits ru b (k .fits) c w }
 
-turn-keeps : (b : Model) → Keeps b → (t : Turn) → WideTurn t → Keeps (modelTurn b t .state)
+pub turn-keeps : (b : Model) → Keeps b → (t : Turn) → WideTurn t → Keeps (modelTurn b t .state)
 turn-keeps b k t w = turn-so b t (λ (o : Effect Model). Keeps (o .state)) (λ (n : ℕ) (h : 7 ≤ n). k) (λ (c : Call) (v : WideTurn t → Wide c). step-keeps (t .rules) b k c (v w))
 
 -- ---- request i

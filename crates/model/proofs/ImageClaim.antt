@@ -21,6 +21,7 @@ use Rattle.model.proofs.Turns.{WideTurn, Each, each-on, each-so, replie
 use Rattle.model.proofs.Along.{Keeps, after-fixed, keeps-after}
 use Rattle.model.proofs.History.{model-agreeing, model-unskipped, model-remembered, model-positive}
 use Rattle.model.proofs.Remembers.{model-remembers}
+use Rattle.model.proofs.Apart.{model-apart}
 use Rattle.model.proofs.Accepted.{Attests, attests01, attests, AttestsTurn, model-verified}
 use Rattle.survey.proofs.RequestLaws.{steps-so}
 use Rattle.model.proofs.Requests.{book-is}
@@ -110,6 +111,7 @@ image-claim b keeps key few ts pt m R k qs w =
       agreeing = rw e (model-agreeing b keeps (ts ++ us) W);
       unskipped = rw e (model-unskipped b keeps (ts ++ us) W);
       remembered = rw e (model-remembered b keeps (ts ++ us) W);
+      apart = rw e (model-apart b keeps (ts ++ us) W A2);
       positive = rw e (model-positive b keeps (ts ++ us) W);
       verified = rw e (model-verified b keeps key few (ts ++ us) W A2);
       slots = λ (s : ℕ) (s1 : 1 ≤ s) (sS : s ≤ b .size). meets-once M (after modelTurn b (ts ++ us)) R1 s s1 (rw size sS);

@@ -1,5 +1,6 @@
 pub mod Accepted
 pub mod Along
+pub mod Apart
 pub mod Backed
 pub mod Calls01Laws
 pub mod Carried
@@ -20,6 +21,7 @@ pub mod Later
 pub mod Lookups
 pub mod MarkedSet
 pub mod MarkedTable
+pub mod NeverPair
 pub mod NeverSix
 pub mod NoReserves
 pub mod Octets01

@@ -24,7 +24,7 @@ use Rattle.a2m.specs.ImageCalls.{rowIn, entriesIn, wrongLength, misplaced, spen
 use Rattle.model.specs.Log.{lastEntry, keepFrom, keepBelow, entered, cutAt, standingAmong, standing, kindOf, referenceOf, examinedFor}
 use Rattle.model.specs.Model.{rules01, rules, Model, newModel, logAt, total, lacks, lacksBut, slotRule, isNil, modelRefusal, modelReceipt, shownFor, modelLookup, modelEnd, modelDone, modelAccept, modelStep}
 use Rattle.survey.specs.Requests.{early, madeOf}
-use Rattle.model.specs.Claim.{by, modelTurn, callAt, ShowsAt, SkipsAt, ForgetsAt, Asked}
+use Rattle.model.specs.Claim.{by, modelTurn, callAt, ShowsAt, SkippedAt, SkipsAt, ForgetsAt, Asked}
 use Rattle.model.specs.Marked.{Line, zero32, marked, answered}
 
 pub marked-image : answered imageStep (λ (m : Image) (g : ℕ). rowIn m g .low) (λ (m : Image) (g : ℕ). rowIn m g .high) (formatted 3 7 (zeros 32) (0 ∷ 0 ∷ [])) marked ≡ marked
@@ -35,8 +35,8 @@ pub marked-model : answered (modelStep rules) (λ (b : Model) (g : ℕ). logAt (
 unfolding marked answered placed zero32 zeros be unbe LOOKUP END attestedBytes receiptBytes readAttestation entryDigest lastEntry keepFrom keepBelow entered cutAt standingAmong standing kindOf referenceOf examinedFor rules rules01 total lacks lacksBut slotRule isNil modelRefusal modelReceipt shownFor modelLookup modelEnd modelDone modelAccept modelStep
 marked-model = refl
 
--- ---- the claims of demand 3 are about something, in this list: its tenth call shows position 1 of log 1 assigned, its third skips 3 of log 0, its sixth
--- forgets what lies below 5
+-- ---- the claims of demand 3 are about something, in this list: its tenth call shows position 1 of log 1 assigned, its fifth shows 3 of log 0
+-- skipped, its third skips it, its sixth forgets what lies below 5
 
 calls : List Call
 calls = map (λ (l : Line). l .call) marked
@@ -44,6 +44,10 @@ calls = map (λ (l : Line). l .call) marked
 shows-one : (d : List ℕ) × ShowsAt (replies modelTurn (newModel 3 7 (zeros 32) (0 ∷ 0 ∷ [])) (by rules calls)) 9 1 1 (placed 9) d
 unfolding calls marked placed zero32 zeros be unbe LOOKUP END attestedBytes receiptBytes readAttestation entryDigest lastEntry keepFrom keepBelow entered cutAt standingAmong standing kindOf referenceOf examinedFor rules rules01 total lacks lacksBut slotRule isNil modelRefusal modelReceipt shownFor modelLookup modelEnd modelDone modelAccept modelStep replies
 shows-one = (_, record { receipt = _; there = refl; shows = record { assigned = refl; log = refl; position = refl; value = refl; digest = refl } })
+
+three-skipped : SkippedAt (replies modelTurn (newModel 3 7 (zeros 32) (0 ∷ 0 ∷ [])) (by rules calls)) 4 0 3
+unfolding calls marked placed zero32 zeros be unbe LOOKUP END attestedBytes receiptBytes readAttestation entryDigest lastEntry keepFrom keepBelow entered cutAt standingAmong standing kindOf referenceOf examinedFor rules rules01 total lacks lacksBut slotRule isNil modelRefusal modelReceipt shownFor modelLookup modelEnd modelDone modelAccept modelStep replies
+three-skipped = record { receipt = _; there = refl; shows = record { skipped = refl; log = refl; position = refl } }
 
 skips-three : SkipsAt (newModel 3 7 (zeros 32) (0 ∷ 0 ∷ [])) (by rules calls) (replies modelTurn (newModel 3 7 (zeros 32) (0 ∷ 0 ∷ [])) (by rules calls)) 2 0 3
 unfolding calls marked placed zero32 zeros be unbe LOOKUP END attestedBytes receiptBytes readAttestation entryDigest lastEntry keepFrom keepBelow entered cutAt standingAmong standing kindOf referenceOf examinedFor rules rules01 total lacks lacksBut slotRule isNil modelRefusal modelReceipt shownFor modelLookup modelEnd modelDone modelAccept modelStep replies after callAt early madeOf

@@ -69,6 +69,18 @@ pub record ShowsAt (rs : List Reply) (i g n : ℕ) (v d : List ℕ) : Type 0 whe
   pub there : receiptIn (replyAt rs i) ≡ some receipt
   pub shows : Shows receipt g n v d
 
+-- receipt r shows position n of log g skipped, whatever value and digest it carries
+pub record ShowsSkipped (r : List ℕ) (g n : ℕ) : Type 0 where
+  pub skipped : readAttestation r .kind ≡ 2
+  pub log : readAttestation r .log ≡ g
+  pub position : readAttestation r .position ≡ n
+
+-- the answer to call j has a receipt that shows this
+pub record SkippedAt (rs : List Reply) (j g n : ℕ) : Type 0 where
+  pub receipt : List ℕ
+  pub there : receiptIn (replyAt rs j) ≡ some receipt
+  pub shows : ShowsSkipped receipt g n
+
 -- "A position is skipped when an accepted advance of the list on that log jumps over it": call j is an advance of log g to n that was accepted, and
 -- p lies between H as the calls before it left it and n
 pub record SkipsAt (b : Model) (ts : List Turn) (rs : List Reply) (j g p : ℕ) : Type 0 where
@@ -156,6 +168,9 @@ pub record ListClaim (b : Model) (ts : List Turn) (rs : List Reply) (ks : List �
   pub unskipped : (i j g p : ℕ) (v d : List ℕ) → SkipsAt b ts rs j g p → ShowsAt rs i g p v d → ⊥
   -- "or one forgotten by then"
   pub remembered : (i j g p n : ℕ) (v d : List ℕ) → j < i → ForgetsAt ts rs j g n → p < n → ShowsAt rs i g p v d → ⊥
+  -- request [13], "Receipts that one list of calls as in demand 3 wrote are never such a pair": beside `agreeing`, no two show one log and position, one
+  -- assigned and one skipped, whichever was written first
+  pub apart : (i j g n : ℕ) (v d : List ℕ) → ShowsAt rs i g n v d → SkippedAt rs j g n → ⊥
   -- "Position 0 is never assigned."
   pub positive : (i g n : ℕ) (v d : List ℕ) → ShowsAt rs i g n v d → 1 ≤ n
   -- what a lookup or an end wrote, by whichever rules, the verifier accepts under the book's key, for the question that the call was, with what the book

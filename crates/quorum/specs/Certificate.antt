@@ -50,13 +50,16 @@ receiptAt cert p = part cert (p * receiptSize) receiptSize
 unfoldable pub pairAt : List ℕ → ℕ → List ℕ
 pairAt cert p = pairIn (receiptAt cert p)
 
--- what is asked before a receipt is looked at: 7, "17 .. tested between 7 and 12", 12 and 9
-unfoldable pub unread : ℕ → ℕ → List ℕ → List ℕ → List ℕ → List Fault
-unread n k roster nonce cert =
-    fault 7 (not (eqb (length nonce) 32)) ∷
+-- what is asked of a profile, a roster and a pile of receipts before a receipt is looked at: 17, 12 and 9
+abbrev pub pileFaults : ℕ → ℕ → List ℕ → List ℕ → List Fault
+pileFaults n k roster pile =
     fault 17 (not (permitted n k)) ∷
     fault 12 (not (isRoster n roster)) ∷
-    fault 9 (not (isCertificate cert)) ∷ []
+    fault 9 (not (isCertificate pile)) ∷ []
+
+-- and of a certificate: 7, "17 .. tested between 7 and 12", 12 and 9
+unfoldable pub unread : ℕ → ℕ → List ℕ → List ℕ → List ℕ → List Fault
+unread n k roster nonce cert = fault 7 (not (eqb (length nonce) 32)) ∷ pileFaults n k roster cert
 
 -- document 02 [2], the blocks hashed: "6 for each of its receipts that is a possible entry with a roster member's keeper
 -- number"

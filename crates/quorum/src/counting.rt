@@ -18,7 +18,7 @@ use roster::Found;
 use roster::find;
 
 // The blocks hashed for a verdict.
-fn blocks_of(verdict: Verdict) -> u64
+pub fn blocks_of(verdict: Verdict) -> u64
     ensures { λ n. ⌜ n ≡ verdictBlocks verdict ⌝ }
 {
     match verdict {

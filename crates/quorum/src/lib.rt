@@ -3,6 +3,8 @@ mod counting;
 mod places;
 mod receipts;
 
+pub use counting::blocks_of;
+pub use receipts::receipt_at;
 ghost use mathlib.Core.Path.{_≡_};
 ghost use Rattle.quorum.specs.Certificate.{certificate, stationAnswer, certificateBlocks, stationBlocks, NamesExactly};
 use counting::tally_of;
