@@ -2,7 +2,6 @@
 -- both. Which slots the rules grant is never looked at: both orders are accepted.
 use Prim.Native.Nat.{ℕ, _<_}
 use mathlib.Core.Path.{_≡_, refl, sym, ap, subst, _∙_}
-use mathlib.Core.Logic.{_≢_}
 use mathlib.Core.Option.{Option, none, some}
 use native.Mathlib.Omega.{arith}
 use native.Mathlib.Decide.{ℕ-discrete}
@@ -11,10 +10,10 @@ use lib.Seq.{ext-getD}
 use Rattle.a2m.specs.Call.{Call, logOf, Effect}
 use Rattle.survey.specs.Requests.{Request, callOf, early, requestStep}
 use Rattle.survey.proofs.RequestLaws.{passed-step, away-step}
-use Rattle.model.specs.Log.{Log, freshLog}
+use Rattle.model.specs.Log.{freshLog}
 use Rattle.model.specs.Model.{rules, Model, modelStep}
 use Rattle.model.specs.Book.{bookStep}
-use Rattle.model.specs.EitherOrder.{Accepted, BothAccepted}
+use Rattle.model.specs.EitherOrder.{logAsked, Accepted, BothAccepted}
 use Rattle.model.proofs.Passed.{Stepped, turned, taken, stepped}
 use Rattle.model.proofs.Requests.{book-is}
 use Rattle.model.proofs.Along.{step-fixed}
@@ -94,7 +93,7 @@ pub record Commutes (b : Model) (q p : Request) : Type 0 where
   pub twoWork : bookStep rules b p .blocks ≡ bookStep rules (bookStep rules b q .state) p .blocks
   pub state : bookStep rules (bookStep rules b q .state) p .state ≡ bookStep rules (bookStep rules b p .state) q .state
 
-pub commutes : (b : Model) (q p : Request) → BothAccepted (bookStep rules) (λ (x : Request). logOf (callOf x)) b q p → Commutes b q p
+pub commutes : (b : Model) (q p : Request) → BothAccepted (bookStep rules) logAsked b q p → Commutes b q p
 commutes b q p a =
     let made : (m : Model) (x : Request) → Accepted (bookStep rules m x .reply) → early x ≡ none = λ (m : Model) (x : Request) (h : Accepted (bookStep rules m x .reply)). accepted-made (modelStep rules) m x (subst (λ (o : Effect Model). Accepted (o .reply)) (book-is rules m x) h) in
     let on : (x : Request) → early x ≡ none → (m : Model) → bookStep rules m x ≡ modelStep rules m (callOf x) = λ (x : Request) (h : early x ≡ none) (m : Model). book-is rules m x ∙ passed-step (modelStep rules) m x h in

@@ -20,15 +20,11 @@ use Rattle.model.specs.Model.{rules, Model}
 use Rattle.model.specs.Book.{bookStep}
 use Rattle.model.specs.ModelOf.{modelOf}
 use Rattle.model.specs.Program.{programStep}
-use Rattle.model.specs.EitherOrder.{Accepted, BothAccepted, EitherOrder, SameReceipts}
+use Rattle.model.specs.EitherOrder.{logAsked, Accepted, BothAccepted, EitherOrder, SameReceipts}
 use Rattle.model.proofs.Turns.{replies-map, works-map, replies-asking, works-asking}
 use Rattle.model.proofs.OfTable.{stands, whole-list}
 use Rattle.model.proofs.Program.{SameList, same-list}
-use Rattle.model.proofs.Commutes.{accepted-made, Commutes, commutes}
-
--- the log of the call that a request makes
-abbrev pub logAsked : Request → ℕ
-logAsked q = logOf (callOf q)
+use Rattle.model.proofs.Commutes.{accepted-made, commutes}
 
 -- ---- a step that answers every list as a model does
 

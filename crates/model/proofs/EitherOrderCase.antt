@@ -17,9 +17,8 @@ use Rattle.model.specs.Log.{lastEntry, entered}
 use Rattle.model.specs.Model.{rules01, rules, Model, newModel, total, lacks, lacksBut, slotRule, modelRefusal, modelDone, modelAccept, modelStep}
 use Rattle.model.specs.Book.{unless}
 use Rattle.model.specs.Claim.{asking, modelTurn}
-use Rattle.model.specs.EitherOrder.{Accepted, BothAccepted}
+use Rattle.model.specs.EitherOrder.{logAsked, Accepted, BothAccepted}
 use Rattle.model.proofs.Demand3.{listClaim}
-use Rattle.model.proofs.EitherOrder.{logAsked}
 
 abbrev book : Model
 book = newModel 4 7 (zeros 32) (0 ∷ 0 ∷ [])

@@ -5,8 +5,13 @@ use Prim.Native.Nat.{ℕ, _^_, _<_}
 use mathlib.Core.Path.{_≡_}
 use mathlib.Core.Logic.{_≢_}
 use mathlib.Core.List.{List}
-use Rattle.a2m.specs.Call.{lookup, end, Reply, refused, Effect, replies, works}
+use Rattle.a2m.specs.Call.{lookup, end, logOf, Reply, refused, Effect, replies, works}
 use Rattle.a2m.specs.TableCalls.{tableStep}
+use Rattle.survey.specs.Requests.{Request, callOf}
+
+-- a request's log is that of the call that it makes
+abbrev pub logAsked : Request → ℕ
+logAsked q = logOf (callOf q)
 
 -- the answer is no refusal
 abbrev pub Accepted : Reply → Type 0
