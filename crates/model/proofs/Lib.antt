@@ -8,8 +8,11 @@ pub mod CarriedBytes
 pub mod CarriedCase
 pub mod CarriedProgram
 pub mod Changes
+pub mod Commutes
 pub mod Crowded
 pub mod Demand3
+pub mod EitherOrder
+pub mod EitherOrderCase
 pub mod Entries
 pub mod FreeHolds
 pub mod Fresh

@@ -22,7 +22,7 @@ use Rattle.model.proofs.OfImage.{image-stands, image-list}
 use Rattle.model.proofs.TableClaim.{Stands, in-range, table-whole}
 
 module _ (b : List ℕ) (h : Bytes b) (w : whole b ≡ true) where
-  stands : Stands (readTable b) (modelOf (readTable b))
+  pub stands : Stands (readTable b) (modelOf (readTable b))
   stands = image-stands (readTable b) (fits-read b h (whole-formed b w)) (whole-image b w) (rw (length-rows b, length-slots b) (whole-range b w))
 
   -- every list of requests, the refused ones among them, leaves it whole

@@ -25,6 +25,9 @@ pub record Same (g : ℕ) (b d : Model) : Type 0 where
 pub same-refl : (g : ℕ) (b : Model) → Same g b b
 same-refl g b = record { count = refl; keeper = refl; key = refl; log = refl }
 
+pub same-sym : (g : ℕ) (b d : Model) → Same g b d → Same g d b
+same-sym g b d s = record { count = sym (s .count); keeper = sym (s .keeper); key = sym (s .key); log = sym (s .log) }
+
 pub same-trans : (g : ℕ) (a b c : Model) → Same g a b → Same g b c → Same g a c
 same-trans g a b c p q = record { count = p .count ∙ q .count; keeper = p .keeper ∙ q .keeper; key = p .key ∙ q .key; log = p .log ∙ q .log }
 
@@ -63,6 +66,28 @@ pub record Alike (g : ℕ) (x y : Effect Model) : Type 0 where
   pub blocks : x .blocks ≡ y .blocks
   pub state : Same g (x .state) (y .state)
 
+done-alike : (b d : Model) (w g : ℕ) → Same g b d → g < length (b .logs) → (l k : Log) → l ≡ k → Alike g (modelDone w b g l) (modelDone w d g k)
+unfolding modelDone
+done-alike b d w g s gG l k e = record {
+  reply = ap (λ (x : Log). done (x .low) (x .high)) e;
+  blocks = refl;
+  state = record {
+    count = length-set (b .logs) g l ∙ s .count ∙ sym (length-set (d .logs) g k);
+    keeper = s .keeper;
+    key = s .key;
+    log = getD-set-same (b .logs) g l (freshLog 0) gG ∙ e ∙ sym (getD-set-same (d .logs) g k (freshLog 0) (subst (λ (n : ℕ). g < n) (s .count) gG));
+  };
+}
+
+-- an accepted one
+pub accept-alike : (b d : Model) (c : Call) → Same (logOf c) b d → Passed rules b c → Alike (logOf c) (modelAccept rules b c) (modelAccept rules d c)
+unfolding modelAccept modelLookup modelEnd modelReceipt
+accept-alike b d (append g x) s a = done-alike b d _ g s (a .log) _ _ (rw (s .log))
+accept-alike b d (advance g n y x) s a = done-alike b d _ g s (a .log) _ _ (rw (s .log))
+accept-alike b d (truncate g n) s a = done-alike b d _ g s (a .log) _ _ (rw (s .log))
+accept-alike b d (lookup g n c r) s a = record { reply = rw (s .log, s .key, s .keeper); blocks = refl; state = s }
+accept-alike b d (end g c r) s a = record { reply = rw (s .log, s .key, s .keeper); blocks = refl; state = s }
+
 module _ (b d : Model) (kb : Backed b) (kd : Backed d) where
   -- past refusal 2 both have a slot
   past-2 : (g : ℕ) → Same g b d → Below b g → (x y : Option ℕ → Option ℕ) → ((o : Option ℕ) → x o ≡ y o)
@@ -89,31 +114,10 @@ module _ (b d : Model) (kb : Backed b) (kd : Backed d) where
   same-refusal (lookup g n c r) s h = rw (s .count)
   same-refusal (end g c r) s h = rw (s .count, s .log)
 
-  done-alike : (w g : ℕ) → Same g b d → g < length (b .logs) → (l k : Log) → l ≡ k → Alike g (modelDone w b g l) (modelDone w d g k)
-  unfolding modelDone
-  done-alike w g s gG l k e = record {
-    reply = ap (λ (x : Log). done (x .low) (x .high)) e;
-    blocks = refl;
-    state = record {
-      count = length-set (b .logs) g l ∙ s .count ∙ sym (length-set (d .logs) g k);
-      keeper = s .keeper;
-      key = s .key;
-      log = getD-set-same (b .logs) g l (freshLog 0) gG ∙ e ∙ sym (getD-set-same (d .logs) g k (freshLog 0) (subst (λ (n : ℕ). g < n) (s .count) gG));
-    };
-  }
-
-  accept-alike : (c : Call) → Same (logOf c) b d → Passed rules b c → Alike (logOf c) (modelAccept rules b c) (modelAccept rules d c)
-  unfolding modelAccept modelLookup modelEnd modelReceipt
-  accept-alike (append g x) s a = done-alike _ g s (a .log) _ _ (rw (s .log))
-  accept-alike (advance g n y x) s a = done-alike _ g s (a .log) _ _ (rw (s .log))
-  accept-alike (truncate g n) s a = done-alike _ g s (a .log) _ _ (rw (s .log))
-  accept-alike (lookup g n c r) s a = record { reply = rw (s .log, s .key, s .keeper); blocks = refl; state = s }
-  accept-alike (end g c r) s a = record { reply = rw (s .log, s .key, s .keeper); blocks = refl; state = s }
-
   pub step-alike : (c : Call) → Same (logOf c) b d → (Puts c → Below b (logOf c)) → Alike (logOf c) (modelStep rules b c) (modelStep rules d c)
   unfolding modelStep
   step-alike c s h = go (modelRefusal rules d c) refl
     where
       go : (r : Option ℕ) → modelRefusal rules d c ≡ r → Alike (logOf c) (modelStep rules b c) (modelStep rules d c)
-      go none e = rw (modelStep, same-refusal c s h, e) (accept-alike c s (passed rules b c (same-refusal c s h ∙ e)))
+      go none e = rw (modelStep, same-refusal c s h, e) (accept-alike b d c s (passed rules b c (same-refusal c s h ∙ e)))
       go (some k) e = rw (modelStep, same-refusal c s h, e) (record { reply = refl; blocks = refl; state = s })

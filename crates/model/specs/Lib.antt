@@ -2,6 +2,7 @@ pub mod Book
 pub mod Calls01
 pub mod Carried
 pub mod Claim
+pub mod EitherOrder
 pub mod Log
 pub mod Marked
 pub mod Model
