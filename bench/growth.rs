@@ -1,8 +1,9 @@
 //! The rows of bench/plots: how time and instructions grow with a table's slots, a certificate's receipts and a run's values.
-//! Each goes out as a line of columns: plot, size, least times in ns and instructions, the keeper's before plain C's.
+//! Each goes out as a line of columns: plot, size, least times in ns and instructions, the keeper's before plain C's; 0 where
+//! instructions are not counted.
 use crate::count::{self, Counts};
 use crate::sides::{Random, Run, KEEPER, PLAIN};
-use crate::table::{Table, Work};
+use crate::table::{Table, Times, Work};
 use crate::tables::{bounds, filled, Receipt};
 use std::hint::black_box;
 
@@ -10,19 +11,56 @@ const SLOTS: [u64; 12] = [1, 25, 50, 100, 150, 200, 300, 400, 500, 600, 700, 800
 const RECEIPTS: [u64; 9] = [1, 4, 8, 12, 16, 20, 24, 28, 32];
 const VALUES: [usize; 9] = [10, 30, 100, 300, 1000, 3000, 10_000, 30_000, 100_000];
 
+struct Point {
+    plot: String,
+    size: String,
+    /// In ns.
+    least: (f64, f64),
+    count: Option<(u64, u64)>,
+}
+
+#[derive(Default)]
+pub struct Growth(Vec<Point>);
+
+impl Growth {
+    /// Of a point that is there the least times are kept.
+    pub fn add(&mut self, plot: &str, size: &str, times: &Times, count: Option<(u64, u64)>) {
+        let least = times.least;
+        match self.0.iter_mut().find(|point| point.plot == plot && point.size == size) {
+            Some(point) => point.least = (point.least.0.min(least.0), point.least.1.min(least.1)),
+            None => self.0.push(Point { plot: plot.to_string(), size: size.to_string(), least, count }),
+        }
+    }
+
+    fn print(&self) {
+        println!("plot\tsize\tkeeper ns\tplain C ns\tkeeper instructions\tplain C instructions");
+        for Point { plot, size, least: (one, two), count } in &self.0 {
+            let (a, b) = count.unwrap_or_default();
+            println!("{plot}\t{size}\t{one:.1}\t{two:.1}\t{a}\t{b}");
+        }
+    }
+}
+
+/// All sizes again and again, so that a slow spell of the machine meets none of them each time.
 pub fn run(quick: bool, work: Work) -> bool {
     let mut counts = Counts::new();
-    if work != Work::Count {
+    let mut rounds = 1;
+    if work == Work::Time {
         match count::rows(&["count", "growth", if quick { "quick" } else { "full" }]) {
             Ok(found) => counts = found,
             Err(why) => eprintln!("Instructions are not counted: {why}"),
         }
-        println!("plot\tsize\tkeeper ns\tplain ns\tkeeper instructions\tplain instructions");
+        rounds = if quick { 4 } else { 8 };
     }
-    let mut table = Table::new(quick, work, counts, true);
-    tables(&mut table);
-    certificates(&mut table);
-    runs(&mut table);
+    let mut table = Table::new(true, work, counts, Some(Growth::default()));
+    for _ in 0..rounds {
+        tables(&mut table);
+        certificates(&mut table);
+        runs(&mut table);
+    }
+    if let (Work::Time, Some(growth)) = (work, &table.growth) {
+        growth.print();
+    }
     true
 }
 

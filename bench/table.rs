@@ -1,5 +1,6 @@
 //! The table of ratios. Both sides are timed in turn, batch by batch, so that a slow spell of the machine meets both.
 use crate::count::{self, Counts};
+use crate::growth::Growth;
 use crate::old::old_of;
 use crate::sides::{KeeperResult, Random, Run, Side, Verdict, KEEPER, PLAIN};
 use crate::tables::*;
@@ -141,28 +142,28 @@ pub struct Table {
     pub timer: Timer,
     counts: Counts,
     title: String,
-    /// Prints the rows as columns for bench/plots.
-    plain: bool,
+    /// Rows are kept for bench/plots instead of shown.
+    pub growth: Option<Growth>,
     over_in_time: Vec<String>,
     over_in_instructions: Vec<String>,
     rows: u64,
 }
 
 impl Table {
-    pub fn new(quick: bool, work: Work, counts: Counts, plain: bool) -> Table {
+    pub fn new(quick: bool, work: Work, counts: Counts, growth: Option<Growth>) -> Table {
         let (timer, title) = (Timer::new(quick, work), String::new());
-        Table { timer, counts, title, plain, over_in_time: Vec::new(), over_in_instructions: Vec::new(), rows: 0 }
+        Table { timer, counts, title, growth, over_in_time: Vec::new(), over_in_instructions: Vec::new(), rows: 0 }
     }
 
     pub fn head(&mut self, title: &str, other: &str) {
         self.title = title.to_string();
         match self.timer.work {
-            _ if self.plain => {}
+            _ if self.growth.is_some() => {}
             Work::Time => println!(
                 "\n{title:<WIDTH$}{:>12}{other:>14}{:>8}{:>6}{:>7}{:>6}", "keeper", "ratio", "best", "instr", "aim"
             ),
             Work::Count => {}
-            Work::Nothing => println!("\n{title:<WIDTH$}{:>14}{other:>16}{:>8}{:>6}", "keeper", "ratio", "aim"),
+            Work::Nothing => println!("\n{title:<WIDTH$}{:>14}{other:>16}{:>8}{:>6}", "keeper", "instr", "aim"),
         }
     }
 
@@ -172,9 +173,8 @@ impl Table {
             return println!("{key}");
         }
         let count = self.counts.get(&key).copied();
-        if self.plain {
-            let ((one, two), (a, b)) = (times.least, count.unwrap_or_default());
-            return println!("{}\t{label}\t{one:.1}\t{two:.1}\t{a}\t{b}", self.title);
+        if let Some(growth) = &mut self.growth {
+            return growth.add(&self.title, label, times, count);
         }
         let (ratio, best, counted) = (times.ratio, times.best(), count.map(|(one, two)| one as f64 / two as f64));
         let late = aim.filter(|aim| ratio > aim + NOISE && best > aim + NOISE);
@@ -626,12 +626,17 @@ pub fn run(quick: bool, work: Work) -> bool {
     if work != Work::Count {
         match count::rows(&["count", "table", if quick { "quick" } else { "full" }]) {
             Ok(found) => counts = found,
-            Err(why) => println!("Instructions are not counted: {why}"),
+            Err(why) if work == Work::Time => println!("Instructions are not counted: {why}"),
+            Err(why) => {
+                println!("Instructions are not counted: {why}");
+                return false;
+            }
         }
-        println!("{}", if work == Work::Time { ABOUT_TIMES } else { "Instructions of one call, and their ratio." });
+        println!("{}", if work == Work::Time { ABOUT_TIMES } else { ABOUT_COUNTS });
         println!("{ABOUT_ROWS}");
+        println!("Over in time: ratio and best are above the aim by more than {NOISE}; in instructions: instr is above it.");
     }
-    let mut table = Table::new(quick, work, counts, false);
+    let mut table = Table::new(quick, work, counts, None);
     table.hashes();
     let good = table.openssl();
     table.tables();
@@ -645,11 +650,14 @@ pub fn run(quick: bool, work: Work) -> bool {
     if work == Work::Count {
         return good;
     }
-    let (late, long) = (&table.over_in_time, &table.over_in_instructions);
-    println!("\n{} rows, {} over their aim in time, {} in instructions", table.rows, late.len(), long.len());
-    for (how, rows) in [("time", late), ("instructions", long)] {
-        for row in rows {
-            println!("  {how}: {row}");
+    println!("\n{} rows", table.rows);
+    let (timed, counted) = (work == Work::Time, !table.counts.is_empty());
+    for (how, done, rows) in
+        [("time", timed, &table.over_in_time), ("instructions", counted, &table.over_in_instructions)]
+    {
+        if done {
+            println!("over their aim in {how}: {}", rows.len());
+            rows.iter().for_each(|row| println!("  {row}"));
         }
     }
     good
@@ -661,8 +669,10 @@ keeper / other (below 1: the keeper is faster), the median over neighbouring bat
 two sides' shortest batches, which what else runs on the machine moves least; instr is the ratio of the
 instructions of one call, by valgrind's callgrind. Where a call changes the table, the bytes that it changed are
 put back after each call within the timed part, by the same code on both sides; what that takes by itself stands
-in the row and is not taken off. The place of the code in memory alone moves a ratio of times by some percent.
-Over in time: ratio and best are both above the aim by more than 0.03; in instructions: instr is above the aim.";
+in the row and is not taken off. The place of the code in memory alone moves a ratio of times by some percent.";
+
+const ABOUT_COUNTS: &str = "\
+Instructions of one call, by valgrind's callgrind, and their ratio.";
 
 const ABOUT_ROWS: &str = "\
 Half of (1,1) is empty. Lookup asks for the middle of log 0, truncate frees half of its entries. Shuffled: the same
