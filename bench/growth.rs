@@ -41,7 +41,7 @@ impl Growth {
     }
 }
 
-/// All sizes again and again, so that a slow spell of the machine meets none of them each time.
+/// Few batches of each size, but all sizes again and again, so that a slow spell of the machine meets none of them each time.
 pub fn run(quick: bool, work: Work) -> bool {
     let mut counts = Counts::new();
     let mut rounds = 1;
