@@ -12,9 +12,9 @@ use Rattle.layout.specs.declared.Row.{Row}
 use Rattle.layout.specs.Image.{Slot, Image, slotAt, rowAt}
 use Rattle.table.specs.Chains.{chain}
 use Rattle.table.specs.WholeImage.{heldBy, meets}
-use Rattle.a2m.proofs.Lists.{In, in-cases, Distinct, pigeon}
+use Rattle.table.proofs.Lists.{In, in-cases, Distinct, pigeon}
 use Rattle.table.specs.Conditions.{Links}
-use Rattle.a2m.proofs.Links.{links-in, links-distinct}
+use Rattle.table.proofs.Links.{links-in, links-distinct}
 use Rattle.model.specs.Model.{Model}
 use Rattle.model.specs.Claim.{times}
 use Rattle.model.proofs.Represents.{Rep}
