@@ -131,7 +131,9 @@ fn in_step(
     let two = digest_at(start2, first2, values2, j);
     let mut digest1 = one.bytes;
     let mut digest2 = two.bytes;
-    let mut blocks = one.blocks + two.blocks;
+    let blocks1 = one.blocks;
+    let blocks2 = two.blocks;
+    let mut blocks = blocks1 + blocks2;
     let mut found = false;
     let mut at = 0;
     let mut before1 = digest1;
