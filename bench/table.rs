@@ -1,7 +1,10 @@
 //! The table of ratios. Both sides are timed in turn, batch by batch, so that a slow spell of the machine meets both.
+use crate::count::{self, Counts};
+use crate::growth::Growth;
 use crate::old::old_of;
 use crate::sides::{KeeperResult, Random, Run, Side, Verdict, KEEPER, PLAIN};
 use crate::tables::*;
+use std::cell::Cell;
 use std::hint::black_box;
 use std::os::raw::c_char;
 use std::process::Command;
@@ -19,7 +22,7 @@ extern "C" {
 /// Columns of a row's label.
 const WIDTH: usize = 56;
 
-/// Ratios this little above an aim are taken for noise.
+/// Ratios of times this little above an aim are taken for noise. Those of instructions have none.
 const NOISE: f64 = 0.03;
 
 fn median(mut times: Vec<f64>) -> f64 {
@@ -45,15 +48,35 @@ fn batch(n: u64, call: &mut impl FnMut()) -> f64 {
     now() - start
 }
 
-struct Timer {
-    quick: bool,
+/// What is done with the two calls of a row.
+#[derive(Clone, Copy, PartialEq)]
+pub enum Work {
+    Time,
+    /// The child's, in callgrind.
+    Count,
+    /// Only the counts are shown.
+    Nothing,
 }
 
-struct Times {
+pub struct Timer {
+    quick: bool,
+    work: Work,
+    pairs: Cell<usize>,
+}
+
+#[derive(Clone, Copy, Default)]
+pub struct Times {
     one: f64,
     two: f64,
     ratio: f64,
-    best: f64,
+    /// Of the two sides' shortest batches.
+    pub least: (f64, f64),
+}
+
+impl Times {
+    fn best(&self) -> f64 {
+        self.least.0 / self.least.1
+    }
 }
 
 fn least(times: &[f64]) -> f64 {
@@ -61,9 +84,21 @@ fn least(times: &[f64]) -> f64 {
 }
 
 impl Timer {
-    /// The calls' times in ns (medians over batches), the median of the ratios of neighbouring batches, and the ratio of the
-    /// two sides' shortest batches, which what else runs on the machine moves least.
-    fn pair(&self, mut one: impl FnMut(), mut two: impl FnMut()) -> Times {
+    fn new(quick: bool, work: Work) -> Timer {
+        Timer { quick, work, pairs: Cell::new(0) }
+    }
+
+    /// The calls' times in ns (medians over batches), the median of the ratios of neighbouring batches, and the two sides'
+    /// shortest batches, which what else runs on the machine moves least.
+    pub fn pair(&self, mut one: impl FnMut(), mut two: impl FnMut()) -> Times {
+        if self.work != Work::Time {
+            one();
+            two();
+            if self.work == Work::Count {
+                count::pair(self.pairs.replace(self.pairs.get() + 1), &mut one, &mut two);
+            }
+            return Times::default();
+        }
         // Short batches: one that another process cuts into is then one of many, and the median passes it over.
         let aim = if self.quick { 2e5 } else { 4e5 };
         let mut n = 1;
@@ -88,8 +123,8 @@ impl Timer {
             twos.push(y / n as f64);
             ratios.push(x / y);
         }
-        let best = least(&ones) / least(&twos);
-        Times { one: median(ones), two: median(twos), ratio: median(ratios), best }
+        let least = (least(&ones), least(&twos));
+        Times { one: median(ones), two: median(twos), ratio: median(ratios), least }
     }
 }
 
@@ -103,26 +138,66 @@ fn shown(ns: f64) -> String {
     }
 }
 
-struct Table {
-    timer: Timer,
-    over: Vec<String>,
+pub struct Table {
+    pub timer: Timer,
+    counts: Counts,
+    title: String,
+    /// Rows are kept for bench/plots instead of shown.
+    pub growth: Option<Growth>,
+    over_in_time: Vec<String>,
+    over_in_instructions: Vec<String>,
     rows: u64,
 }
 
 impl Table {
-    fn head(&self, title: &str, other: &str) {
-        println!("\n{title:<WIDTH$}{:>12}{other:>14}{:>8}{:>6}{:>6}", "keeper", "ratio", "best", "aim");
+    pub fn new(quick: bool, work: Work, counts: Counts, growth: Option<Growth>) -> Table {
+        let (timer, title) = (Timer::new(quick, work), String::new());
+        Table { timer, counts, title, growth, over_in_time: Vec::new(), over_in_instructions: Vec::new(), rows: 0 }
     }
 
-    fn row(&mut self, label: &str, times: &Times, aim: Option<f64>, note: &str) {
-        let (ratio, best) = (times.ratio, times.best);
-        let missed = aim.is_some_and(|aim| ratio > aim + NOISE && best > aim + NOISE);
-        let aim = aim.map_or(String::new(), |aim| format!("{aim:.1}"));
-        let (one, two) = (shown(times.one), shown(times.two));
-        let mark = if missed { "  over" } else { "" };
-        println!("{label:<WIDTH$}{one:>12}{two:>14}{ratio:>8.2}{best:>6.2}{aim:>6}{mark}{note}");
-        if missed {
-            self.over.push(format!("{label}: {ratio:.2}, at best {best:.2}, aim {aim}"));
+    pub fn head(&mut self, title: &str, other: &str) {
+        self.title = title.to_string();
+        match self.timer.work {
+            _ if self.growth.is_some() => {}
+            Work::Time => println!(
+                "\n{title:<WIDTH$}{:>12}{other:>14}{:>8}{:>6}{:>7}{:>6}", "keeper", "ratio", "best", "instr", "aim"
+            ),
+            Work::Count => {}
+            Work::Nothing => println!("\n{title:<WIDTH$}{:>14}{other:>16}{:>8}{:>6}", "keeper", "instr", "aim"),
+        }
+    }
+
+    pub fn row(&mut self, label: &str, times: &Times, aim: Option<f64>, note: &str) {
+        let key = format!("{}: {label}", self.title);
+        if self.timer.work == Work::Count {
+            return println!("{key}");
+        }
+        let count = self.counts.get(&key).copied();
+        if let Some(growth) = &mut self.growth {
+            return growth.add(&self.title, label, times, count);
+        }
+        let (ratio, best, counted) = (times.ratio, times.best(), count.map(|(one, two)| one as f64 / two as f64));
+        let late = aim.filter(|aim| ratio > aim + NOISE && best > aim + NOISE);
+        let long = aim.zip(counted).filter(|(aim, counted)| counted > aim);
+        let mark = match (late.is_some(), long.is_some()) {
+            (false, false) => "",
+            (true, false) => "  over in time",
+            (false, true) => "  over in instructions",
+            (true, true) => "  over in both",
+        };
+        let shown_aim = aim.map_or(String::new(), |aim| format!("{aim:.2}"));
+        let instr = counted.map_or(String::new(), |counted| format!("{counted:.3}"));
+        if self.timer.work == Work::Time {
+            let (one, two) = (shown(times.one), shown(times.two));
+            println!("{label:<WIDTH$}{one:>12}{two:>14}{ratio:>8.2}{best:>6.2}{instr:>7}{shown_aim:>6}{mark}{note}");
+        } else if let Some((one, two)) = count {
+            println!("{label:<WIDTH$}{one:>14}{two:>16}{instr:>8}{shown_aim:>6}{mark}{note}");
+        }
+        if late.is_some() {
+            self.over_in_time.push(format!("{key}: {ratio:.2}, at best {best:.2}, aim {shown_aim}"));
+        }
+        if long.is_some() {
+            self.over_in_instructions.push(format!("{key}: {instr}, aim {shown_aim}"));
         }
         self.rows += 1;
     }
@@ -148,7 +223,7 @@ impl Table {
                 || unsafe { black_box(book_hash(black_box(&message).as_ptr(), bytes, d2.as_mut_ptr(), 32)); },
             );
             assert_eq!(d1, d2);
-            self.row(label, &times, None, "");
+            self.row(label, &times, Some(1.0), "");
         }
         self.head("HMAC", "plain C");
         let key = Random(2).bytes(32);
@@ -164,6 +239,9 @@ impl Table {
     /// OpenSSL chooses its code when it is loaded, by the processor's features as the environment leaves them: hence a
     /// process for each choice.
     fn openssl(&mut self) -> bool {
+        if self.timer.work != Work::Time {
+            return true;
+        }
         let mut speeds = Vec::new();
         for (label, mask) in MASKS {
             let mut child = Command::new(std::env::current_exe().unwrap());
@@ -177,7 +255,7 @@ impl Table {
             self.head(&format!("SHA-256, against OpenSSL {label}"), "OpenSSL");
             for (line, (bytes, size)) in text.lines().zip(SIZES) {
                 let n: Vec<f64> = line.split(' ').map(|x| x.parse().unwrap()).collect();
-                self.row(size, &Times { one: n[0], two: n[1], ratio: n[2], best: n[3] }, None, "");
+                self.row(size, &Times { one: n[0], two: n[1], ratio: n[2], least: (n[3], n[4]) }, None, "");
                 if bytes == 1 << 16 {
                     speeds.push(bytes as f64 * 1e3 / n[1]);
                 }
@@ -199,7 +277,7 @@ impl Table {
     }
 
     /// A call that may change the table: the bytes that it changes are put back after each call, on both sides alike.
-    fn call(
+    pub fn call(
         &mut self, label: &str, aim: Option<f64>, prepared: &[u8],
         one: &mut dyn FnMut(&mut [u8]) -> u64, two: &mut dyn FnMut(&mut [u8]) -> u64,
     ) {
@@ -227,18 +305,21 @@ impl Table {
             },
         );
         let mut note = if number == 0 { String::new() } else { format!("  refused {number}") };
-        if !changed.is_empty() {
+        if !changed.is_empty() && self.timer.work == Work::Time {
             let t = &mut *shared.borrow_mut();
             let mut undo = || restore(black_box(t));
             let ns = median((0..9).map(|_| batch(2000, &mut undo) / 2000.0).collect());
             note += &format!("  putting back {ns:.1} ns");
         }
+        let aim = if number != 0 && slots(prepared) == 1 { Some(1.5) } else { aim };
         self.row(label, &times, aim, &note);
     }
 
     fn calls(&mut self, prepared: &[u8], how: &str) {
         let (g, s) = (logs(prepared), slots(prepared));
-        let aim = if s == 800 { Some(1.5) } else { None };
+        // A refused call on one slot has an aim of its own.
+        let large = s == 800;
+        let aim = if large { Some(1.0) } else { None };
         let label = |call: &str| format!("{call} ({g},{s}) {how}");
         let mut random = Random(5);
         let (value, digest, nonce) = (random.bytes(32), random.bytes(32), random.bytes(32));
@@ -249,12 +330,12 @@ impl Table {
         let (mut l2, mut h2, mut receipt2) = (0, 0, [0; 160]);
         self.call(&label("check"), aim, prepared, &mut |t| KEEPER.check(t) as u64, &mut |t| PLAIN.check(t) as u64);
         self.call(
-            &label("append"), aim, prepared,
+            &label("append"), Some(if large { 1.0 } else { 1.1 }), prepared,
             &mut |t| KEEPER.append(t, 0, &value, &mut l, &mut h).number,
             &mut |t| PLAIN.append(t, 0, &value, &mut l2, &mut h2).number,
         );
         self.call(
-            &label("advance"), aim, prepared,
+            &label("advance"), Some(1.1), prepared,
             &mut |t| KEEPER.advance(t, 0, high + 3, &digest, &value, &mut l, &mut h).number,
             &mut |t| PLAIN.advance(t, 0, high + 3, &digest, &value, &mut l2, &mut h2).number,
         );
@@ -306,7 +387,7 @@ impl Table {
         let value = random.bytes(32);
         let (mut l, mut h, mut l2, mut h2) = (0, 0, 0, 0);
         self.call(
-            "append (16,800) half, promised", Some(1.5), &t,
+            "append (16,800) half, promised", Some(1.0), &t,
             &mut |t| KEEPER.append(t, 0, &value, &mut l, &mut h).number,
             &mut |t| PLAIN.append(t, 0, &value, &mut l2, &mut h2).number,
         );
@@ -426,7 +507,7 @@ impl Table {
             || assert_eq!(KEEPER.verify(&key, black_box(&lookup), &nonce, 7, 3, Some(99), &mut v1).number, 0),
             || { KEEPER.hash(black_box(&six), &mut digest); },
         );
-        self.row("verify a lookup / hash of 375 bytes", &times, Some(1.1), "");
+        self.row("verify a lookup / hash of 375 bytes", &times, Some(1.05), "");
     }
 
     fn certificates(&mut self) {
@@ -455,7 +536,7 @@ impl Table {
                     assert_eq!(answer.number, 0)
                 },
             );
-            self.row(&format!("{receipts} receipts, roster of {members}"), &times, None, "");
+            self.row(&format!("{receipts} receipts, roster of {members}"), &times, Some(1.05), "");
         }
     }
 
@@ -532,7 +613,7 @@ impl Table {
                 || assert_eq!(PLAIN.compare(&run, black_box(&other), &mut b2, &mut v2).number, 0),
             );
             assert!(v1 == 1 && v2 == 1);
-            self.row(label, &times, None, "");
+            self.row(label, &times, Some(1.1), "");
         }
     }
 }
@@ -554,7 +635,7 @@ const MASKS: [(&str, &str); 3] = [
 
 /// The child's part: the keeper's hash and OpenSSL's in turn, a line for each size.
 pub fn hashes(quick: bool, _label: &str) -> bool {
-    let timer = Timer { quick };
+    let timer = Timer::new(quick, Work::Time);
     for (bytes, _) in SIZES {
         let message = Random(1).bytes(bytes);
         let (mut d1, mut d2) = ([0u8; 32], [0u8; 32]);
@@ -563,26 +644,32 @@ pub fn hashes(quick: bool, _label: &str) -> bool {
             || unsafe { openssl_sha256(black_box(&message).as_ptr(), bytes, d2.as_mut_ptr()) },
         );
         assert_eq!(d1, d2);
-        println!("{} {} {} {}", times.one, times.two, times.ratio, times.best);
+        println!("{} {} {} {} {}", times.one, times.two, times.ratio, times.least.0, times.least.1);
     }
     true
 }
 
-pub fn run(quick: bool) -> bool {
-    let version = unsafe { std::ffi::CStr::from_ptr(openssl_version()) };
-    println!("libcrypto:  {}", version.to_string_lossy());
-    println!(
-        "Times are processor times of one call: the median over batches, keeper and other side in turn. The ratio is\n\
-         keeper / other (below 1: the keeper is faster), the median over neighbouring batches; best is the ratio of the\n\
-         two sides' shortest batches, which what else runs on the machine moves least. Where a call changes\n\
-         the table, the bytes that it changed are put back after each call within the timed part, by the same code on\n\
-         both sides; what that takes by itself stands in the row and is not taken off. Half of (1,1) is empty. Lookup\n\
-         asks for the middle of log 0, truncate frees half of its entries. Shuffled: the same chains over slots at\n\
-         random. Reserves: each log is promised 50 slots and holds 25; promised: the free slots are promised to the other\n\
-         logs. The place of the code in memory alone moves a ratio by some percent. \"over\": both are\n\
-         above the aim by more than {NOISE}."
-    );
-    let mut table = Table { timer: Timer { quick }, over: Vec::new(), rows: 0 };
+/// All rows. The times, beside them the counts of instructions; or the counts alone; or, in callgrind, what they are made of.
+pub fn run(quick: bool, work: Work) -> bool {
+    let mut counts = Counts::new();
+    if work == Work::Time {
+        let version = unsafe { std::ffi::CStr::from_ptr(openssl_version()) };
+        println!("libcrypto:  {}", version.to_string_lossy());
+    }
+    if work != Work::Count {
+        match count::rows(&["count", "table", if quick { "quick" } else { "full" }]) {
+            Ok(found) => counts = found,
+            Err(why) if work == Work::Time => println!("Instructions are not counted: {why}"),
+            Err(why) => {
+                println!("Instructions are not counted: {why}");
+                return false;
+            }
+        }
+        println!("{}", if work == Work::Time { ABOUT_TIMES } else { ABOUT_COUNTS });
+        println!("{ABOUT_ROWS}");
+        println!("Over in time: ratio and best are above the aim by more than {NOISE}; in instructions: instr is above it.");
+    }
+    let mut table = Table::new(quick, work, counts, None);
     table.hashes();
     let good = table.openssl();
     table.tables();
@@ -594,12 +681,37 @@ pub fn run(quick: bool) -> bool {
     table.contradictions();
     table.sentences();
     table.runs();
-    println!("\n{} rows, {} over their aim", table.rows, table.over.len());
-    for row in &table.over {
-        println!("  {row}");
+    if work == Work::Count {
+        return good;
+    }
+    println!("\n{} rows", table.rows);
+    let (timed, counted) = (work == Work::Time, !table.counts.is_empty());
+    for (how, done, rows) in
+        [("time", timed, &table.over_in_time), ("instructions", counted, &table.over_in_instructions)]
+    {
+        if done {
+            println!("over their aim in {how}: {}", rows.len());
+            rows.iter().for_each(|row| println!("  {row}"));
+        }
     }
     good
 }
+
+const ABOUT_TIMES: &str = "\
+Times are processor times of one call: the median over batches, keeper and other side in turn. The ratio is
+keeper / other (below 1: the keeper is faster), the median over neighbouring batches; best is the ratio of the
+two sides' shortest batches, which what else runs on the machine moves least; instr is the ratio of the
+instructions of one call, by valgrind's callgrind. Where a call changes the table, the bytes that it changed are
+put back after each call within the timed part, by the same code on both sides; what that takes by itself stands
+in the row and is not taken off. The place of the code in memory alone moves a ratio of times by some percent.";
+
+const ABOUT_COUNTS: &str = "\
+Instructions of one call, by valgrind's callgrind, and their ratio.";
+
+const ABOUT_ROWS: &str = "\
+Half of (1,1) is empty. Lookup asks for the middle of log 0, truncate frees half of its entries. Shuffled: the same
+chains over slots at random. Reserves: each log is promised 50 slots and holds 25; promised: the free slots are
+promised to the other logs.";
 
 /// The parts of a table that a call changed; parts with less than 16 equal bytes between them are joined.
 fn spans(before: &[u8], after: &[u8]) -> Vec<(usize, usize)> {

@@ -13,9 +13,9 @@ use Rattle.table.specs.Chains.{chain, lastOf}
 use Rattle.table.specs.Free.{freeChain, joint}
 use Rattle.table.specs.WholeImage.{wholeImage}
 use Rattle.a2m.specs.ImageCalls.{rowIn, entriesIn, heldSlot, put, release}
-use Rattle.a2m.proofs.Lists.{lastOf-snoc}
+use Rattle.table.proofs.Lists.{lastOf-snoc}
 use Rattle.table.specs.Conditions.{Links}
-use Rattle.a2m.proofs.Links.{Holds, chain-links}
+use Rattle.table.proofs.Links.{Holds, chain-links}
 use Rattle.a2m.proofs.Moves.{Move, move-from, move-to}
 use Rattle.a2m.proofs.WholeChains.{log-chain, free-links}
 

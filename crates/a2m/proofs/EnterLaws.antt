@@ -24,7 +24,7 @@ use Rattle.a2m.specs.declared.View.{View}
 use Rattle.a2m.specs.Call.{done}
 use Rattle.a2m.specs.ImageCalls.{rowIn, entriesIn, joined, put}
 use Rattle.a2m.specs.Opened.{Opened, hooked, lastAfter, entryAt}
-use Rattle.a2m.proofs.Links.{slotAt-other, chain-links}
+use Rattle.table.proofs.Links.{slotAt-other, chain-links}
 use Rattle.table.specs.Conditions.{Links}
 use Rattle.a2m.proofs.Moves.{hook-apart}
 use Rattle.a2m.proofs.Chained.{Chained, put-move, put-chained}

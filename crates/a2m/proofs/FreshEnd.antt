@@ -22,8 +22,8 @@ use Rattle.table.proofs.WholeLaws.{whole-image}
 use Rattle.a2m.specs.Call.{end, ended}
 use Rattle.a2m.specs.ImageCalls.{rowIn, misplaced, spent, full, promised, endKind, endAttested, imageAccept}
 use Rattle.a2m.specs.TableCalls.{tableRefusal, tableStep}
-use Rattle.a2m.proofs.Lists.{in-right, Snoc, snoc, ending, lastOf-nil, lastOf-snoc}
-use Rattle.a2m.proofs.Links.{links-in}
+use Rattle.table.proofs.Lists.{in-right, Snoc, snoc, ending, lastOf-nil, lastOf-snoc}
+use Rattle.table.proofs.Links.{links-in}
 use Rattle.table.proofs.ReserveLaws.{whole-linked}
 use Rattle.a2m.proofs.WholeChains.{log-chain}
 use Rattle.a2m.proofs.Cases.{accepted-step, no-refusal}

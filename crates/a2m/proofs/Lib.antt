@@ -6,8 +6,6 @@ pub mod Clear
 pub mod EnterLaws
 pub mod FitsAfter
 pub mod FreshEnd
-pub mod Links
-pub mod Lists
 pub mod Moves
 pub mod NeverSix
 pub mod OpenedLaws

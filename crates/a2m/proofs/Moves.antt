@@ -12,9 +12,9 @@ use Rattle.layout.specs.Image.{Entry, Slot, entryOf, slotAt, setSlot}
 use Rattle.layout.specs.Changes.{withNext}
 use Rattle.table.specs.Chains.{lastOf, entriesOf}
 use Rattle.a2m.specs.ImageCalls.{joined, firstOf}
-use Rattle.a2m.proofs.Lists.{In, in-append-apart, Snoc, nothing, ending, snoc, lastOf-nil, lastOf-snoc, map-append, in-last}
+use Rattle.table.proofs.Lists.{In, in-append-apart, Snoc, nothing, ending, snoc, lastOf-nil, lastOf-snoc, map-append, in-last}
 use Rattle.table.specs.Conditions.{Links}
-use Rattle.a2m.proofs.Links.{slotAt-same, slotAt-other, length-setSlot, links-split, links-join, links-in, links-distinct, links-frame, entries-frame, Holds, holds-frame}
+use Rattle.table.proofs.Links.{slotAt-same, slotAt-other, length-setSlot, links-split, links-join, links-in, links-distinct, links-frame, entries-frame, Holds, holds-frame}
 
 pub length-joined : (slots : List Slot) (t last : ℕ) (x : Slot) → length (joined slots t last x) ≡ length slots
 unfolding joined

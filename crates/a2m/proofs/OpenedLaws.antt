@@ -31,8 +31,8 @@ use Rattle.a2m.specs.ImageCalls.{rowIn, entriesIn, wrongLength}
 use Rattle.a2m.specs.TableCalls.{tableRefusal}
 use Rattle.a2m.specs.Opened.{viewOf, openingOf, Opened}
 use Rattle.a2m.proofs.Cases.{torn, no-log}
-use Rattle.a2m.proofs.Lists.{In, in-last}
-use Rattle.a2m.proofs.Links.{links-in, reaches-links}
+use Rattle.table.proofs.Lists.{In, in-last}
+use Rattle.table.proofs.Links.{links-in, reaches-links}
 use Rattle.table.specs.Conditions.{Links}
 use Rattle.a2m.proofs.Chained.{Chained, whole-chained}
 use Rattle.table.proofs.WalkLaws.{chain-short}

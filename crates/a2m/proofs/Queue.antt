@@ -16,7 +16,7 @@ use Rattle.table.specs.Conditions.{Links}
 use Rattle.table.specs.Free.{freeChain, below}
 use Rattle.table.specs.WholeImage.{risingFrom, wholeImage}
 use Rattle.a2m.specs.ImageCalls.{rowIn, entriesIn, heldSlot, put, release, releases, lowered}
-use Rattle.a2m.proofs.Links.{links-fit, chain-links}
+use Rattle.table.proofs.Links.{links-fit, chain-links}
 use Rattle.a2m.proofs.Moves.{joined-at, hook-apart, reach}
 use Rattle.a2m.proofs.Chained.{Chained, whole-chained, put-move, put-chained, release-chained}
 use Rattle.a2m.proofs.Releases.{releases-stop, releases-go}

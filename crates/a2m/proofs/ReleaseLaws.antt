@@ -27,8 +27,8 @@ use Rattle.a2m.specs.declared.View.{View}
 use Rattle.a2m.specs.Call.{done}
 use Rattle.a2m.specs.ImageCalls.{rowIn, entriesIn, firstOf, joined, release, releases, lowered}
 use Rattle.a2m.specs.Opened.{Opened, joinedAt}
-use Rattle.a2m.proofs.Lists.{In, in-last, lastOf-snoc}
-use Rattle.a2m.proofs.Links.{links-in, links-fit, links-frame, chain-links, slotAt-same, slotAt-other, length-setSlot}
+use Rattle.table.proofs.Lists.{In, in-last, lastOf-snoc}
+use Rattle.table.proofs.Links.{links-in, links-fit, links-frame, chain-links, slotAt-same, slotAt-other, length-setSlot}
 use Rattle.table.specs.Conditions.{Links}
 use Rattle.a2m.proofs.Moves.{joined-at}
 use Rattle.a2m.proofs.Chained.{Chained, joint-is, release-chained}

@@ -16,7 +16,7 @@ use Rattle.table.specs.Chains.{chain, reaches, entriesOf}
 use Rattle.a2m.specs.declared.Hit.{Hit}
 use Rattle.a2m.specs.Search.{Found, search, lookedUp}
 use Rattle.a2m.specs.Opened.{foundOf}
-use Rattle.a2m.proofs.Links.{chain-links, links-fit}
+use Rattle.table.proofs.Links.{chain-links, links-fit}
 use Rattle.table.specs.Conditions.{Links}
 use Rattle.table.proofs.LinkLaws.{reach-links}
 use Rattle.a2m.proofs.OpenedLaws.{chain-cons}

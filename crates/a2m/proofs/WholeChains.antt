@@ -15,7 +15,7 @@ use Rattle.table.specs.Chains.{chain, reaches, lastOf, positionsOf}
 use Rattle.table.specs.Free.{freeChain}
 use Rattle.table.specs.WholeImage.{all, freeOk, fresh, risingFrom, started, rowOk, rowsOk, meets, linked}
 use Rattle.layout.specs.Tests.{blank}
-use Rattle.a2m.proofs.Lists.{lastOf-nil}
+use Rattle.table.proofs.Lists.{lastOf-nil}
 use Rattle.table.specs.Conditions.{Links}
 use Rattle.table.proofs.LinkLaws.{reach-links}
 use Rattle.table.proofs.WalkLaws.{chain-none}

@@ -11,7 +11,8 @@ use table_check::check;
 ghost use mathlib.Core.Path.{_≡_};
 ghost use Rattle.a2m.specs.Opened.{openingOf};
 
-// The log's number is compared as it is given: 256 is not log 0.
+// The log's number is compared as it is given: 256 is not log 0. The table is lent on as a part of itself: place and length then
+// go over one by one, where the compiler copies a lent slice at once and waits for both to be stored.
 pub fn open(table: &[u8], log: u64) -> Opening
     ensures { λ r. ⌜ r ≡ openingOf (now (table .entry)) log ⌝ }
 {
@@ -19,7 +20,7 @@ pub fn open(table: &[u8], log: u64) -> Opening
         free: count,
         last,
         others,
-    } = check(table, log)
+    } = check(&table[0..table.len()], log)
     else {
         return Opening::Refused(Refusal::Torn);
     };

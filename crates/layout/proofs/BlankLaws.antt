@@ -11,16 +11,17 @@ use Rattle.octets.proofs.Tests.{and-assoc}
 use Rattle.octets.proofs.Parts.{part-between, part-part, part-add, length-part}
 use Rattle.bigendian.specs.BigEndian.{unbe}
 use Rattle.layout.specs.Image.{slotAt}
-use Rattle.layout.specs.Layout.{slotSize, readSlot, cellsFrom}
+use Rattle.layout.specs.Layout.{slotSize}
 use Rattle.layout.specs.Fits.{Slotted}
 use Rattle.octets.proofs.Zeros.{length-zeros}
-use Rattle.layout.proofs.CellLaws.{cell-read}
+use Rattle.layout.specs.Strict.{strictSlot, strictFrom}
+use Rattle.layout.proofs.StrictCells.{strict-read}
 use Rattle.layout.specs.Tests.{blank}
 use Rattle.layout.proofs.TestLaws.{zeros-add, same-append, zero-bytes}
 
 -- bytes 4–75 of a slot's part
-blank-bytes : (l : List ℕ) → length l ≡ slotSize → same (part l 4 72) (zeros 72) ≡ blank (readSlot l)
-unfolding blank readSlot
+blank-bytes : (l : List ℕ) → length l ≡ slotSize → same (part l 4 72) (zeros 72) ≡ blank (strictSlot l)
+unfolding blank strictSlot
 blank-bytes l h =
     let p : List ℕ = part l 4 8 in
     let v : List ℕ = part l 12 32 in
@@ -33,7 +34,7 @@ blank-bytes l h =
     ∙ and-assoc (eqb (unbe p) 0) (same v (zeros 32)) (same d (zeros 32))
 
 pub blank-there : (b : List ℕ) (start slots s : ℕ) → Slotted b start slots → 1 ≤ s → s ≤ slots → (at : ℕ) → at ≡ start + slotSize * (s - 1)
-    → same (take (at + 4 + 72 - (at + 4)) (drop (at + 4) b)) (zeros (length (take (at + 4 + 72 - (at + 4)) (drop (at + 4) b)))) ≡ blank (slotAt (cellsFrom b start slots) s)
+    → same (take (at + 4 + 72 - (at + 4)) (drop (at + 4) b)) (zeros (length (take (at + 4 + 72 - (at + 4)) (drop (at + 4) b)))) ≡ blank (slotAt (strictFrom b start slots) s)
 blank-there b start slots s c h k at e =
     let fits : at + slotSize ≤ length b = omega (arith, c .sized) in
     let q : take (at + 4 + 72 - (at + 4)) (drop (at + 4) b) ≡ part b (at + 4) 72 = part-between b (at + 4) 72 in
@@ -41,5 +42,5 @@ blank-there b start slots s c h k at e =
     ∙ ap (λ (n : ℕ). same (part b (at + 4) 72) (zeros n)) (length-part b (at + 4) 72 (omega arith))
     ∙ ap (λ (x : List ℕ). same x (zeros 72)) (sym (part-part b at slotSize 4 72 (omega arith)))
     ∙ blank-bytes (part b at slotSize) (length-part b at slotSize fits)
-    ∙ ap (λ (a : ℕ). blank (readSlot (part b a slotSize))) e
-    ∙ ap blank (sym (cell-read b start slots s h k))
+    ∙ ap (λ (a : ℕ). blank (strictSlot (part b a slotSize))) e
+    ∙ ap blank (sym (strict-read b start slots s h k))

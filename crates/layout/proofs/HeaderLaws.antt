@@ -1,20 +1,19 @@
--- The tests on header and zero bytes, test by test as the code makes them, and what they tell when passed.
-use Prim.Native.Nat.{ℕ, suc, _+_, _-_, _*_, _≤_, _<_}
+-- The tests on the header, test by test as the code makes them, and what they tell when passed.
+use Prim.Native.Nat.{ℕ, _+_, _≤_, _<_}
 use mathlib.Core.Path.{_≡_, sym, ap, ap₂, _∙_}
 use mathlib.Core.Bool.{Bool, true, false, not, _&&_}
 use mathlib.Core.List.{List}
-use mathlib.Core.Logic.{_≢_}
 use native.Mathlib.Omega.{arith}
-use borrow.Author.Tests.{eq-eqb, ne-eqb, le-leb, lt-leb, eqb-true, leb-true, not-true, not-false}
+use borrow.Author.Tests.{ne-eqb, le-leb, lt-leb, eqb-true, leb-true, not-true, not-false}
 use lib.Dec.{eqb, leb}
 use lib.ListN.{length}
 use Rattle.octets.specs.Octets.{Bytes, part, same, zeros}
 use Rattle.bigendian.specs.BigEndian.{unbe}
-use Rattle.layout.specs.Layout.{mark, markNumber, headerSize, slotSize, zeroOffset, tableSize, logsOf, slotsOf}
-use Rattle.layout.specs.Fits.{Counted, Slotted}
+use Rattle.layout.specs.Layout.{mark, markNumber, headerSize, zeroOffset, tableSize, logsOf, slotsOf}
+use Rattle.layout.specs.Fits.{Counted}
 use Rattle.layout.proofs.CodeLaws.{zero-one, mark-four}
 use Rattle.layout.specs.Fits.{Range}
-use Rattle.layout.specs.Tests.{inRange, marked, constantsFit, headerFits, allBelow, padsFrom}
+use Rattle.layout.specs.Tests.{inRange, marked, constantsFit, headerFits}
 use Rattle.layout.proofs.TestLaws.{and-yes, and-no, and-not, and-split, field-same}
 
 -- counts in range
@@ -104,25 +103,3 @@ module _ (b : List ℕ) where
 -- the same, from the test as the code made it
 pub counted : (b : List ℕ) (logs slots : ℕ) (t : Bool) → t ≡ headerFits b → not t ≡ false → logs ≡ logsOf b → slots ≡ slotsOf b → Counted b logs slots
 counted b logs slots t e h l s = header-counted b logs slots (sym e ∙ not-false t h) l s
-
--- zero bytes of slots
-
-module _ (b : List ℕ) (bytes : Bytes b) (start slots i x : ℕ) (h : Slotted b start slots) (one : 1 ≤ i) (most : i ≤ slots) (is : x ≡ unbe (part b (start + slotSize * (i - 1) + 1) 1)) where
-  pad-test : eqb x 0 ≡ same (part b (start + slotSize * (i - 1) + 1) 1) (zeros 1)
-  pad-test = ap (λ (n : ℕ). eqb n 0) is ∙ zero-test b (start + slotSize * (i - 1) + 1) bytes (omega (arith, h .sized))
-
-  next-pad : padsFrom b start i ≡ eqb x 0 && padsFrom b start (i - 1)
-  unfolding padsFrom allBelow
-  next-pad =
-      let z : i ≡ suc (i - 1) = omega arith in
-      ap (padsFrom b start) z ∙ ap (λ (t : Bool). t && padsFrom b start (i - 1)) (sym pad-test)
-
-  pub pad-zero : x ≡ 0 → padsFrom b start i ≡ padsFrom b start (i - 1)
-  pad-zero e = next-pad ∙ and-yes (padsFrom b start (i - 1)) (eq-eqb x 0 e)
-
-  pub pad-set : x ≢ 0 → padsFrom b start i ≡ false
-  pad-set e = next-pad ∙ and-no (padsFrom b start (i - 1)) (ne-eqb x 0 e)
-
-pub pads-done : (b : List ℕ) (start i : ℕ) → i ≤ 0 → padsFrom b start i ≡ true
-unfolding padsFrom allBelow
-pads-done b start i h = let z : i ≡ 0 = omega arith in ap (padsFrom b start) z

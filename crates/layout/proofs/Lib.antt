@@ -1,6 +1,7 @@
 pub mod ListLaws
 pub mod FieldLaws
 pub mod CellLaws
+pub mod StrictCells
 pub mod TableLaws
 pub mod Layout01Laws
 pub mod SpliceLaws

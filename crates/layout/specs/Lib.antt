@@ -4,4 +4,5 @@ pub mod Image
 pub mod Layout
 pub mod Layout01
 pub mod Lists
+pub mod Strict
 pub mod Tests

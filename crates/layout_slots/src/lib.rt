@@ -17,7 +17,8 @@ ghost use Rattle.layout.specs.Image.{slotAt};
 ghost use Rattle.layout.specs.Changes.{linkOf, slotOf};
 ghost use Rattle.layout.specs.Layout.{slotSize, readSlot, slotBytes, cellsFrom, readTable, putSlot, putNext};
 ghost use Rattle.layout.specs.Fits.{SlotFits, Counted, Slotted};
-ghost use Rattle.layout.specs.Tests.{blank, padsFrom};
+ghost use Rattle.layout.specs.Strict.{strictSlot, strictFrom};
+ghost use Rattle.layout.specs.Tests.{blank};
 
 // The owner, next slot and position in a slot's part of a table.
 fn read_link(part: &[u8]) -> Link
@@ -32,6 +33,32 @@ fn read_link(part: &[u8]) -> Link
         next,
         position,
     }
+}
+
+// The same with the zero byte behind the owner, as the owner's second digit.
+fn read_strict(part: &[u8]) -> Link
+    requires { ⌜ length (now part) ≡ slotSize ⌝ }
+    ensures { λ r. ⌜ r ≡ linkOf (strictSlot (now (part .entry))) ⌝ }
+{
+    let owner = byte_at(part, 0) + 256 * byte_at(part, 1);
+    let next = pair_at(part, 2);
+    let position = get_u64(part, 4);
+    Link {
+        owner,
+        next,
+        position,
+    }
+}
+
+// The owner, next slot and position of slot s, in slots that start at the given place; where byte 1 is not zero, an owner that
+// no chain has.
+pub fn strict_from(table: &[u8], start: usize, slots: usize, s: usize) -> Link
+    requires { ⌜ Slotted (now table) start slots ⌝ }
+    requires { ⌜ (1 ≤ s) × (s ≤ slots) ⌝ }
+    ensures { λ r. ⌜ r ≡ linkOf (slotAt (strictFrom (now (table .entry)) start slots) s) ⌝ }
+{
+    let at = start + SLOT * (s - 1);
+    read_strict(&table[at..at + SLOT])
 }
 
 // The owner, next slot and position of slot s, in slots that start at the given place.
@@ -137,23 +164,8 @@ pub fn put_next(table: &mut [u8], logs: usize, slots: usize, s: usize, next: usi
 pub fn blank_from(table: &[u8], start: usize, slots: usize, s: usize) -> bool
     requires { ⌜ Slotted (now table) start slots ⌝ }
     requires { ⌜ (1 ≤ s) × (s ≤ slots) ⌝ }
-    ensures { λ r. ⌜ r ≡ blank (slotAt (cellsFrom (now (table .entry)) start slots) s) ⌝ }
+    ensures { λ r. ⌜ r ≡ blank (slotAt (strictFrom (now (table .entry)) start slots) s) ⌝ }
 {
     let at = start + SLOT * (s - 1) + 4;
     is_zero(&table[at..at + 72])
-}
-
-// Whether byte 1 of every slot is zero, in slots that start at the given place.
-pub fn pads_from(table: &[u8], start: usize, slots: usize) -> bool
-    requires { ⌜ Slotted (now table) start slots ⌝ }
-    ensures { λ r. ⌜ r ≡ padsFrom (now (table .entry)) start slots ⌝ }
-{
-    let mut i = slots;
-    while 0 < i {
-        i -= 1;
-        if byte_at(table, start + SLOT * i + 1) != 0 {
-            return false;
-        }
-    }
-    true
 }

@@ -19,7 +19,7 @@ use Rattle.receipt.specs.declared.Question.{Question}
 use Rattle.receipt.proofs.Verifier.{complete}
 use Rattle.layout.specs.Image.{Entry, blankEntry}
 use Rattle.a2m.specs.Call.{Call, append, advance, truncate, lookup, end, Wide, replies, after, receiptIn}
-use Rattle.a2m.proofs.Lists.{In}
+use Rattle.table.proofs.Lists.{In}
 use Rattle.model.specs.Log.{Log, lastEntry, Standing, unassigned, forgotten, assigned, skipped, standing, kindOf, referenceOf}
 use Rattle.model.specs.Model.{Rules, rules01, rules, Model, logAt, isNil, modelReceipt, shownFor, modelLookup, modelEnd, modelDone, modelAccept, modelStep}
 use Rattle.model.specs.Claim.{Turn, modelTurn, callAt, replyAt}

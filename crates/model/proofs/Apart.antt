@@ -14,7 +14,7 @@ use Rattle.receipt.specs.Attestation.{Attestation, LOOKUP, END, readAttestation
 use Rattle.receipt.proofs.Fields.{read-receipt}
 use Rattle.layout.specs.Image.{Entry}
 use Rattle.a2m.specs.Call.{Call, append, advance, truncate, lookup, end, Effect, replies, after, receiptIn, Wide}
-use Rattle.a2m.proofs.Lists.{In}
+use Rattle.table.proofs.Lists.{In}
 use Rattle.model.specs.Log.{Log, lastEntry, Standing, unassigned, forgotten, assigned, skipped, standing, kindOf, referenceOf}
 use Rattle.model.specs.Model.{Rules, Model, logAt, isNil, modelReceipt, shownFor, modelLookup, modelEnd, modelDone, modelAccept, modelStep}
 use Rattle.model.specs.Claim.{Turn, modelTurn, ShowsAt, ShowsSkipped, SkippedAt}

@@ -8,7 +8,7 @@ use native.Mathlib.Omega.{arith}
 use lib.ListN.{length}
 use Rattle.layout.specs.Image.{Entry}
 use Rattle.a2m.specs.Call.{Call, Wide}
-use Rattle.a2m.proofs.Lists.{In, in-cases}
+use Rattle.table.proofs.Lists.{In, in-cases}
 use Rattle.model.specs.Log.{Log, lastEntry, entered, keepFrom, cutAt}
 use Rattle.model.specs.Model.{Rules, Model, logAt, isNil, modelStep}
 use Rattle.model.proofs.Represents.{LogOk, Rising}

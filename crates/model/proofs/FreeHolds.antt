@@ -11,7 +11,7 @@ use Rattle.table.specs.Chains.{chain}
 use Rattle.table.specs.Free.{freeChain, taken}
 use Rattle.table.specs.WholeImage.{wholeImage}
 use Rattle.a2m.specs.ImageCalls.{rowIn, entriesIn, put}
-use Rattle.a2m.proofs.Links.{chain-links}
+use Rattle.table.proofs.Links.{chain-links}
 use Rattle.a2m.proofs.Chained.{Chained, whole-chained, put-chained}
 
 module _ (m : Image) (w : wholeImage m ≡ true) (g : ℕ) (gG : g < length (m .rows)) (some : m .free ≢ 0) (e : Entry) where

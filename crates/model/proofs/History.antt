@@ -12,7 +12,7 @@ use borrow.Author.Tests.{leb-true, leb-false}
 use Rattle.layout.specs.Image.{Entry}
 use Rattle.a2m.specs.NewEntry.{newEntry}
 use Rattle.a2m.specs.Call.{advance, truncate, Reply, replies, after}
-use Rattle.a2m.proofs.Lists.{In, in-cases}
+use Rattle.table.proofs.Lists.{In, in-cases}
 use Rattle.model.specs.Log.{Log, entered, cutAt}
 use Rattle.model.specs.Model.{Model, logAt}
 use Rattle.model.specs.Claim.{Turn, modelTurn, callAt, ShowsAt, SkipsAt, ForgetsAt}

@@ -16,7 +16,7 @@ use Rattle.entry.specs.Digest.{entryDigest}
 use Rattle.a2m.specs.Call.{lookup, Reply, replies, after, receiptIn}
 use Rattle.survey.specs.Requests.{Request, requestStep, AllWideRequests}
 use Rattle.a2m.specs.NewEntry.{newEntry}
-use Rattle.a2m.proofs.Lists.{In, in-right, in-cases}
+use Rattle.table.proofs.Lists.{In, in-right, in-cases}
 use Rattle.model.specs.Log.{Log, entered}
 use Rattle.model.specs.Model.{Rules, rules, Model, newModel, logAt, modelStep}
 use Rattle.model.specs.Program.{programStep}

@@ -10,7 +10,7 @@ use lib.Dec.{leb}
 use borrow.Author.Tests.{le-leb}
 use Rattle.layout.specs.Image.{Entry}
 use Rattle.a2m.specs.Call.{Call, Effect, after, Wide}
-use Rattle.a2m.proofs.Lists.{In, in-left, in-cases}
+use Rattle.table.proofs.Lists.{In, in-left, in-cases}
 use Rattle.model.specs.Log.{Log, entered, keepFrom, cutAt}
 use Rattle.model.specs.Model.{Model, logAt}
 use Rattle.model.specs.Claim.{Turn, modelTurn}

@@ -16,7 +16,7 @@ use Rattle.a2m.specs.Call.{replies, works, after}
 use Rattle.survey.specs.Requests.{Request, requestStep, AllWideRequests}
 use Rattle.a2m.specs.ImageCalls.{rowIn, entriesIn}
 use Rattle.a2m.specs.TableCalls.{tableStep}
-use Rattle.a2m.proofs.Lists.{In}
+use Rattle.table.proofs.Lists.{In}
 use Rattle.a2m.proofs.FitsAfter.{SlotsFit, slot-fits}
 use Rattle.model.specs.Model.{rules}
 use Rattle.model.specs.ModelOf.{logIn, modelOf}

@@ -19,7 +19,7 @@ use Rattle.table.specs.WholeImage.{heldBy, meets, linked, wholeImage}
 use Rattle.table.proofs.ReserveLaws.{whole-linked, whole-lack}
 use Rattle.a2m.specs.Call.{Call, Effect}
 use Rattle.a2m.specs.ImageCalls.{rowIn, entriesIn, imageStep}
-use Rattle.a2m.proofs.Links.{chain-links}
+use Rattle.table.proofs.Links.{chain-links}
 use Rattle.a2m.proofs.WholeChains.{RowChain, log-chain, free-links, free-blank, sum-meets}
 use Rattle.model.specs.Log.{Log, freshLog}
 use Rattle.model.specs.Model.{rules, Model, logAt, total, modelStep}

@@ -12,8 +12,8 @@ use Rattle.layout.specs.Image.{Entry, Slot, Image, entryOf, blankEntry, slotAt,
 use Rattle.layout.specs.Changes.{advancedRow}
 use Rattle.table.specs.Chains.{entriesOf}
 use Rattle.a2m.specs.ImageCalls.{rowIn, joined, heldSlot, put}
-use Rattle.a2m.proofs.Lists.{lastOf-snoc}
-use Rattle.a2m.proofs.Links.{Holds, links-head}
+use Rattle.table.proofs.Lists.{lastOf-snoc}
+use Rattle.table.proofs.Links.{Holds, links-head}
 use Rattle.a2m.proofs.Chained.{Chained, put-move}
 use Rattle.a2m.proofs.Moves.{Move, move-other, move-from, move-to, length-joined}
 use Rattle.model.specs.Log.{entered}

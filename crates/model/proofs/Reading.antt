@@ -14,9 +14,9 @@ use Rattle.layout.specs.declared.Row.{Row}
 use Rattle.layout.specs.Image.{Entry, Slot, Image, entryOf, slotAt, rowAt, freshRow}
 use Rattle.table.specs.Chains.{chain, lastOf, entriesOf}
 use Rattle.a2m.specs.ImageCalls.{rowIn, entriesIn}
-use Rattle.a2m.proofs.Lists.{in-right, Snoc, snoc, ending, lastOf-nil, lastOf-snoc, map-append}
+use Rattle.table.proofs.Lists.{in-right, Snoc, snoc, ending, lastOf-nil, lastOf-snoc, map-append}
 use Rattle.table.specs.Conditions.{Links}
-use Rattle.a2m.proofs.Links.{Holds, links-in, chain-links}
+use Rattle.table.proofs.Links.{Holds, links-in, chain-links}
 use Rattle.model.specs.Log.{Log, freshLog, lastEntry}
 use Rattle.model.specs.Model.{Model, logAt, total, isNil}
 use Rattle.model.proofs.Represents.{Rep, RowRep}

@@ -16,7 +16,7 @@ use Rattle.receipt.specs.Attestation.{Attestation, LOOKUP, receiptBytes, readAt
 use Rattle.receipt.proofs.Fields.{read-receipt}
 use Rattle.layout.specs.Image.{Entry}
 use Rattle.a2m.specs.Call.{Call, append, advance, truncate, lookup, end, refused, done, Effect, Reply, replies, after, receiptIn}
-use Rattle.a2m.proofs.Lists.{In, in-left, in-right}
+use Rattle.table.proofs.Lists.{In, in-left, in-right}
 use Rattle.model.specs.Log.{Log, freshLog, keepFrom, entered, cutAt, assigned, standingAmong, standing, kindOf, referenceOf}
 use Rattle.model.specs.Model.{Rules, Model, logAt, modelRefusal, modelReceipt, shownFor, modelLookup, modelDone, modelAccept, modelStep}
 use Rattle.model.specs.Claim.{Turn, modelTurn, callAt, Shows, replyAt, ShowsAt, Stores, Asked}

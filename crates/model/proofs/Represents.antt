@@ -6,7 +6,7 @@ use lib.ListN.{length, replicate}
 use Rattle.layout.specs.declared.Row.{Row}
 use Rattle.layout.specs.Image.{Entry, Slot, Image, blankEntry, rowAt}
 use Rattle.table.specs.Chains.{lastOf}
-use Rattle.a2m.proofs.Links.{Holds}
+use Rattle.table.proofs.Links.{Holds}
 use Rattle.model.specs.Log.{Log, lastEntry}
 use Rattle.model.specs.Model.{Model, logAt, total}
 

@@ -23,7 +23,7 @@ use Rattle.a2m.specs.Search.{Found, lookedUp}
 use Rattle.a2m.specs.ImageCalls.{rowIn, entriesIn, lookupAttested}
 use Rattle.a2m.specs.TableCalls.{tableRefusal, tableStep}
 use Rattle.a2m.proofs.Clear.{clear}
-use Rattle.a2m.proofs.Lists.{In}
+use Rattle.table.proofs.Lists.{In}
 use Rattle.model.specs.Log.{Log, Standing, unassigned, forgotten, assigned, skipped, standing, kindOf, referenceOf, examinedFor}
 use Rattle.model.specs.Model.{rules01, rules, Model, logAt, modelReceipt, shownFor, modelLookup, modelAccept, modelStep}
 use Rattle.model.specs.ModelOf.{logIn, modelOf}

@@ -8,7 +8,7 @@ use native.Mathlib.Omega.{arith}
 use lib.Dec.{eqb, leb, ltb}
 use borrow.Author.Tests.{eqb-true, eqb-false, leb-true, ltb-true, ltb-false}
 use Rattle.layout.specs.Image.{Entry}
-use Rattle.a2m.proofs.Lists.{In}
+use Rattle.table.proofs.Lists.{In}
 use Rattle.model.specs.Log.{Log, lastEntry, keepFrom, Standing, unassigned, forgotten, assigned, skipped, standingAmong, standing}
 use Rattle.model.specs.Model.{isNil}
 use Rattle.model.proofs.Represents.{LogOk, Rising}

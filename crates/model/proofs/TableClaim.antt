@@ -16,7 +16,7 @@ use Rattle.a2m.specs.Call.{Call, Wide, AllWide, Reply, Effect, replies, works, 
 use Rattle.a2m.specs.ImageCalls.{imageStep}
 use Rattle.a2m.specs.TableCalls.{written, tableStep}
 use Rattle.survey.specs.Requests.{Request, callOf, requestStep, WideRequest, AllWideRequests}
-use Rattle.a2m.proofs.Links.{chain-links}
+use Rattle.table.proofs.Links.{chain-links}
 use Rattle.a2m.proofs.FitsAfter.{step-fits}
 use Rattle.a2m.proofs.Written.{step-written}
 use Rattle.model.specs.Model.{rules, Model, total, modelStep}

@@ -15,7 +15,7 @@ use Rattle.table.specs.Chains.{lastOf, entriesOf}
 use Rattle.table.specs.Free.{joint}
 use Rattle.a2m.specs.ImageCalls.{rowIn, joined, firstOf, release, releases, lowered}
 use Rattle.table.specs.Conditions.{Links}
-use Rattle.a2m.proofs.Links.{Holds, links-head}
+use Rattle.table.proofs.Links.{Holds, links-head}
 use Rattle.a2m.proofs.Chained.{Chained, release-move}
 use Rattle.a2m.proofs.Releases.{releases-stop, releases-go}
 use Rattle.a2m.proofs.Moves.{Move, move-other, move-from, move-to, length-joined}

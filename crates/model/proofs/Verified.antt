@@ -27,7 +27,7 @@ use Rattle.a2m.specs.Search.{Found, lookedUp}
 use Rattle.a2m.specs.ImageCalls.{rowIn, entriesIn, misplaced, lookupAttested, endKind, endAttested}
 use Rattle.a2m.specs.TableCalls.{tableRefusal, tableStep}
 use Rattle.a2m.proofs.Clear.{clear}
-use Rattle.a2m.proofs.Lists.{In}
+use Rattle.table.proofs.Lists.{In}
 use Rattle.model.specs.Log.{Log, standing, kindOf, referenceOf, examinedFor}
 use Rattle.model.specs.Model.{rules, modelStep}
 use Rattle.model.specs.ModelOf.{logIn, modelOf}

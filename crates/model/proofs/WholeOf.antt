@@ -17,9 +17,9 @@ use Rattle.layout.specs.Image.{Entry, Slot, Image, entryOf, blankEntry, slotAt,
 use Rattle.table.specs.Chains.{chain, lastOf, entriesOf}
 use Rattle.table.specs.WholeImage.{all, freeOk, fresh, started, rowOk, rowsOk, heldBy, meets, linked, wholeImage}
 use Rattle.layout.specs.Tests.{blank}
-use Rattle.a2m.proofs.Lists.{lastOf-nil}
+use Rattle.table.proofs.Lists.{lastOf-nil}
 use Rattle.table.specs.Conditions.{Links}
-use Rattle.a2m.proofs.Links.{chain-links, reaches-links}
+use Rattle.table.proofs.Links.{chain-links, reaches-links}
 use Rattle.model.specs.Log.{Log}
 use Rattle.model.specs.Model.{Model, logAt, total}
 use Rattle.model.proofs.Represents.{Rep, RowRep, LogOk, Sound}

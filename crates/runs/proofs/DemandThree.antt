@@ -3,7 +3,7 @@
 -- two runs that refusals 7 and 14 do not turn away": `hands-over-exactly`. Then what each verdict of such a call says.
 use mathlib.Core.Path.{_≡_, sym, ap, _∙_}
 use mathlib.Core.Logic.{_↔_}
-use Prim.Native.Nat.{ℕ, zero, suc, _+_, _-_, _^_, _≤_, _<_}
+use Prim.Native.Nat.{ℕ, _+_, _-_, _^_, _≤_, _<_}
 use native.Mathlib.Omega.{arith}
 use mathlib.Core.Bool.{false, not}
 use mathlib.Core.Option.{none}
@@ -14,24 +14,17 @@ use borrow.Author.Tests.{eqb-true, not-false}
 use Rattle.refusal.specs.Order.{afterwards}
 use Rattle.refusal.proofs.OrderLaws.{peel}
 use Rattle.sha256.specs.Sha256.{sha256}
-use Rattle.sha256.proofs.Sizes.{length-sha256}
-use Rattle.entry.specs.Digest.{block}
 use Rattle.entry.proofs.DigestLaws.{length-block}
 use Rattle.runs.specs.Run.{Run, count, valueAt, digestAt, blockAt, closing}
 use Rattle.runs.specs.Compare.{Verdict, differ, agree, collision, reach, left, right, Unlike, comparison, handedOver}
 use Rattle.runs.specs.Call.{Answer, noRun, compareRefusal, done, answered, compareAnswer, compareBytes}
 use Rattle.runs.specs.Claim.{Collides, Agreement, HandsOver}
 use Rattle.runs.proofs.NoRun.{run-reaches}
+use Rattle.runs.proofs.ScanLaws.{digest-size}
 use Rattle.runs.proofs.AgreeLaws.{agree-exactly}
 use Rattle.runs.proofs.Verdicts.{value-size, differ-exactly, collision-exactly, collision-handed, untouched}
 
--- sizes of digests and blocks
-
-digest-size : (r : Run) → length (r .start) ≡ 32 → (k : ℕ) → length (digestAt sha256 r k) ≡ 32
-unfolding digestAt
-digest-size r h zero = h
-digest-size r h (suc k) = length-sha256 (block (r .first + k) (valueAt r k) (digestAt sha256 r k))
-
+-- the size of a block
 block-size : (r : Run) → length (r .start) ≡ 32 → (k : ℕ) → k < count r → length (blockAt sha256 r k) ≡ 72
 unfolding blockAt
 block-size r h k n = length-block (r .first + k) (valueAt r k) (digestAt sha256 r k) (value-size r k n) (digest-size r h k)

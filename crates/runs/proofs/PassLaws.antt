@@ -12,97 +12,100 @@ use Rattle.octets.proofs.Parts.{splice-then, splice-whole}
 use Rattle.runs.specs.Run.{Run, count, digestAt, closing}
 use Rattle.runs.specs.Compare.{reach, differ, left, right, nearest, pairAt, verdictOf, filledWith, comparison, handedOver}
 use Rattle.runs.specs.Call.{comparisonAnswer, comparisonBlocks, done}
-use Rattle.runs.specs.Scan.{blockFrom, pointAt, keptOf, scanned, passed, hashed, concluded, leftIn}
+use Rattle.runs.specs.Scan.{blockFrom, found, place, unequalIn, scanOf, scanned, passed, concluded, leftIn}
 use Rattle.runs.proofs.LastUnequal.{Last, last-is}
 use Rattle.runs.specs.declared.Comparison.{Comparison}
 use Rattle.runs.specs.declared.Comparison.the-variants.{Differ, Agree, Collision}
-use Rattle.runs.specs.declared.Kept.{Kept}
 use Rattle.runs.specs.declared.Scan.{Scan}
-use Rattle.runs.proofs.ScanLaws.{block-is, digest-is, scan-blocks, scan-passed}
+use Rattle.runs.proofs.ScanLaws.{block-is}
 
 module _ (f1 : ℕ) (v1 : List ℕ) (f2 : ℕ) (v2 : List ℕ) (s : Scan) (out : List ℕ) where
-  pub differs : same (s .one .digest) (s .two .digest) ≡ false → (Differ (hashed s) ≡ concluded s) × (out ≡ leftIn f1 v1 f2 v2 s out)
+  pub differs : same (s .digest1) (s .digest2) ≡ false → (Differ (s .blocks) ≡ concluded s) × (out ≡ leftIn f1 v1 f2 v2 s out)
   unfolding concluded leftIn
   differs h = simp h (refl, refl)
 
-  pub agrees : same (s .one .digest) (s .two .digest) ≡ true → s .kept .found ≡ false → (Agree (hashed s) ≡ concluded s) × (out ≡ leftIn f1 v1 f2 v2 s out)
+  pub agrees : same (s .digest1) (s .digest2) ≡ true → s .found ≡ false → (Agree (s .blocks) ≡ concluded s) × (out ≡ leftIn f1 v1 f2 v2 s out)
   unfolding concluded leftIn
   agrees h f = simp (h, f) (refl, refl)
 
-  pub collides : same (s .one .digest) (s .two .digest) ≡ true → s .kept .found ≡ true → length out ≡ 144
-      → length (blockFrom f1 v1 (s .kept .one)) ≡ 72 → length (blockFrom f2 v2 (s .kept .two)) ≡ 72 → (c d : List ℕ)
-      → c ≡ splice out 0 (blockFrom f1 v1 (s .kept .one)) → d ≡ splice c 72 (blockFrom f2 v2 (s .kept .two))
-      → (Collision (hashed s) ≡ concluded s) × (d ≡ leftIn f1 v1 f2 v2 s out)
+  abbrev block1 : List ℕ
+  block1 = blockFrom f1 v1 (s .at1) (s .before1)
+
+  abbrev block2 : List ℕ
+  block2 = blockFrom f2 v2 (s .at2) (s .before2)
+
+  pub collides : same (s .digest1) (s .digest2) ≡ true → s .found ≡ true → length out ≡ 144 → length block1 ≡ 72 → length block2 ≡ 72
+      → (c d : List ℕ) → c ≡ splice out 0 block1 → d ≡ splice c 72 block2 → (Collision (s .blocks) ≡ concluded s) × (d ≡ leftIn f1 v1 f2 v2 s out)
   unfolding concluded leftIn
   collides h f n n1 n2 c d ec ed =
-      let p : List ℕ = blockFrom f1 v1 (s .kept .one) in
-      let q : List ℕ = blockFrom f2 v2 (s .kept .two) in
+      let p : List ℕ = block1 in
+      let q : List ℕ = block2 in
       let e : d ≡ p ++ q = splice-then out p q 72 ec n1 (omega arith) ed ∙ splice-whole out (p ++ q) (length-append p q ∙ omega arith) in
       simp (h, f) (refl, e)
 
 -- the conclusion of the whole pass is the comparison
 
 module _ (a b : Run) where
-  close-left : pointAt a (count a - reach a b + reach a b) .digest ≡ closing sha256 a
-  unfolding closing reach
-  close-left = digest-is a (count a - reach a b + reach a b) ∙ ap (digestAt sha256 a) (omega arith)
+  -- the values of each run behind which both go in step
+  abbrev skip1 : ℕ
+  skip1 = count a - reach a b
 
-  close-right : pointAt b (count b - reach a b + reach a b) .digest ≡ closing sha256 b
-  unfolding closing reach
-  close-right = digest-is b (count b - reach a b + reach a b) ∙ ap (digestAt sha256 b) (omega arith)
+  abbrev skip2 : ℕ
+  skip2 = count b - reach a b
 
-  abbrev keptBy : Option ℕ → Kept
-  keptBy = keptOf a b (count a - reach a b) (count b - reach a b)
+  close-left : digestAt sha256 a (skip1 + reach a b) ≡ closing sha256 a
+  unfolding closing reach
+  close-left = ap (digestAt sha256 a) (omega arith)
+
+  close-right : digestAt sha256 b (skip2 + reach a b) ≡ closing sha256 b
+  unfolding closing reach
+  close-right = ap (digestAt sha256 b) (omega arith)
 
   answer-is : (t : Bool) (o : Option ℕ) (n : ℕ)
-      → comparisonAnswer (cond t (cond (keptBy o .found) (Collision n) (Agree n)) (Differ n)) ≡ done (cond t (verdictOf o) differ)
-  unfolding keptOf
+      → comparisonAnswer (cond t (cond (found o) (Collision n) (Agree n)) (Differ n)) ≡ done (cond t (verdictOf o) differ)
+  unfolding found
   answer-is true none n = refl
   answer-is true (some k) n = refl
   answer-is false o n = refl
 
   concluded-is : comparisonAnswer (concluded (passed a b)) ≡ done (comparison sha256 a b)
-  unfolding concluded passed scanned comparison nearest left right
+  unfolding concluded passed scanned scanOf unequalIn comparison nearest left right
   concluded-is =
-      ap₂ (λ (x y : List ℕ). comparisonAnswer (cond (same x y) (cond (passed a b .kept .found) (Collision (hashed (passed a b))) (Agree (hashed (passed a b)))) (Differ (hashed (passed a b))))) close-left close-right
-      ∙ answer-is (same (closing sha256 a) (closing sha256 b)) (nearest sha256 a b) (hashed (passed a b))
+      ap₂ (λ (x y : List ℕ). comparisonAnswer (cond (same x y) (cond (passed a b .found) (Collision (passed a b .blocks)) (Agree (passed a b .blocks))) (Differ (passed a b .blocks)))) close-left close-right
+      ∙ answer-is (same (closing sha256 a) (closing sha256 b)) (nearest sha256 a b) (passed a b .blocks)
 
   -- every verdict carries the blocks of the pass
-  carries : (s : Scan) (t u : Bool) → comparisonBlocks (cond t (cond u (Collision (hashed s)) (Agree (hashed s))) (Differ (hashed s))) ≡ hashed s
-  carries s true true = refl
-  carries s true false = refl
-  carries s false u = refl
+  carries : (n : ℕ) (t u : Bool) → comparisonBlocks (cond t (cond u (Collision n) (Agree n)) (Differ n)) ≡ n
+  carries n true true = refl
+  carries n true false = refl
+  carries n false u = refl
 
   -- 2 for each value of either run
-  pub pass-blocks : {s : Scan} → s ≡ passed a b → (s .one .blocks ≡ 2 * count a) × (s .two .blocks ≡ 2 * count b)
-  unfolding passed reach
-  pass-blocks {s} e =
-      let h = scan-blocks a b (count a - reach a b) (count b - reach a b) (reach a b) e in
-      let k = scan-passed a b (count a - reach a b) (count b - reach a b) (reach a b) in
-      let one : s .one .passed ≡ count a = ap (λ (t : Scan). t .one .passed) e ∙ k .0 ∙ omega arith in
-      let two : s .two .passed ≡ count b = ap (λ (t : Scan). t .two .passed) e ∙ k .1 ∙ omega arith in
-      (h .0 ∙ ap (λ (n : ℕ). 2 * n) one, h .1 ∙ ap (λ (n : ℕ). 2 * n) two)
+  pass-blocks : passed a b .blocks ≡ 2 * (count a + count b)
+  unfolding passed scanned scanOf reach
+  pass-blocks = omega arith
 
   blocks-concluded : comparisonBlocks (concluded (passed a b)) ≡ 2 * (count a + count b)
   unfolding concluded
-  blocks-concluded =
-      let h = pass-blocks {s = passed a b} refl in
-      carries (passed a b) (same (passed a b .one .digest) (passed a b .two .digest)) (passed a b .kept .found) ∙ omega (arith, h .0, h .1)
+  blocks-concluded = carries (passed a b .blocks) (same (passed a b .digest1) (passed a b .digest2)) (passed a b .found) ∙ pass-blocks
 
-  abbrev pairOf : Kept → List ℕ
-  pairOf k = blockFrom (a .first) (a .values) (k .one) ++ blockFrom (b .first) (b .values) (k .two)
+  -- the pair at the place kept
+  abbrev pairOf : Option ℕ → List ℕ
+  pairOf o =
+      blockFrom (a .first) (a .values) (skip1 + place o) (digestAt sha256 a (skip1 + place o))
+      ++ blockFrom (b .first) (b .values) (skip2 + place o) (digestAt sha256 b (skip2 + place o))
 
   filled-is : (t : Bool) (o : Option ℕ) (out : List ℕ)
-      → cond t (cond (keptBy o .found) (pairOf (keptBy o)) out) out ≡ cond t (filledWith (pairAt sha256 a b) o out) out
-  unfolding keptOf pairAt left right
+      → cond t (cond (found o) (pairOf o) out) out ≡ cond t (filledWith (pairAt sha256 a b) o out) out
+  unfolding found place pairAt left right
   filled-is true none out = refl
-  filled-is true (some k) out = ap₂ (λ (x y : List ℕ). x ++ y) (block-is a (count a - reach a b + k)) (block-is b (count b - reach a b + k))
+  filled-is true (some k) out = ap₂ (λ (x y : List ℕ). x ++ y) (block-is a (skip1 + k)) (block-is b (skip2 + k))
   filled-is false o out = refl
 
   left-in-is : (out : List ℕ) → leftIn (a .first) (a .values) (b .first) (b .values) (passed a b) out ≡ handedOver sha256 a b out
-  unfolding leftIn passed scanned handedOver nearest left right
+  unfolding leftIn passed scanned scanOf unequalIn handedOver nearest left right
   left-in-is out =
-      ap₂ (λ (x y : List ℕ). cond (same x y) (cond (passed a b .kept .found) (pairOf (passed a b .kept)) out) out) close-left close-right
+      ap₂ (λ (x y : List ℕ). cond (same x y) (cond (found (nearest sha256 a b)) (pairOf (nearest sha256 a b)) out) out) close-left close-right
       ∙ filled-is (same (closing sha256 a) (closing sha256 b)) (nearest sha256 a b) out
 
   -- the pass of the program, by its smaller count
@@ -113,19 +116,19 @@ module _ (a b : Run) where
 
   -- what is kept stands within both runs
   within : (o : Option ℕ) → 0 < reach a b → Last (left sha256 a b) (right sha256 a b) (reach a b) o
-      → (keptBy o .one .passed + 1 ≤ count a) × (keptBy o .two .passed + 1 ≤ count b)
-  unfolding keptOf pointAt reach
+      → (skip1 + place o + 1 ≤ count a) × (skip2 + place o + 1 ≤ count b)
+  unfolding place reach
   within none h l = (omega arith, omega arith)
   within (some k) h l = (omega (arith, l .0), omega (arith, l .0))
 
-  kept-within : 0 < count a → 0 < count b → (passed a b .kept .one .passed + 1 ≤ count a) × (passed a b .kept .two .passed + 1 ≤ count b)
-  unfolding passed scanned nearest left right reach
+  kept-within : 0 < count a → 0 < count b → (passed a b .at1 + 1 ≤ count a) × (passed a b .at2 + 1 ≤ count b)
+  unfolding passed scanned scanOf unequalIn nearest left right reach
   kept-within h k = within (nearest sha256 a b) (omega arith) (last-is (left sha256 a b) (right sha256 a b) (reach a b))
 
   -- the same for a caller, whose scan is the whole pass
   module _ {s : Scan} where
     pub kept-inside : 0 < length (a .values) / 32 → 0 < length (b .values) / 32 → s ≡ passed a b
-        → (s .kept .one .passed + 1 ≤ length (a .values) / 32) × (s .kept .two .passed + 1 ≤ length (b .values) / 32)
+        → (s .at1 + 1 ≤ length (a .values) / 32) × (s .at2 + 1 ≤ length (b .values) / 32)
     unfolding count
     kept-inside h k e = rw e (kept-within h k)
 

@@ -4,13 +4,15 @@ use entry::entry_digest;
 use octets::equal;
 use octets::put;
 use refusal::Refusal;
+use sha256::Digest;
 ghost use mathlib.Core.Path.{_≡_};
 ghost use Prim.Native.Nat.{_+_, _*_, _/_, _^_, _≤_, _<_, min};
 ghost use lib.ListN.{length};
 ghost use Rattle.octets.specs.Octets.{same, splice};
-ghost use Rattle.runs.specs.Run.{run};
+ghost use Rattle.sha256.specs.Sha256.{sha256};
+ghost use Rattle.runs.specs.Run.{run, digestAt};
 ghost use Rattle.runs.specs.Call.{noRun, comparisonAnswer, comparisonBlocks, compareAnswer, compareBlocks, compareBytes};
-ghost use Rattle.runs.specs.Scan.{Reaches, blockFrom, pointAfter, pointAt, keptAfter, scanAfter, scanned, passed, concluded, leftIn};
+ghost use Rattle.runs.specs.Scan.{Reaches, blockFrom, scanned, passed, concluded, leftIn};
 
 // The verdict, or why there is none, each with the blocks hashed (document 02 [2]).
 pub enum Comparison {
@@ -20,25 +22,17 @@ pub enum Comparison {
     Refused { why: Refusal, blocks: u64 },
 }
 
-// How far a run was walked: the number of values passed, the digest after them, and the blocks hashed on the way.
-struct Point {
-    passed: usize,
-    digest: [u8; 32],
-    blocks: u64,
-}
-
-// Where the last unequal pair of blocks stands, if one was found.
-struct Kept {
-    found: bool,
-    one: Point,
-    two: Point,
-}
-
-// Both runs walked, and what was kept.
+// Both runs walked: the digest after each, the blocks hashed, and the last unequal pair of blocks, if one was found, by the place of
+// its value in each run and the digest before it. Made once, after the loop: copied in every turn, it took ten times the code.
 struct Scan {
-    one: Point,
-    two: Point,
-    kept: Kept,
+    digest1: [u8; 32],
+    digest2: [u8; 32],
+    blocks: u64,
+    found: bool,
+    at1: usize,
+    at2: usize,
+    before1: [u8; 32],
+    before2: [u8; 32],
 }
 
 // Whether there are no values, a part of one, a first position 0 or a last one beyond 2^64 - 1.
@@ -59,55 +53,51 @@ fn no_run(first: u64, values: &[u8]) -> bool
     18446744073709551615 - first < more
 }
 
-// The point after the value at p.
-fn walked(first: u64, values: &[u8], p: Point) -> Point
-    requires { ⌜ Reaches first (now values) (p .passed + 1) × (p .blocks ≡ 2 * p .passed) ⌝ }
-    ensures { λ r. ⌜ r ≡ pointAfter first (now (values .entry)) p ⌝ }
+// The digest after value k, from the one before it.
+fn walked(first: u64, values: &[u8], k: usize, digest: &[u8]) -> Digest
+    requires { ⌜ Reaches first (now values) (k + 1) × (length (now digest) ≡ 32) ⌝ }
+    ensures { λ r. ⌜ (r .bytes ≡ sha256 (blockFrom first (now (values .entry)) k (now (digest .entry)))) × (r .blocks ≡ 2) ⌝ }
 {
-    let k = p.passed;
-    let before = p.digest;
     let at = k * 32;
-    let end = at + 32;
-    let d = entry_digest(first + k as u64, &values[at..end], &before);
-    let digest = d.bytes;
-    let blocks = p.blocks + d.blocks;
-    let passed = k + 1;
-    Point {
-        passed,
-        digest,
+    entry_digest(first + k as u64, &values[at..at + 32], digest)
+}
+
+// The digest after a run's first n values, and the blocks hashed for it.
+fn digest_at(start: &[u8], first: u64, values: &[u8], n: usize) -> Digest
+    requires { ⌜ (length (now start) ≡ 32) × Reaches first (now values) n ⌝ }
+    ensures { λ r. ⌜ (r .bytes ≡ digestAt sha256 (run (now (start .entry)) first (now (values .entry))) n) × (r .blocks ≡ 2 * n) ⌝ }
+{
+    let mut digest = [0u8; 32];
+    put(&mut digest, 0, start);
+    let mut blocks = 0;
+    let mut k = 0;
+    while k < n {
+        let d = walked(first, values, k, &digest);
+        digest = d.bytes;
+        blocks = blocks + d.blocks;
+        k += 1;
+    }
+    Digest {
+        bytes: digest,
         blocks,
     }
 }
 
-// The point after a run's first n values.
-fn point_at(start: &[u8], first: u64, values: &[u8], n: usize) -> Point
-    requires { ⌜ (length (now start) ≡ 32) × Reaches first (now values) n ⌝ }
-    ensures { λ r. ⌜ r ≡ pointAt (run (now (start .entry)) first (now (values .entry))) n ⌝ }
+// Whether the blocks of value k and of value l are the same, part by part; each with the digest before it.
+fn same_block(
+    first1: u64,
+    values1: &[u8],
+    k: usize,
+    digest1: &[u8],
+    first2: u64,
+    values2: &[u8],
+    l: usize,
+    digest2: &[u8],
+) -> bool
+    requires { ⌜ Reaches first1 (now values1) (k + 1) ⌝ }
+    requires { ⌜ Reaches first2 (now values2) (l + 1) ⌝ }
+    ensures { λ r. ⌜ r ≡ same (blockFrom first1 (now (values1 .entry)) k (now (digest1 .entry))) (blockFrom first2 (now (values2 .entry)) l (now (digest2 .entry))) ⌝ }
 {
-    let mut digest = [0u8; 32];
-    put(&mut digest, 0, start);
-    let mut p = Point {
-        passed: 0,
-        digest,
-        blocks: 0,
-    };
-    let mut k = 0;
-    while k < n {
-        let next = walked(first, values, p);
-        p = next;
-        k += 1;
-    }
-    p
-}
-
-// Whether the blocks of the values at p and q are the same, part by part.
-fn same_block(first1: u64, values1: &[u8], p: Point, first2: u64, values2: &[u8], q: Point) -> bool
-    requires { ⌜ Reaches first1 (now values1) (p .passed + 1) ⌝ }
-    requires { ⌜ Reaches first2 (now values2) (q .passed + 1) ⌝ }
-    ensures { λ r. ⌜ r ≡ same (blockFrom first1 (now (values1 .entry)) p) (blockFrom first2 (now (values2 .entry)) q) ⌝ }
-{
-    let k = p.passed;
-    let l = q.passed;
     if first1 + k as u64 != first2 + l as u64 {
         return false;
     }
@@ -118,39 +108,7 @@ fn same_block(first1: u64, values1: &[u8], p: Point, first2: u64, values2: &[u8]
     if !equal(&values1[at1..end1], &values2[at2..end2]) {
         return false;
     }
-    let digest1 = p.digest;
-    let digest2 = q.digest;
-    equal(&digest1, &digest2)
-}
-
-// What is kept after one more pair of blocks, alike or not, at one and two.
-fn keep(kept: Kept, alike: bool, one: Point, two: Point) -> Kept
-    ensures { λ r. ⌜ r ≡ keptAfter kept alike one two ⌝ }
-{
-    if alike {
-        return kept;
-    }
-    Kept {
-        found: true,
-        one,
-        two,
-    }
-}
-
-// Both runs one value further.
-fn step(s: Scan, first1: u64, values1: &[u8], first2: u64, values2: &[u8]) -> Scan
-    requires { ⌜ Reaches first1 (now values1) (s .one .passed + 1) × (s .one .blocks ≡ 2 * s .one .passed) ⌝ }
-    requires { ⌜ Reaches first2 (now values2) (s .two .passed + 1) × (s .two .blocks ≡ 2 * s .two .passed) ⌝ }
-    ensures { λ r. ⌜ r ≡ scanAfter first1 (now (values1 .entry)) first2 (now (values2 .entry)) s ⌝ }
-{
-    let p = s.one;
-    let q = s.two;
-    let before = s.kept;
-    let alike = same_block(first1, values1, p, first2, values2, q);
-    let kept = keep(before, alike, p, q);
-    let one = walked(first1, values1, p);
-    let two = walked(first2, values2, q);
-    Scan { one, two, kept }
+    equal(digest1, digest2)
 }
 
 // Both runs in step: m values of the first behind its first i, and m of the second behind its first j.
@@ -169,21 +127,47 @@ fn in_step(
     requires { ⌜ (length (now start2) ≡ 32) × Reaches first2 (now values2) (j + m) ⌝ }
     ensures { λ r. ⌜ r ≡ scanned (run (now (start1 .entry)) first1 (now (values1 .entry))) (run (now (start2 .entry)) first2 (now (values2 .entry))) i j m ⌝ }
 {
-    let one = point_at(start1, first1, values1, i);
-    let two = point_at(start2, first2, values2, j);
-    let kept = Kept {
-        found: false,
-        one,
-        two,
-    };
-    let mut s = Scan { one, two, kept };
+    let one = digest_at(start1, first1, values1, i);
+    let two = digest_at(start2, first2, values2, j);
+    let mut digest1 = one.bytes;
+    let mut digest2 = two.bytes;
+    let blocks1 = one.blocks;
+    let blocks2 = two.blocks;
+    let mut blocks = blocks1 + blocks2;
+    let mut found = false;
+    let mut at = 0;
+    let mut before1 = digest1;
+    let mut before2 = digest2;
     let mut k = 0;
     while k < m {
-        let next = step(s, first1, values1, first2, values2);
-        s = next;
+        let p = i + k;
+        let q = j + k;
+        let alike = same_block(first1, values1, p, &digest1, first2, values2, q, &digest2);
+        if !alike {
+            found = true;
+            at = k;
+            before1 = digest1;
+            before2 = digest2;
+        }
+        let d1 = walked(first1, values1, p, &digest1);
+        let d2 = walked(first2, values2, q, &digest2);
+        digest1 = d1.bytes;
+        digest2 = d2.bytes;
+        blocks = blocks + d1.blocks + d2.blocks;
         k += 1;
     }
-    s
+    let at1 = i + at;
+    let at2 = j + at;
+    Scan {
+        digest1,
+        digest2,
+        blocks,
+        found,
+        at1,
+        at2,
+        before1,
+        before2,
+    }
 }
 
 fn smaller(a: usize, b: usize) -> usize
@@ -221,19 +205,17 @@ fn pass(
     )
 }
 
-// Writes the block of the value at p, from at on.
-fn put_block(out: &mut [u8], at: usize, first: u64, values: &[u8], p: Point)
-    requires { ⌜ at + 72 ≤ length (now out) ⌝ }
-    requires { ⌜ Reaches first (now values) (p .passed + 1) ⌝ }
-    ensures { λ _. ⌜ now (out .exit) ≡ splice (now (out .entry)) at (blockFrom first (now (values .entry)) p) ⌝ }
+// Writes the block of value k, with the digest before it, from at on.
+fn put_block(out: &mut [u8], at: usize, first: u64, values: &[u8], k: usize, digest: &[u8])
+    requires { ⌜ (at + 72 ≤ length (now out)) × (length (now digest) ≡ 32) ⌝ }
+    requires { ⌜ Reaches first (now values) (k + 1) ⌝ }
+    ensures { λ _. ⌜ now (out .exit) ≡ splice (now (out .entry)) at (blockFrom first (now (values .entry)) k (now (digest .entry))) ⌝ }
 {
-    let k = p.passed;
-    let digest = p.digest;
     let from = k * 32;
     let end = from + 32;
     put_u64(out, at, first + k as u64);
     put(out, at + 8, &values[from..end]);
-    put(out, at + 40, &digest);
+    put(out, at + 40, digest);
 }
 
 // The verdict of a pass; the buffer is touched by a collision alone.
@@ -245,30 +227,25 @@ fn conclude(
     values2: &[u8],
     out: &mut [u8],
 ) -> Comparison
-    requires { ⌜ (length (now out) ≡ 144) × (s .one .blocks + s .two .blocks < 2 ^ 64) ⌝ }
-    requires { ⌜ Reaches first1 (now values1) (s .kept .one .passed + 1) ⌝ }
-    requires { ⌜ Reaches first2 (now values2) (s .kept .two .passed + 1) ⌝ }
+    requires { ⌜ length (now out) ≡ 144 ⌝ }
+    requires { ⌜ Reaches first1 (now values1) (s .at1 + 1) ⌝ }
+    requires { ⌜ Reaches first2 (now values2) (s .at2 + 1) ⌝ }
     ensures { λ r. ⌜ (r ≡ concluded s) × (now (out .exit) ≡ leftIn first1 (now (values1 .entry)) first2 (now (values2 .entry)) s (now (out .entry))) ⌝ }
 {
-    let one = s.one;
-    let two = s.two;
-    let digest1 = one.digest;
-    let digest2 = two.digest;
-    let blocks1 = one.blocks;
-    let blocks2 = two.blocks;
-    let blocks = blocks1 + blocks2;
+    let digest1 = s.digest1;
+    let digest2 = s.digest2;
+    let blocks = s.blocks;
     if !equal(&digest1, &digest2) {
         return Comparison::Differ { blocks };
     }
-    let kept = s.kept;
-    let found = kept.found;
+    let found = s.found;
     if !found {
         return Comparison::Agree { blocks };
     }
-    let p = kept.one;
-    let q = kept.two;
-    put_block(out, 0, first1, values1, p);
-    put_block(out, 72, first2, values2, q);
+    let before1 = s.before1;
+    let before2 = s.before2;
+    put_block(out, 0, first1, values1, s.at1, &before1);
+    put_block(out, 72, first2, values2, s.at2, &before2);
     Comparison::Collision { blocks }
 }
 

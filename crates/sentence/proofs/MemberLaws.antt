@@ -10,7 +10,7 @@ use lib.Dec.{eqb}
 use lib.Pow.{mod-pow-add}
 use borrow.Author.Tests.{eqb-true, eqb-false, eq-eqb}
 use Rattle.octets.proofs.Tests.{equal-or-not}
-use Rattle.a2m.proofs.Lists.{In, in-left, in-right, in-cases}
+use Rattle.table.proofs.Lists.{In, in-left, in-right, in-cases}
 use Rattle.sentence.specs.Sentence.{membersBelow}
 
 -- each number is above the one before it

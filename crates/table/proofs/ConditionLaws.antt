@@ -110,7 +110,7 @@ module _ (slots : List Slot) (g : ℕ) (r : Row) where
       and-yes _ (and-yes _ (and-yes _ (and-yes _ (le-leb 1 (r .low) (h .least)) ∙ le-leb (r .low) (r .high) (h .order)) ∙ rising-test (r .low) ps (h .rising)) ∙ eq-eqb (lastOf ps) (r .high) (h .high))
       ∙ eq-eqb (lastOf c) (r .last) (h .last)
 
-  row-conditions : rowOk slots g r ≡ true → Fresh r (chain slots (suc g) (r .first)) ⊎ Started slots g r (chain slots (suc g) (r .first))
+  pub row-conditions : rowOk slots g r ≡ true → Fresh r (chain slots (suc g) (r .first)) ⊎ Started slots g r (chain slots (suc g) (r .first))
   unfolding rowOk
   row-conditions = go (fresh r) refl
     where

@@ -9,8 +9,12 @@ pub mod SumLaws
 pub mod FillLaws
 pub mod FormatLaws
 pub mod LinkLaws
+pub mod Lists
+pub mod Links
 pub mod ReserveLaws
 pub mod ConditionLaws
+pub mod MetLaws
+pub mod StrictLaws
 pub mod ConditionLaws01
 pub mod WholeLaws
 pub mod HeaderLaws01

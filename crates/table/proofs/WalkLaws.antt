@@ -9,8 +9,8 @@ use borrow.Author.Tests.{eq-eqb, ne-eqb, le-leb, lt-leb}
 use lib.ListN.{length}
 use lib.Dec.{eqb, leb}
 use Rattle.layout.specs.Image.{Slot, slotAt}
-use Rattle.layout.specs.Layout.{cellsFrom}
-use Rattle.layout.proofs.CellLaws.{length-cells}
+use Rattle.layout.specs.Strict.{strictFrom}
+use Rattle.layout.proofs.StrictCells.{length-strict}
 use Rattle.table.specs.Chains.{walk, chain}
 use Rattle.layout.proofs.TestLaws.{and-yes, and-no}
 
@@ -107,5 +107,5 @@ unfolding chain
 chain-none slots o s e = ap slotsMet (ap (walk slots o (length slots)) e ∙ walk-end slots o (length slots))
 
 -- before a walk along k slots, none of them met
-pub none-met : (b : List ℕ) (start k : ℕ) → length (cellsFrom b start k) ≡ k - 0
-none-met b start k = omega (arith, length-cells b start k)
+pub none-met : (b : List ℕ) (start k : ℕ) → length (strictFrom b start k) ≡ k - 0
+none-met b start k = omega (arith, length-strict b start k)

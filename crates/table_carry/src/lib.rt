@@ -3,6 +3,7 @@ mod old;
 
 use crate::old::HEADER01;
 use crate::old::ROW01;
+use crate::old::free01_walk;
 use crate::old::header01_fits;
 use crate::old::held01_walk;
 use crate::old::row01_at;
@@ -16,12 +17,10 @@ use layout_header::logs_of;
 use layout_header::slots_of;
 use layout_header::write_header;
 use layout_rows::write_row;
-use layout_slots::pads_from;
 use refusal::Refusal;
 use refusal::Worked;
 use table::Held;
 use table::Walk;
-use table_check::walks::free_walk;
 ghost use mathlib.Core.Path.{_≡_};
 ghost use mathlib.Core.Bool.{true};
 ghost use Prim.Native.Nat.{_*_};
@@ -48,11 +47,8 @@ pub fn check01(old: &[u8]) -> Walk
     let logs = logs_of(old);
     let slots = slots_of(old);
     let start = HEADER01 + ROW01 * logs;
-    if !pads_from(old, start, slots) {
-        return Walk::Broken;
-    }
     let first = free_of(old);
-    let Walk::Met { count, last } = free_walk(old, start, slots, first) else {
+    let Walk::Met { count, last } = free01_walk(old, start, slots, first) else {
         return Walk::Broken;
     };
     let Held::Slots {

@@ -10,6 +10,8 @@ use layout::places::pair_at;
 use layout_header::in_range;
 use layout_header::logs_of;
 use layout_header::slots_of;
+use layout_slots::strict_from;
+use octets::is_zero;
 use table::Held;
 use table::Walk;
 use table_check::walks::row_walk;
@@ -19,8 +21,9 @@ ghost use lib.ListN.{length};
 ghost use Rattle.layout.specs.Image.{rowAt};
 ghost use Rattle.layout.specs.Layout.{plan01, headerSize};
 ghost use Rattle.layout.specs.Layout01.{readRow01, read01};
-ghost use Rattle.layout.specs.Fits.{Counted01};
-ghost use Rattle.table.specs.Walks.{heldWalk};
+ghost use Rattle.layout.specs.Fits.{Counted01, Slotted};
+ghost use Rattle.layout.specs.Strict.{strictFrom, strict01};
+ghost use Rattle.table.specs.Walks.{freeWalk, heldWalk};
 ghost use Rattle.table.specs.Whole01.{constantsFit01, headerFits01};
 
 // The mark, "A2MT", as a big-endian number.
@@ -91,10 +94,41 @@ pub fn row01_at(old: &[u8], logs: usize, slots: usize, g: usize) -> Row
     read_row01(&old[at..at + ROW01])
 }
 
+// The free chain, from its first slot on. `table_check` has this walk too: with a second caller the compiler would not put that
+// one into the check.
+pub fn free01_walk(old: &[u8], start: usize, slots: usize, first: usize) -> Walk
+    requires { ⌜ Slotted (now old) start slots ⌝ }
+    ensures { λ r. ⌜ r ≡ freeWalk (strictFrom (now (old .entry)) start slots) first ⌝ }
+{
+    let mut s = first;
+    let mut n = 0;
+    let mut last = 0;
+    while s != 0 {
+        if n == slots {
+            return Walk::Broken;
+        }
+        if slots < s {
+            return Walk::Broken;
+        }
+        let l = strict_from(old, start, slots, s);
+        if l.owner != 0 {
+            return Walk::Broken;
+        }
+        let at = start + SLOT * (s - 1) + 4;
+        if !is_zero(&old[at..at + 72]) {
+            return Walk::Broken;
+        }
+        last = s;
+        s = l.next;
+        n += 1;
+    }
+    Walk::Met { count: n, last }
+}
+
 // The chains of all logs. Logs without reserves lack nothing.
 pub fn held01_walk(old: &[u8], logs: usize, slots: usize) -> Held
     requires { ⌜ Counted01 (now old) logs slots ⌝ }
-    ensures { λ r. ⌜ r ≡ heldWalk (read01 (now (old .entry))) 0 ⌝ }
+    ensures { λ r. ⌜ r ≡ heldWalk (strict01 (now (old .entry))) 0 ⌝ }
 {
     let start = HEADER01 + ROW01 * logs;
     let mut held = 0;

@@ -11,7 +11,6 @@ use layout_header::header_fits;
 use layout_header::last_of;
 use layout_header::logs_of;
 use layout_header::slots_of;
-use layout_slots::pads_from;
 use refusal::Outcome;
 use refusal::Refusal;
 use table::Check;
@@ -23,7 +22,8 @@ ghost use Rattle.refusal.specs.Order.{answerOf};
 ghost use Rattle.table.specs.Whole.{checkOf, wholeRefusal};
 
 // Inner, for the calls on a table: whether the table is whole; and if so, how many slots are free, the last of the free chain,
-// and what the logs other than the given one lack of their reserves. A log's number is compared as it is given.
+// and what the logs other than the given one lack of their reserves. A log's number is compared as it is given. The slots' zero
+// bytes are tested on the way: chains that make up the table meet every slot.
 pub fn check(table: &[u8], log: u64) -> Check
     ensures { λ r. ⌜ r ≡ checkOf (now (table .entry)) log ⌝ }
 {
@@ -33,9 +33,6 @@ pub fn check(table: &[u8], log: u64) -> Check
     let logs = logs_of(table);
     let slots = slots_of(table);
     let start = row_offset(logs);
-    if !pads_from(table, start, slots) {
-        return Check::Torn;
-    }
     let first = free_of(table);
     let Walk::Met { count, last } = free_walk(table, start, slots, first) else {
         return Check::Torn;

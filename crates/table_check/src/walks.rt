@@ -1,18 +1,19 @@
-// Chains of slots, each walked once, no further than the table has slots. The slots start at the given place, so that tables of
-// document 01's layout are walked by the same code.
+// Chains of slots, each walked once, no further than the table has slots. A slot is read with its zero byte, so that the walks
+// make the test of it. The slots start at the given place, so that the logs' chains of document 01's layout are walked by the
+// same code.
 use layout::Row;
 use layout::places::row_offset;
 use layout_rows::row_at;
 use layout_slots::blank_from;
-use layout_slots::link_from;
+use layout_slots::strict_from;
 use table::Held;
 use table::Walk;
 ghost use mathlib.Core.Path.{_≡_};
 ghost use mathlib.Core.Bool.{cond};
 ghost use Prim.Native.Nat.{_-_, _≤_, _<_};
 ghost use lib.Dec.{eqb};
-ghost use Rattle.layout.specs.Layout.{cellsFrom, readTable};
 ghost use Rattle.layout.specs.Fits.{Counted, Slotted};
+ghost use Rattle.layout.specs.Strict.{strictFrom, strictTable};
 ghost use Rattle.table.specs.Walks.{freeWalk, heldWalk, rowWalk, startedWalk};
 ghost use Rattle.table.specs.WholeImage.{fresh};
 
@@ -32,10 +33,11 @@ fn is_fresh(row: Row) -> bool
     row.last == 0
 }
 
-// The free chain, from its first slot on.
+// The free chain, from its first slot on. The check alone calls this, so that the compiler puts it there and its answer stays in
+// registers.
 pub fn free_walk(table: &[u8], start: usize, slots: usize, first: usize) -> Walk
     requires { ⌜ Slotted (now table) start slots ⌝ }
-    ensures { λ r. ⌜ r ≡ freeWalk (cellsFrom (now (table .entry)) start slots) first ⌝ }
+    ensures { λ r. ⌜ r ≡ freeWalk (strictFrom (now (table .entry)) start slots) first ⌝ }
 {
     let mut s = first;
     let mut n = 0;
@@ -47,7 +49,7 @@ pub fn free_walk(table: &[u8], start: usize, slots: usize, first: usize) -> Walk
         if slots < s {
             return Walk::Broken;
         }
-        let l = link_from(table, start, slots, s);
+        let l = strict_from(table, start, slots, s);
         if l.owner != 0 {
             return Walk::Broken;
         }
@@ -66,7 +68,7 @@ pub fn log_walk(table: &[u8], start: usize, slots: usize, g: usize, row: Row) ->
     requires { ⌜ Slotted (now table) start slots ⌝ }
     requires { ⌜ g < 16 ⌝ }
     requires { ⌜ (1 ≤ row .low) × (row .low ≤ row .high) ⌝ }
-    ensures { λ r. ⌜ r ≡ startedWalk (cellsFrom (now (table .entry)) start slots) g row ⌝ }
+    ensures { λ r. ⌜ r ≡ startedWalk (strictFrom (now (table .entry)) start slots) g row ⌝ }
 {
     let mut s = row.first;
     let mut n = 0;
@@ -79,7 +81,7 @@ pub fn log_walk(table: &[u8], start: usize, slots: usize, g: usize, row: Row) ->
         if slots < s {
             return Walk::Broken;
         }
-        let l = link_from(table, start, slots, s);
+        let l = strict_from(table, start, slots, s);
         if l.owner != g + 1 {
             return Walk::Broken;
         }
@@ -104,7 +106,7 @@ pub fn log_walk(table: &[u8], start: usize, slots: usize, g: usize, row: Row) ->
 pub fn row_walk(table: &[u8], start: usize, slots: usize, g: usize, row: Row) -> Walk
     requires { ⌜ Slotted (now table) start slots ⌝ }
     requires { ⌜ g < 16 ⌝ }
-    ensures { λ r. ⌜ r ≡ rowWalk (cellsFrom (now (table .entry)) start slots) g row ⌝ }
+    ensures { λ r. ⌜ r ≡ rowWalk (strictFrom (now (table .entry)) start slots) g row ⌝ }
 {
     if is_fresh(row) {
         return Walk::Met { count: 0, last: 0 };
@@ -138,7 +140,7 @@ fn unless_own(g: usize, log: u64, lack: usize) -> usize
 // The chains of all logs of a table, with what they lack of their reserves, and what all but the given log lack.
 pub fn held_walk(table: &[u8], logs: usize, slots: usize, log: u64) -> Held
     requires { ⌜ Counted (now table) logs slots ⌝ }
-    ensures { λ r. ⌜ r ≡ heldWalk (readTable (now (table .entry))) log ⌝ }
+    ensures { λ r. ⌜ r ≡ heldWalk (strictTable (now (table .entry))) log ⌝ }
 {
     let start = row_offset(logs);
     let mut held = 0;

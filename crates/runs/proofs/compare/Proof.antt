@@ -1,11 +1,8 @@
 -- `runs::compare` meets its contract.
-use mathlib.Core.Path.{_≡_, sym, _∙_}
-use native.Mathlib.Omega.{arith}
-use Prim.Native.Nat.{_*_, _/_}
-use lib.ListN.{length}
-use Rattle.runs.specs.Run.{run, count}
+use mathlib.Core.Path.{sym, _∙_}
+use Rattle.runs.specs.Run.{run}
 use Rattle.runs.proofs.NoRun.{run-reaches, reaches-fewer}
-use Rattle.runs.proofs.PassLaws.{kept-inside, concludes, pass-blocks}
+use Rattle.runs.proofs.PassLaws.{kept-inside, concludes}
 use Rattle.runs.proofs.CompareCases.{other-start1, other-start2, other-buffer, no-run1, no-run2, compares}
 use borrow.Author.Needs.{needs}
 use Rattle.runs.proofs.compare.Statement.{statement}
@@ -54,7 +51,6 @@ pass-requires c κs = let x = c .before .before .before .before .before .before 
 )
 
 conclude-requires : tie.Need-conclude-requires
-unfolding count
 conclude-requires c κs =
     let p6 = c .before .before .before .before .before .before in
     let p14 = p6 .before .before .before .before .before .before .before .before in
@@ -65,10 +61,7 @@ conclude-requires c κs =
     let r2 = run-reaches (x .first2) (x .values2 .now) (sym (c .before .before .before .no-run2 .ensures) ∙ c .before .before .if5 .left) in
     let e = c .before .pass .ensures in
     let w = kept-inside a b (r1 .0) (r2 .0) e in
-    let h = pass-blocks a b e in
-    let one : c .before .pass .result .one .blocks ≡ 2 * (length (x .values1 .now) / 32) = h .0 in
-    let two : c .before .pass .result .two .blocks ≡ 2 * (length (x .values2 .now) / 32) = h .1 in
-    ((p6 .if3 .left, omega (arith, p14 .good .1 .1 .0 .0, p14 .good .1 .1 .1 .1 .1 .0 .0)), (reaches-fewer (x .first1) (x .values1 .now) _ _ (w .0) (r1 .1), reaches-fewer (x .first2) (x .values2 .now) _ _ (w .1) (r2 .1)))
+    (p6 .if3 .left, (reaches-fewer (x .first1) (x .values1 .now) _ _ (w .0) (r1 .1), reaches-fewer (x .first2) (x .values2 .now) _ _ (w .1) (r2 .1)))
 
 same-length : tie.Need-same-length
 same-length c = search needs

@@ -1,7 +1,4 @@
 -- `runs::put_block` meets its contract.
-use native.Mathlib.Omega.{arith}
-use mathlib.Core.Path.{_≡_}
-use lib.ListN.{length, length-map}
 use Rattle.runs.proofs.BlockLaws.{put-is}
 use borrow.Author.Needs.{needs}
 use Rattle.runs.proofs.put_block.Statement.{statement}
@@ -37,19 +34,16 @@ put-requires c κs = search needs
 add-put-2 : tie.Need-add-put-2
 add-put-2 c = search needs
 
-slice-aggregate-put : tie.Need-slice-aggregate-put
-slice-aggregate-put c = search needs
-
 put-requires-2 : tie.Need-put-requires-2
-put-requires-2 c κs = let p14 = c .before .before .before .before .before .before .before .before .before .before .before .before .before .before in
-    let size : length (p14 .args .p .digest) ≡ 32 = simp length-map at (p14 .good .1 .1 .1 .1 .0 .1 .1 .1 .0 .1 .0 .1) in omega (arith, c .before .before .before .before .before .before .before .before .before .put-u64 .kept .0, c .before .before .before .before .put .kept .0)
+put-requires-2 c κs = search needs
 
 same-length : tie.Need-same-length
 same-length c = search needs
 
 returns : tie.Need-returns
-returns c = let p17 = c .before .before .before .before .before .before .before .before .before .before .before .before .before .before .before .before .before in
-    let x = p17 .args in put-is (x .first) (x .values .now) (x .p) (p17 .pre .1) (x .out .now) _ _ _ (x .at) (simp length-map at (p17 .good .1 .1 .1 .1 .0 .1 .1 .1 .0 .1 .0 .1)) (p17 .pre .0) (c .before .before .before .before .before .before .before .before .before .before .before .before .put-u64 .ensures) (c .before .before .before .before .before .before .before .put .ensures) (c .before .before .put2 .ensures)
+returns c = let p16 = c .before .before .before .before .before .before .before .before .before .before .before .before .before .before .before .before in
+    let x = p16 .args in
+    put-is (x .first) (x .values .now) (x .k) (x .digest .now) (p16 .pre .1) (x .out .now) _ _ _ (x .at) (p16 .pre .0 .1) (p16 .pre .0 .0) (c .before .before .before .before .before .before .before .before .before .before .before .put-u64 .ensures) (c .before .before .before .before .before .before .put .ensures) (c .before .before .put2 .ensures)
 
 pub put-block-spec : {M : Type 1} → statement M
 put-block-spec =
@@ -65,7 +59,6 @@ put-block-spec =
     part-put-end
     put-requires
     add-put-2
-    slice-aggregate-put
     put-requires-2
     same-length
     returns)

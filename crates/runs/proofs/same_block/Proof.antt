@@ -13,7 +13,9 @@ add-if1-2 : tie.Need-add-if1-2
 add-if1-2 c = search needs
 
 returns : tie.Need-returns
-returns c = let x = c .before .before .before .args in other-position (x .first1) (x .values1 .now) (x .p) (x .first2) (x .values2 .now) (x .q) (c .before .before .before .pre .0) (c .before .before .before .pre .1) (c .if1 .taken)
+returns c = let p5 = c .before .before .before .before .before in
+    let x = p5 .args in
+    other-position (x .first1) (x .values1 .now) (x .k) (x .digest1 .now) (x .first2) (x .values2 .now) (x .l) (x .digest2 .now) (p5 .pre .0) (p5 .pre .1) (c .if1 .taken)
 
 mul-at1 : tie.Need-mul-at1
 mul-at1 c = search needs
@@ -49,20 +51,17 @@ equal-requires : tie.Need-equal-requires
 equal-requires c κs = search needs
 
 returns-2 : tie.Need-returns-2
-returns-2 c = let x = c .before .before .before .before .before .before .before .args in other-value (x .first1) (x .values1 .now) (x .p) (x .first2) (x .values2 .now) (x .q) (c .before .before .before .before .before .before .before .pre .0) (c .before .before .before .before .before .before .before .pre .1) (c .before .before .before .before .if1 .left) (sym (c .before .equal .ensures) ∙ not-true _ (c .if2 .taken))
-
-slice-aggregate-equal : tie.Need-slice-aggregate-equal
-slice-aggregate-equal c = search needs
-
-slice-aggregate-equal-2 : tie.Need-slice-aggregate-equal-2
-slice-aggregate-equal-2 c = search needs
+returns-2 c = let p9 = c .before .before .before .before .before .before .before .before .before in
+    let x = p9 .args in
+    other-value (x .first1) (x .values1 .now) (x .k) (x .digest1 .now) (x .first2) (x .values2 .now) (x .l) (x .digest2 .now) (p9 .pre .0) (p9 .pre .1) (c .before .before .before .before .if1 .left) (sym (c .before .equal .ensures) ∙ not-true _ (c .if2 .taken))
 
 equal-requires-2 : tie.Need-equal-requires-2
 equal-requires-2 c κs = search needs
 
 returns-3 : tie.Need-returns-3
-returns-3 c = let p12 = c .before .before .before .before .before .before .before .before .before .before .before .before in
-    let x = p12 .args in by-digest (x .first1) (x .values1 .now) (x .p) (x .first2) (x .values2 .now) (x .q) (p12 .pre .0) (p12 .pre .1) _ (c .before .before .before .before .before .before .before .before .before .if1 .left) (sym (c .before .before .before .before .before .before .equal .ensures) ∙ not-false _ (c .before .before .before .before .before .if2 .left)) (c .equal2 .ensures)
+returns-3 c = let p10 = c .before .before .before .before .before .before .before .before .before .before in
+    let x = p10 .args in
+    by-digest (x .first1) (x .values1 .now) (x .k) (x .digest1 .now) (x .first2) (x .values2 .now) (x .l) (x .digest2 .now) (p10 .pre .0) (p10 .pre .1) _ (c .before .before .before .before .before .if1 .left) (sym (c .before .before .equal .ensures) ∙ not-false _ (c .before .if2 .left)) (c .equal2 .ensures)
 
 pub same-block-spec : {M : Type 1} → statement M
 same-block-spec =
@@ -83,7 +82,5 @@ same-block-spec =
     part-equal-end-2
     equal-requires
     returns-2
-    slice-aggregate-equal
-    slice-aggregate-equal-2
     equal-requires-2
     returns-3)

@@ -3,14 +3,14 @@ use Prim.Native.Nat.{ℕ, _≤_}
 use mathlib.Core.Path.{_≡_, refl, sym, _∙_}
 use mathlib.Core.List.{List}
 use lib.ListN.{length}
-use Rattle.layout.specs.Layout.{plan01, headerSize, rowOffsetIn, cellsFrom}
-use Rattle.layout.specs.Layout01.{read01}
+use Rattle.layout.specs.Layout.{plan01, headerSize, rowOffsetIn}
+use Rattle.layout.specs.Strict.{strictFrom, strict01}
 use Rattle.layout.specs.Fits.{Counted01, Slotted}
 use Rattle.layout.proofs.CellLaws.{slotted}
 use Rattle.table.specs.declared.Walk.the-variants.{Met}
 use Rattle.table.specs.Walks.{freeWalk, heldWalk}
 use Rattle.table.proofs.HeaderLaws01.{counted01, header-long01}
-use Rattle.table.proofs.CheckLaws01.{torn-header01, torn-pads01, torn-free01, torn-held01, torn-over01, torn-total01, is-whole01}
+use Rattle.table.proofs.CheckLaws01.{torn-header01, torn-free01, torn-held01, torn-over01, torn-total01, is-whole01}
 use borrow.Author.Needs.{needs}
 use Rattle.table_carry.proofs.check01.Statement.{statement}
 use Rattle.table.specs.declared.Held.the-variants as held
@@ -54,17 +54,11 @@ mul-start c = let f = counts c in search needs
 add-start : tie.Need-add-start
 add-start c = search needs
 
-pads-from-requires : tie.Need-pads-from-requires
-pads-from-requires c κs = slots-there c
-
-returns-2 : tie.Need-returns-2
-returns-2 c = let s = c .before .before in torn-pads01 (table-of s) (logs-in s) (slots-in s) (counts s) (c .before .pads-from .result) (c .before .pads-from .ensures) (c .if2 .taken)
-
 free-of-requires : tie.Need-free-of-requires
-free-of-requires c κs = long (c .before .before .before .before)
+free-of-requires c κs = long (c .before .before)
 
-free-walk-requires : tie.Need-free-walk-requires
-free-walk-requires c κs = slots-there (c .before .before .before)
+free01-walk-requires : tie.Need-free01-walk-requires
+free01-walk-requires c κs = slots-there (c .before)
 
 enum-known-count : tie.Need-enum-known-count
 enum-known-count c = search needs
@@ -72,11 +66,11 @@ enum-known-count c = search needs
 enum-told : tie.Need-enum-told
 enum-told c = search needs
 
-returns-3 : tie.Need-returns-3
-returns-3 c = let s = c .before .before .before .before .before .before in torn-free01 (table-of s) (logs-in s) (slots-in s) (counts s) (c .before .before .before .free-of .result) (c .before .before .before .free-of .ensures .0) (sym (c .enum-told .given .1) ∙ c .before .before .free-walk .ensures)
+returns-2 : tie.Need-returns-2
+returns-2 c = let s = c .before .before .before .before in torn-free01 (table-of s) (logs-in s) (slots-in s) (counts s) (c .before .before .before .free-of .result) (c .before .before .before .free-of .ensures .0) (sym (c .enum-told .given .1) ∙ c .before .before .free01-walk .ensures)
 
 held01-walk-requires : tie.Need-held01-walk-requires
-held01-walk-requires c κs = counts (c .before .before .before .before .before .before .before)
+held01-walk-requires c κs = counts (c .before .before .before .before .before)
 
 enum-known-held : tie.Need-enum-known-held
 enum-known-held c = search needs
@@ -84,24 +78,24 @@ enum-known-held c = search needs
 enum-told-2 : tie.Need-enum-told-2
 enum-told-2 c = search needs
 
-returns-4 : tie.Need-returns-4
-returns-4 c = let s = c .before .before .before .before .before .before .before .before .before .before in torn-held01 (table-of s) (logs-in s) (slots-in s) (counts s) (c .before .before .before .before .before .before .before .free-of .result) (c .before .before .before .before .before .before .before .free-of .ensures .0) 0 (sym (c .enum-told2 .given .1) ∙ c .before .before .held01-walk .ensures)
+returns-3 : tie.Need-returns-3
+returns-3 c = let s = c .before .before .before .before .before .before .before .before in torn-held01 (table-of s) (logs-in s) (slots-in s) (counts s) (c .before .before .before .before .before .before .before .free-of .result) (c .before .before .before .before .before .before .before .free-of .ensures .0) 0 (sym (c .enum-told2 .given .1) ∙ c .before .before .held01-walk .ensures)
 
 -- what the two walks found
-free-met : (k : tie.After-held) → Met (k .before .before .before .before .count .given .0 .0) (k .before .before .before .before .count .given .0 .1 .0) ≡ freeWalk (cellsFrom (table-of (k .before .before .before .before .before .before .before .before .before .before)) (rowOffsetIn plan01 (logs-in (k .before .before .before .before .before .before .before .before .before .before))) (slots-in (k .before .before .before .before .before .before .before .before .before .before))) (k .before .before .before .before .before .before .before .free-of .result)
-free-met k = sym (k .before .before .before .before .count .given .1) ∙ k .before .before .before .before .before .before .free-walk .ensures
+free-met : (k : tie.After-held) → Met (k .before .before .before .before .count .given .0 .0) (k .before .before .before .before .count .given .0 .1 .0) ≡ freeWalk (strictFrom (table-of (k .before .before .before .before .before .before .before .before)) (rowOffsetIn plan01 (logs-in (k .before .before .before .before .before .before .before .before))) (slots-in (k .before .before .before .before .before .before .before .before))) (k .before .before .before .before .before .before .before .free-of .result)
+free-met k = sym (k .before .before .before .before .count .given .1) ∙ k .before .before .before .before .before .before .free01-walk .ensures
 
-held-met : (k : tie.After-held) → held.Slots (k .held .given .0 .0) (k .held .given .0 .1 .0) (k .held .given .0 .1 .1 .0) ≡ heldWalk (read01 (table-of (k .before .before .before .before .before .before .before .before .before .before))) 0
+held-met : (k : tie.After-held) → held.Slots (k .held .given .0 .0) (k .held .given .0 .1 .0) (k .held .given .0 .1 .1 .0) ≡ heldWalk (strict01 (table-of (k .before .before .before .before .before .before .before .before))) 0
 held-met k = sym (k .held .given .1) ∙ k .before .before .held01-walk .ensures
 
+returns-4 : tie.Need-returns-4
+returns-4 c = let k = c .before .before in let s = c .before .before .before .before .before .before .before .before .before .before in let o = torn-over01 (table-of s) (logs-in s) (slots-in s) (counts s) (k .before .before .before .before .before .before .before .free-of .result) (k .before .before .before .before .before .before .before .free-of .ensures .0) (k .before .before .before .before .count .given .0 .0) _ (k .held .given .0 .0) _ _ 0 (free-met k) (held-met k) in o (c .if2 .taken)
+
 returns-5 : tie.Need-returns-5
-returns-5 c = let k = c .before .before in let s = c .before .before .before .before .before .before .before .before .before .before .before .before in let o = torn-over01 (table-of s) (logs-in s) (slots-in s) (counts s) (k .before .before .before .before .before .before .before .free-of .result) (k .before .before .before .before .before .before .before .free-of .ensures .0) (k .before .before .before .before .count .given .0 .0) _ (k .held .given .0 .0) _ _ 0 (free-met k) (held-met k) in o (c .if3 .taken)
+returns-5 c = let k = c .before .before .before in let s = c .before .before .before .before .before .before .before .before .before .before .before in let o = torn-total01 (table-of s) (logs-in s) (slots-in s) (counts s) (k .before .before .before .before .before .before .before .free-of .result) (k .before .before .before .before .before .before .before .free-of .ensures .0) (k .before .before .before .before .count .given .0 .0) _ (k .held .given .0 .0) _ _ 0 (free-met k) (held-met k) in o (c .before .if2 .left) (c .if3 .taken)
 
 returns-6 : tie.Need-returns-6
-returns-6 c = let k = c .before .before .before in let s = c .before .before .before .before .before .before .before .before .before .before .before .before .before in let o = torn-total01 (table-of s) (logs-in s) (slots-in s) (counts s) (k .before .before .before .before .before .before .before .free-of .result) (k .before .before .before .before .before .before .before .free-of .ensures .0) (k .before .before .before .before .count .given .0 .0) _ (k .held .given .0 .0) _ _ 0 (free-met k) (held-met k) in o (c .before .if3 .left) (c .if4 .taken)
-
-returns-7 : tie.Need-returns-7
-returns-7 c = let k = c .before .before .before in let s = c .before .before .before .before .before .before .before .before .before .before .before .before .before in let o = is-whole01 (table-of s) (logs-in s) (slots-in s) (counts s) (k .before .before .before .before .before .before .before .free-of .result) (k .before .before .before .before .before .before .before .free-of .ensures .0) (k .before .before .before .before .count .given .0 .0) _ (k .held .given .0 .0) _ _ 0 (free-met k) (held-met k) in o (s .before .before .before .header01-fits .result) (k .before .before .before .before .before .before .before .before .before .pads-from .result) (s .before .before .before .header01-fits .ensures) (s .before .before .if1 .left) (k .before .before .before .before .before .before .before .before .before .pads-from .ensures) (k .before .before .before .before .before .before .before .before .if2 .left) (c .before .if3 .left) (c .if4 .left)
+returns-6 c = let k = c .before .before .before in let s = c .before .before .before .before .before .before .before .before .before .before .before in let o = is-whole01 (table-of s) (logs-in s) (slots-in s) (counts s) (k .before .before .before .before .before .before .before .free-of .result) (k .before .before .before .before .before .before .before .free-of .ensures .0) (k .before .before .before .before .count .given .0 .0) _ (k .held .given .0 .0) _ _ 0 (free-met k) (held-met k) in o (s .before .before .before .header01-fits .result) (s .before .before .before .header01-fits .ensures) (s .before .before .if1 .left) (c .before .if2 .left) (c .if3 .left)
 
 pub check01-spec : {M : Type 1} → statement M
 check01-spec =
@@ -113,17 +107,15 @@ check01-spec =
     slots-of-requires
     mul-start
     add-start
-    pads-from-requires
-    returns-2
     free-of-requires
-    free-walk-requires
+    free01-walk-requires
     enum-known-count
     enum-told
-    returns-3
+    returns-2
     held01-walk-requires
     enum-known-held
     enum-told-2
+    returns-3
     returns-4
     returns-5
-    returns-6
-    returns-7)
+    returns-6)

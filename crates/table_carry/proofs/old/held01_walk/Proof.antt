@@ -8,10 +8,12 @@ use lib.Dec.{eqb}
 use lib.ListN.{length, drop}
 use Rattle.layout.specs.declared.Row.{Row}
 use Rattle.layout.specs.Image.{Slot}
-use Rattle.layout.specs.Layout.{plan01, rowOffsetIn, cellsFrom}
+use Rattle.layout.specs.Layout.{plan01, rowOffsetIn}
 use Rattle.layout.specs.Layout01.{read01}
+use Rattle.layout.specs.Strict.{strictFrom, strictCells01, strict01}
 use Rattle.layout.proofs.CellLaws.{slotted}
-use Rattle.layout.proofs.Layout01Laws.{length-rows01, length-slots01, cells-are01, unreserved01}
+use Rattle.layout.proofs.StrictCells.{strict-are01, strict-count01}
+use Rattle.layout.proofs.Layout01Laws.{length-rows01, unreserved01}
 use Rattle.table.specs.declared.Walk.the-variants.{Met}
 use Rattle.table.specs.Walks.{heldWalk, rowWalk}
 use Rattle.table.proofs.HeldLaws.{plus, heldFrom, held-first, held-last, held-stop, held-most, held-on}
@@ -22,7 +24,7 @@ use Rattle.table_carry.proofs.old.held01_walk.Tie as tie
 abbrev Inv-loop : tie.InvT-loop
 Inv-loop old logs slots start held₀ g₀ held g =
     (g ≤ logs) × (held ≤ 800 * g)
-    × (heldWalk (read01 old) 0 ≡ plus held 0 0 (heldFrom (read01 old .slots) (length (read01 old .rows)) 0 g (drop g (read01 old .rows))))
+    × (heldWalk (strict01 old) 0 ≡ plus held 0 0 (heldFrom (strictCells01 old) (length (read01 old .rows)) 0 g (drop g (read01 old .rows))))
 
 abbrev μ-loop : tie.MeasureT-loop
 μ-loop old logs slots start held₀ g₀ held g = logs - g
@@ -41,10 +43,10 @@ in-rows c = omega (arith, c .before .loop-test .taken, length-rows01 (c .before 
 
 -- the slots are the table's
 along : (c : tie.After-row01-at Inv-loop μ-loop)
-    → rowWalk (cellsFrom (c .before .before .before .before .args .old .now) (rowOffsetIn plan01 (c .before .before .before .before .args .logs)) (c .before .before .before .before .args .slots)) (c .before .before .loop .g) (c .row01-at .result) ≡ rowWalk (read01 (c .before .before .before .before .args .old .now) .slots) (c .before .before .loop .g) (c .row01-at .result)
-along c = ap (λ (s : List Slot). rowWalk s (c .before .before .loop .g) (c .row01-at .result)) (cells-are01 (c .before .before .before .before .args .old .now) (c .before .before .before .before .args .logs) (c .before .before .before .before .args .slots) (c .before .before .before .before .pre))
+    → rowWalk (strictFrom (c .before .before .before .before .args .old .now) (rowOffsetIn plan01 (c .before .before .before .before .args .logs)) (c .before .before .before .before .args .slots)) (c .before .before .loop .g) (c .row01-at .result) ≡ rowWalk (strictCells01 (c .before .before .before .before .args .old .now)) (c .before .before .loop .g) (c .row01-at .result)
+along c = ap (λ (s : List Slot). rowWalk s (c .before .before .loop .g) (c .row01-at .result)) (strict-are01 (c .before .before .before .before .args .old .now) (c .before .before .before .before .args .logs) (c .before .before .before .before .args .slots) (c .before .before .before .before .pre))
 
-found : (c : tie.After-known-told Inv-loop μ-loop) → Met (c .before .count .given .0 .0) (c .before .count .given .0 .1 .0) ≡ rowWalk (read01 (c .before .before .before .before .before .before .before .before .args .old .now) .slots) (c .before .before .before .before .before .before .loop .g) (c .before .before .before .before .row01-at .result)
+found : (c : tie.After-known-told Inv-loop μ-loop) → Met (c .before .count .given .0 .0) (c .before .count .given .0 .1 .0) ≡ rowWalk (strictCells01 (c .before .before .before .before .before .before .before .before .args .old .now)) (c .before .before .before .before .before .before .loop .g) (c .before .before .before .before .row01-at .result)
 found c = sym (c .before .count .given .1) ∙ c .before .before .before .row-walk .ensures ∙ along (c .before .before .before .before)
 
 -- a row's slots are no more than the table has
@@ -52,8 +54,8 @@ most : (c : tie.After-known-told Inv-loop μ-loop) → c .before .count .given .
 most c =
     let a = c .before .before .before .before .before .before .before .before .args in
     let l = c .before .before .before .before .before .before .loop in
-    let h = held-most (read01 (a .old .now) .slots) _ 0 (read01 (a .old .now) .rows) _ (l .held) 0 0 (l .g) (l .inv .2) (in-rows (c .before .before .before .before)) (c .before .before .before .before .row01-at .result) (c .before .before .before .before .row01-at .ensures) (c .before .count .given .0 .0) _ (found c) in
-    omega (arith, length-slots01 (a .old .now), c .before .before .before .before .before .before .before .before .pre .slots-are)
+    let h = held-most (strictCells01 (a .old .now)) _ 0 (read01 (a .old .now) .rows) _ (l .held) 0 0 (l .g) (l .inv .2) (in-rows (c .before .before .before .before)) (c .before .before .before .before .row01-at .result) (c .before .before .before .before .row01-at .ensures) (c .before .count .given .0 .0) _ (found c) in
+    omega (arith, strict-count01 (a .old .now), c .before .before .before .before .before .before .before .before .pre .slots-are)
 
 mul-start : tie.Need-mul-start Inv-loop μ-loop
 mul-start c = search needs
@@ -62,7 +64,7 @@ add-start : tie.Need-add-start Inv-loop μ-loop
 add-start c = search needs
 
 loop-holds : tie.Need-loop-holds Inv-loop μ-loop
-loop-holds c = (omega arith, omega arith, held-first (read01 (c .before .args .old .now)) 0)
+loop-holds c = (omega arith, omega arith, held-first (strict01 (c .before .args .old .now)) 0)
 
 row01-at-requires : tie.Need-row01-at-requires Inv-loop μ-loop
 row01-at-requires c κs = search needs
@@ -81,7 +83,7 @@ returns c =
     let x = c .before .before .before .before .before .before .before in
     let a = x .args in
     let l = c .before .before .before .before .before .loop in
-    held-stop (read01 (a .old .now) .slots) _ 0 (read01 (a .old .now) .rows) _ (l .held) 0 0 (l .g) (l .inv .2) (in-rows (c .before .before .before)) (c .before .before .before .row01-at .result) (c .before .before .before .row01-at .ensures) (sym (c .enum-told .given .1) ∙ c .before .before .row-walk .ensures ∙ along (c .before .before .before))
+    held-stop (strictCells01 (a .old .now)) _ 0 (read01 (a .old .now) .rows) _ (l .held) 0 0 (l .g) (l .inv .2) (in-rows (c .before .before .before)) (c .before .before .before .row01-at .result) (c .before .before .before .row01-at .ensures) (sym (c .enum-told .given .1) ∙ c .before .before .row-walk .ensures ∙ along (c .before .before .before))
 
 add-held : tie.Need-add-held Inv-loop μ-loop
 add-held c = omega (arith, most c)
@@ -101,7 +103,7 @@ loop-again c =
     let z : r .reserve ≡ 0 = ap (λ (y : Row). y .reserve) (c .before .before .before .before .row01-at .ensures) ∙ unreserved01 (a .old .now) (l .g) in (
       omega (arith, c .before .before .before .before .before .loop-test .taken),
       omega (arith, most c),
-      held-on (read01 (a .old .now) .slots) _ 0 (read01 (a .old .now) .rows) _ (l .held) 0 0 (l .g) (l .inv .2) (in-rows (c .before .before .before .before)) r (c .before .before .before .before .row01-at .ensures) (c .before .count .given .0 .0) _ (found c)
+      held-on (strictCells01 (a .old .now)) _ 0 (read01 (a .old .now) .rows) _ (l .held) 0 0 (l .g) (l .inv .2) (in-rows (c .before .before .before .before)) r (c .before .before .before .before .row01-at .ensures) (c .before .count .given .0 .0) _ (found c)
           (λ e. omega (arith, in-rows (c .before .before .before .before))) 0 0 (omega arith) (nothing (l .g)),
     )
 
@@ -110,7 +112,7 @@ returns-2 c =
     let x = c .before .before .before in
     let a = x .args in
     let l = c .before .loop in
-    held-last (read01 (a .old .now) .slots) _ 0 (read01 (a .old .now) .rows) _ (l .held) 0 0 (l .g) (l .inv .2) (omega (arith, c .loop-test .left, length-rows01 (a .old .now), x .pre .logs-are))
+    held-last (strictCells01 (a .old .now)) _ 0 (read01 (a .old .now) .rows) _ (l .held) 0 0 (l .g) (l .inv .2) (omega (arith, c .loop-test .left, length-rows01 (a .old .now), x .pre .logs-are))
 
 pub held01-walk-spec : {M : Type 1} → statement M
 held01-walk-spec =

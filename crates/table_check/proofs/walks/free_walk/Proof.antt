@@ -2,8 +2,8 @@
 use Rattle.table.proofs.WalkLaws.{none-met}
 use Rattle.table.specs.Walks.{freeWalk}
 use Rattle.table.specs.Chains.{walk}
-use Rattle.layout.specs.Layout.{cellsFrom}
-use Rattle.layout.proofs.CellLaws.{length-cells}
+use Rattle.layout.specs.Strict.{strictFrom}
+use Rattle.layout.proofs.StrictCells.{length-strict}
 use Rattle.layout.specs.Image.{Slot}
 use mathlib.Core.List.{List}
 use native.Mathlib.Omega.{arith}
@@ -17,7 +17,7 @@ use Rattle.table_check.proofs.walks.free_walk.Tie as tie
 
 abbrev Inv-loop : tie.InvT-loop
 Inv-loop table start slots first s₀ n₀ last₀ s n last =
-    (n ≤ slots) × (freeWalk (cellsFrom table start slots) first ≡ freeRest (cellsFrom table start slots) n last (walk (cellsFrom table start slots) 0 (slots - n) s))
+    (n ≤ slots) × (freeWalk (strictFrom table start slots) first ≡ freeRest (strictFrom table start slots) n last (walk (strictFrom table start slots) 0 (slots - n) s))
 
 abbrev μ-loop : tie.MeasureT-loop
 μ-loop table start slots first s₀ n₀ last₀ s n last = slots - n
@@ -25,26 +25,26 @@ abbrev μ-loop : tie.MeasureT-loop
 loop-holds : tie.Need-loop-holds Inv-loop μ-loop
 loop-holds c =
     let a = c .before .args in
-    let S : List Slot = cellsFrom (a .table .now) (a .start) (a .slots) in
+    let S : List Slot = strictFrom (a .table .now) (a .start) (a .slots) in
     (omega arith, free-first S (a .first) ∙ ap (λ (k : ℕ). freeRest S 0 0 (walk S 0 k (a .first))) (none-met (a .table .now) (a .start) (a .slots)))
 
 returns : tie.Need-returns Inv-loop μ-loop
-returns c = let a = c .before .before .before .before .args in let l = c .before .before .loop in free-long (cellsFrom (a .table .now) (a .start) (a .slots)) (a .slots) (length-cells (a .table .now) (a .start) (a .slots)) _ (l .n) (l .last) (l .s) (l .inv .1) (c .before .loop-test .taken) (c .if1 .taken)
+returns c = let a = c .before .before .before .before .args in let l = c .before .before .loop in free-long (strictFrom (a .table .now) (a .start) (a .slots)) (a .slots) (length-strict (a .table .now) (a .start) (a .slots)) _ (l .n) (l .last) (l .s) (l .inv .1) (c .before .loop-test .taken) (c .if1 .taken)
 
 returns-2 : tie.Need-returns-2 Inv-loop μ-loop
-returns-2 c = let a = c .before .before .before .before .before .args in let l = c .before .before .before .loop in free-out (cellsFrom (a .table .now) (a .start) (a .slots)) (a .slots) (length-cells (a .table .now) (a .start) (a .slots)) _ (l .n) (l .last) (l .s) (l .inv .1) (c .before .before .loop-test .taken) (c .if2 .taken)
+returns-2 c = let a = c .before .before .before .before .before .args in let l = c .before .before .before .loop in free-out (strictFrom (a .table .now) (a .start) (a .slots)) (a .slots) (length-strict (a .table .now) (a .start) (a .slots)) _ (l .n) (l .last) (l .s) (l .inv .1) (c .before .before .loop-test .taken) (c .if2 .taken)
 
-link-from-requires : tie.Need-link-from-requires Inv-loop μ-loop
-link-from-requires c κs = search needs
+strict-from-requires : tie.Need-strict-from-requires Inv-loop μ-loop
+strict-from-requires c κs = search needs
 
 returns-3 : tie.Need-returns-3 Inv-loop μ-loop
-returns-3 c = let a = c .before .before .before .before .before .before .before .before .args in let l = c .before .before .before .before .before .before .loop in free-owner (cellsFrom (a .table .now) (a .start) (a .slots)) (a .slots) (length-cells (a .table .now) (a .start) (a .slots)) _ (l .n) (l .last) (l .s) (l .inv .1) (c .before .before .before .before .before .loop-test .taken) (c .before .before .link-from .result) (c .before .before .link-from .ensures) (c .before .before .before .if2 .left) (c .if3 .taken)
+returns-3 c = let a = c .before .before .before .before .before .before .before .before .args in let l = c .before .before .before .before .before .before .loop in free-owner (strictFrom (a .table .now) (a .start) (a .slots)) (a .slots) (length-strict (a .table .now) (a .start) (a .slots)) _ (l .n) (l .last) (l .s) (l .inv .1) (c .before .before .before .before .before .loop-test .taken) (c .before .before .strict-from .result) (c .before .before .strict-from .ensures) (c .before .before .before .if2 .left) (c .if3 .taken)
 
 blank-from-requires : tie.Need-blank-from-requires Inv-loop μ-loop
 blank-from-requires c κs = search needs
 
 returns-4 : tie.Need-returns-4 Inv-loop μ-loop
-returns-4 c = let a = c .before .before .before .before .before .before .before .before .before .before .args in let l = c .before .before .before .before .before .before .before .before .loop in free-dirty (cellsFrom (a .table .now) (a .start) (a .slots)) (a .slots) (length-cells (a .table .now) (a .start) (a .slots)) _ (l .n) (l .last) (l .s) (l .inv .1) (c .before .before .before .before .before .before .before .loop-test .taken) (c .before .before .before .before .link-from .result) (c .before .before .before .before .link-from .ensures) (c .before .before .before .before .before .if2 .left) (c .before .before .if3 .left) (l .inv .0) (c .before .before .before .before .before .before .if1 .left) (c .before .blank-from .result) (c .before .blank-from .ensures) (c .if4 .taken)
+returns-4 c = let a = c .before .before .before .before .before .before .before .before .before .before .args in let l = c .before .before .before .before .before .before .before .before .loop in free-dirty (strictFrom (a .table .now) (a .start) (a .slots)) (a .slots) (length-strict (a .table .now) (a .start) (a .slots)) _ (l .n) (l .last) (l .s) (l .inv .1) (c .before .before .before .before .before .before .before .loop-test .taken) (c .before .before .before .before .strict-from .result) (c .before .before .before .before .strict-from .ensures) (c .before .before .before .before .before .if2 .left) (c .before .before .if3 .left) (l .inv .0) (c .before .before .before .before .before .before .if1 .left) (c .before .blank-from .result) (c .before .blank-from .ensures) (c .if4 .taken)
 
 add-n : tie.Need-add-n Inv-loop μ-loop
 add-n c = omega arith
@@ -53,10 +53,10 @@ loop-less : tie.Need-loop-less Inv-loop μ-loop
 loop-less c = omega arith
 
 loop-again : tie.Need-loop-again Inv-loop μ-loop
-loop-again c = let a = c .before .before .before .before .before .before .before .before .before .before .args in let l = c .before .before .before .before .before .before .before .before .loop in (omega arith, free-on (cellsFrom (a .table .now) (a .start) (a .slots)) (a .slots) (length-cells (a .table .now) (a .start) (a .slots)) _ (l .n) (l .last) (l .s) (l .inv .1) (c .before .before .before .before .before .before .before .loop-test .taken) (c .before .before .before .before .link-from .result) (c .before .before .before .before .link-from .ensures) (c .before .before .before .before .before .if2 .left) (c .before .before .if3 .left) (l .inv .0) (c .before .before .before .before .before .before .if1 .left) (c .before .blank-from .result) (c .before .blank-from .ensures) (c .if4 .left))
+loop-again c = let a = c .before .before .before .before .before .before .before .before .before .before .args in let l = c .before .before .before .before .before .before .before .before .loop in (omega arith, free-on (strictFrom (a .table .now) (a .start) (a .slots)) (a .slots) (length-strict (a .table .now) (a .start) (a .slots)) _ (l .n) (l .last) (l .s) (l .inv .1) (c .before .before .before .before .before .before .before .loop-test .taken) (c .before .before .before .before .strict-from .result) (c .before .before .before .before .strict-from .ensures) (c .before .before .before .before .before .if2 .left) (c .before .before .if3 .left) (l .inv .0) (c .before .before .before .before .before .before .if1 .left) (c .before .blank-from .result) (c .before .blank-from .ensures) (c .if4 .left))
 
 returns-5 : tie.Need-returns-5 Inv-loop μ-loop
-returns-5 c = let a = c .before .before .before .args in let l = c .before .loop in free-end (cellsFrom (a .table .now) (a .start) (a .slots)) (a .slots) (length-cells (a .table .now) (a .start) (a .slots)) _ (l .n) (l .last) (l .s) (l .inv .1) (c .loop-test .left)
+returns-5 c = let a = c .before .before .before .args in let l = c .before .loop in free-end (strictFrom (a .table .now) (a .start) (a .slots)) (a .slots) (length-strict (a .table .now) (a .start) (a .slots)) _ (l .n) (l .last) (l .s) (l .inv .1) (c .loop-test .left)
 
 pub free-walk-spec : {M : Type 1} → statement M
 free-walk-spec =
@@ -67,7 +67,7 @@ free-walk-spec =
     loop-holds
     returns
     returns-2
-    link-from-requires
+    strict-from-requires
     returns-3
     blank-from-requires
     returns-4

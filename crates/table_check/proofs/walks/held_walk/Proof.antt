@@ -1,9 +1,11 @@
 -- `table_check::walks::held_walk` meets its contract.
 use mathlib.Core.List.{List}
-use Rattle.layout.specs.Layout.{plan, cellsFrom, readTable}
+use Rattle.layout.specs.Layout.{plan, readTable}
+use Rattle.layout.specs.Strict.{strictFrom, strictTable, strictCells}
 use Rattle.layout.specs.Fits.{Slotted}
 use Rattle.layout.proofs.CellLaws.{slotted}
-use Rattle.layout.proofs.TableLaws.{length-rows, length-slots, cells-are, rows-fit}
+use Rattle.layout.proofs.StrictCells.{strict-are, strict-count}
+use Rattle.layout.proofs.TableLaws.{length-rows, rows-fit}
 use lib.ListN.{length, drop}
 use native.Mathlib.Omega.{arith}
 use Prim.Native.Nat.{_*_, _≤_, _<_, _-_}
@@ -19,7 +21,7 @@ use Rattle.table_check.proofs.walks.held_walk.Tie as tie
 abbrev Inv-loop : tie.InvT-loop
 Inv-loop table logs slots log start held₀ lack₀ others₀ g₀ held lack others g =
     (g ≤ logs) × (held ≤ 800 * g) × (lack ≤ 65536 * g) × (others ≤ 65536 * g)
-    × (heldWalk (readTable table) log ≡ plus held lack others (heldFrom (readTable table .slots) (length (readTable table .rows)) log g (drop g (readTable table .rows))))
+    × (heldWalk (strictTable table) log ≡ plus held lack others (heldFrom (strictCells table) (length (readTable table .rows)) log g (drop g (readTable table .rows))))
 
 abbrev μ-loop : tie.MeasureT-loop
 μ-loop table logs slots log start held₀ lack₀ others₀ g₀ held lack others g = logs - g
@@ -28,7 +30,7 @@ row-offset-requires : tie.Need-row-offset-requires Inv-loop μ-loop
 row-offset-requires c κs = search needs
 
 loop-holds : tie.Need-loop-holds Inv-loop μ-loop
-loop-holds c = let a = c .before .before .args in (omega arith, omega arith, omega arith, omega arith, held-first (readTable (a .table .now)) (a .log))
+loop-holds c = let a = c .before .before .args in (omega arith, omega arith, omega arith, omega arith, held-first (strictTable (a .table .now)) (a .log))
 
 row-at-requires : tie.Need-row-at-requires Inv-loop μ-loop
 row-at-requires c κs = search needs
@@ -39,11 +41,11 @@ slots-there c = let x = c .before .before .before .before .before in slotted pla
 
 -- and are the table's
 along : (c : tie.After-row-at Inv-loop μ-loop)
-    → rowWalk (cellsFrom (c .before .before .before .before .before .args .table .now) (c .before .before .before .row-offset .result) (c .before .before .before .before .before .args .slots)) (c .before .before .loop .g) (c .row-at .result)
-    ≡ rowWalk (readTable (c .before .before .before .before .before .args .table .now) .slots) (c .before .before .loop .g) (c .row-at .result)
+    → rowWalk (strictFrom (c .before .before .before .before .before .args .table .now) (c .before .before .before .row-offset .result) (c .before .before .before .before .before .args .slots)) (c .before .before .loop .g) (c .row-at .result)
+    ≡ rowWalk (strictCells (c .before .before .before .before .before .args .table .now)) (c .before .before .loop .g) (c .row-at .result)
 along c =
     let x = c .before .before .before .before .before in
-    ap (λ (s : List Slot). rowWalk s (c .before .before .loop .g) (c .row-at .result)) (cells-are (x .args .table .now) (x .args .logs) (x .args .slots) (c .before .before .before .row-offset .result) (x .pre) (c .before .before .before .row-offset .ensures))
+    ap (λ (s : List Slot). rowWalk s (c .before .before .loop .g) (c .row-at .result)) (strict-are (x .args .table .now) (x .args .logs) (x .args .slots) (c .before .before .before .row-offset .result) (x .pre) (c .before .before .before .row-offset .ensures))
 
 row-walk-requires : tie.Need-row-walk-requires Inv-loop μ-loop
 row-walk-requires c κs = (slots-there c, omega (arith, c .before .loop-test .taken, c .before .before .before .before .before .pre .logs-most))
@@ -55,7 +57,7 @@ enum-told : tie.Need-enum-told Inv-loop μ-loop
 enum-told c = search needs
 
 returns : tie.Need-returns Inv-loop μ-loop
-returns c = let x = c .before .before .before .before .before .before .before .before in let a = x .args in let l = c .before .before .before .before .before .loop in held-stop (readTable (a .table .now) .slots) _ (a .log) (readTable (a .table .now) .rows) _ (l .held) (l .lack) (l .others) (l .g) (l .inv .4) (omega (arith, c .before .before .before .before .loop-test .taken, length-rows (a .table .now), x .pre .logs-are)) (c .before .before .before .row-at .result) (c .before .before .before .row-at .ensures) (sym (c .enum-told .given .1) ∙ c .before .before .row-walk .ensures ∙ along (c .before .before .before))
+returns c = let x = c .before .before .before .before .before .before .before .before in let a = x .args in let l = c .before .before .before .before .before .loop in held-stop (strictCells (a .table .now)) _ (a .log) (readTable (a .table .now) .rows) _ (l .held) (l .lack) (l .others) (l .g) (l .inv .4) (omega (arith, c .before .before .before .before .loop-test .taken, length-rows (a .table .now), x .pre .logs-are)) (c .before .before .before .row-at .result) (c .before .before .before .row-at .ensures) (sym (c .enum-told .given .1) ∙ c .before .before .row-walk .ensures ∙ along (c .before .before .before))
 
 lacking-requires : tie.Need-lacking-requires Inv-loop μ-loop
 lacking-requires c κs = search needs
@@ -66,8 +68,8 @@ most c =
     let x = c .before .before .before .before .before .before .before .before .before .before in
     let a = x .args in
     let l = c .before .before .before .before .before .before .before .loop in
-    let h = held-most (readTable (a .table .now) .slots) _ (a .log) (readTable (a .table .now) .rows) _ (l .held) (l .lack) (l .others) (l .g) (l .inv .4) (omega (arith, c .before .before .before .before .before .before .loop-test .taken, length-rows (a .table .now), x .pre .logs-are)) (c .before .before .before .before .before .row-at .result) (c .before .before .before .before .before .row-at .ensures) (c .before .before .count .given .0 .0) _ (sym (c .before .before .count .given .1) ∙ c .before .before .before .before .row-walk .ensures ∙ along (c .before .before .before .before .before)) in
-    omega (arith, length-slots (a .table .now), x .pre .slots-are)
+    let h = held-most (strictCells (a .table .now)) _ (a .log) (readTable (a .table .now) .rows) _ (l .held) (l .lack) (l .others) (l .g) (l .inv .4) (omega (arith, c .before .before .before .before .before .before .loop-test .taken, length-rows (a .table .now), x .pre .logs-are)) (c .before .before .before .before .before .row-at .result) (c .before .before .before .before .before .row-at .ensures) (c .before .before .count .given .0 .0) _ (sym (c .before .before .count .given .1) ∙ c .before .before .before .before .row-walk .ensures ∙ along (c .before .before .before .before .before)) in
+    omega (arith, strict-count (a .table .now), x .pre .slots-are)
 
 -- and its reserve stands in two bytes
 few : (c : tie.After-lacking Inv-loop μ-loop) → c .lacking .result ≤ 65536
@@ -95,10 +97,10 @@ loop-less : tie.Need-loop-less Inv-loop μ-loop
 loop-less c = search needs
 
 loop-again : tie.Need-loop-again Inv-loop μ-loop
-loop-again c = let x = c .before .before .before .before .before .before .before .before .before .before .before in let a = x .args in let l = c .before .before .before .before .before .before .before .before .loop in let h : l .g < length (readTable (a .table .now) .rows) = omega (arith, c .before .before .before .before .before .before .before .loop-test .taken, length-rows (a .table .now), x .pre .logs-are) in (omega (arith, c .before .before .before .before .before .before .before .loop-test .taken), omega (arith, most (c .before)), omega (arith, few (c .before)), omega (arith, few (c .before), own-most (l .g) (a .log) (c .before .lacking .result) (c .unless-own .ensures)), held-on (readTable (a .table .now) .slots) _ (a .log) (readTable (a .table .now) .rows) _ (l .held) (l .lack) (l .others) (l .g) (l .inv .4) h (c .before .before .before .before .before .before .row-at .result) (c .before .before .before .before .before .before .row-at .ensures) (c .before .before .before .count .given .0 .0) _ (sym (c .before .before .before .count .given .1) ∙ c .before .before .before .before .before .row-walk .ensures ∙ along (c .before .before .before .before .before .before)) (λ e. omega arith) (c .before .lacking .result) (c .unless-own .result) (c .before .lacking .ensures) (c .unless-own .ensures))
+loop-again c = let x = c .before .before .before .before .before .before .before .before .before .before .before in let a = x .args in let l = c .before .before .before .before .before .before .before .before .loop in let h : l .g < length (readTable (a .table .now) .rows) = omega (arith, c .before .before .before .before .before .before .before .loop-test .taken, length-rows (a .table .now), x .pre .logs-are) in (omega (arith, c .before .before .before .before .before .before .before .loop-test .taken), omega (arith, most (c .before)), omega (arith, few (c .before)), omega (arith, few (c .before), own-most (l .g) (a .log) (c .before .lacking .result) (c .unless-own .ensures)), held-on (strictCells (a .table .now)) _ (a .log) (readTable (a .table .now) .rows) _ (l .held) (l .lack) (l .others) (l .g) (l .inv .4) h (c .before .before .before .before .before .before .row-at .result) (c .before .before .before .before .before .before .row-at .ensures) (c .before .before .before .count .given .0 .0) _ (sym (c .before .before .before .count .given .1) ∙ c .before .before .before .before .before .row-walk .ensures ∙ along (c .before .before .before .before .before .before)) (λ e. omega arith) (c .before .lacking .result) (c .unless-own .result) (c .before .lacking .ensures) (c .unless-own .ensures))
 
 returns-2 : tie.Need-returns-2 Inv-loop μ-loop
-returns-2 c = let x = c .before .before .before .before in let a = x .args in let l = c .before .loop in held-last (readTable (a .table .now) .slots) _ (a .log) (readTable (a .table .now) .rows) _ (l .held) (l .lack) (l .others) (l .g) (l .inv .4) (omega (arith, c .loop-test .left, length-rows (a .table .now), x .pre .logs-are))
+returns-2 c = let x = c .before .before .before .before in let a = x .args in let l = c .before .loop in held-last (strictCells (a .table .now)) _ (a .log) (readTable (a .table .now) .rows) _ (l .held) (l .lack) (l .others) (l .g) (l .inv .4) (omega (arith, c .loop-test .left, length-rows (a .table .now), x .pre .logs-are))
 
 pub held-walk-spec : {M : Type 1} → statement M
 held-walk-spec =

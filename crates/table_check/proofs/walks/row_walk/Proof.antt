@@ -1,5 +1,5 @@
 -- `table_check::walks::row_walk` meets its contract.
-use Rattle.layout.specs.Layout.{cellsFrom}
+use Rattle.layout.specs.Strict.{strictFrom}
 use mathlib.Core.Path.{sym, _∙_}
 use Rattle.table.proofs.WalkedLaws.{row-fresh, row-started, row-zero, row-crossed}
 use borrow.Author.Needs.{needs}
@@ -10,19 +10,19 @@ is-fresh-requires : tie.Need-is-fresh-requires
 is-fresh-requires c κs = search needs
 
 returns : tie.Need-returns
-returns c = let a = c .before .before .before .args in sym (row-fresh (cellsFrom (a .table .now) (a .start) (a .slots)) (a .g) (a .row) (sym (c .before .is-fresh .ensures) ∙ c .if1 .taken))
+returns c = let a = c .before .before .before .args in sym (row-fresh (strictFrom (a .table .now) (a .start) (a .slots)) (a .g) (a .row) (sym (c .before .is-fresh .ensures) ∙ c .if1 .taken))
 
 returns-2 : tie.Need-returns-2
-returns-2 c = let a = c .before .before .before .before .before .args in sym (row-zero (cellsFrom (a .table .now) (a .start) (a .slots)) (a .g) (a .row) (sym (c .before .before .before .is-fresh .ensures) ∙ c .before .before .if1 .left) (c .if2 .taken))
+returns-2 c = let a = c .before .before .before .before .before .args in sym (row-zero (strictFrom (a .table .now) (a .start) (a .slots)) (a .g) (a .row) (sym (c .before .before .before .is-fresh .ensures) ∙ c .before .before .if1 .left) (c .if2 .taken))
 
 returns-3 : tie.Need-returns-3
-returns-3 c = let a = c .before .before .before .before .before .before .before .args in sym (row-crossed (cellsFrom (a .table .now) (a .start) (a .slots)) (a .g) (a .row) (sym (c .before .before .before .before .before .is-fresh .ensures) ∙ c .before .before .before .before .if1 .left) (c .if3 .taken))
+returns-3 c = let a = c .before .before .before .before .before .before .before .args in sym (row-crossed (strictFrom (a .table .now) (a .start) (a .slots)) (a .g) (a .row) (sym (c .before .before .before .before .before .is-fresh .ensures) ∙ c .before .before .before .before .if1 .left) (c .if3 .taken))
 
 log-walk-requires : tie.Need-log-walk-requires
 log-walk-requires c κs = search needs
 
 returns-4 : tie.Need-returns-4
-returns-4 c = let a = c .before .before .before .before .before .before .before .before .args in c .log-walk .ensures ∙ sym (row-started (cellsFrom (a .table .now) (a .start) (a .slots)) (a .g) (a .row) (sym (c .before .before .before .before .before .before .is-fresh .ensures) ∙ c .before .before .before .before .before .if1 .left))
+returns-4 c = let a = c .before .before .before .before .before .before .before .before .args in c .log-walk .ensures ∙ sym (row-started (strictFrom (a .table .now) (a .start) (a .slots)) (a .g) (a .row) (sym (c .before .before .before .before .before .before .is-fresh .ensures) ∙ c .before .before .before .before .before .if1 .left))
 
 pub row-walk-spec : {M : Type 1} → statement M
 row-walk-spec =

@@ -8,10 +8,10 @@ use native.Mathlib.Omega.{arith}
 use lib.ListN.{length, length-set}
 use lib.Seq.{getD-set-same, getD-set-other}
 use Rattle.layout.specs.Image.{Entry, Slot, entryOf, slotAt, setSlot, freeSlot}
 use Rattle.table.specs.Chains.{chain, reaches, entriesOf}
 use Rattle.table.specs.Conditions.{Links}
 use Rattle.table.proofs.LinkLaws.{links-reach}
-use Rattle.a2m.proofs.Lists.{In, Distinct, pigeon}
+use Rattle.table.proofs.Lists.{In, Distinct, pigeon}
 
 -- ---- one slot
 

@@ -1,0 +1,111 @@
+-- `table_carry::old::free01_walk` meets its contract.
+use Rattle.table.proofs.WalkLaws.{none-met}
+use Rattle.table.specs.Walks.{freeWalk}
+use Rattle.table.specs.Chains.{walk}
+use Rattle.layout.specs.Layout.{slotSize}
+use Rattle.layout.specs.Strict.{strictFrom}
+use Rattle.layout.proofs.BlankLaws.{blank-there}
+use Rattle.layout.proofs.StrictCells.{length-strict}
+use Rattle.layout.specs.Image.{Slot}
+use mathlib.Core.List.{List}
+use native.Mathlib.Omega.{arith}
+use Prim.Native.Nat.{ℕ, _+_, _-_, _*_, _≤_}
+use mathlib.Core.Path.{_≡_, refl, ap, _∙_}
+use Rattle.table.proofs.WalkedLaws.{freeRest, free-first}
+use Rattle.table.proofs.TurnLaws.{free-end, free-long, free-out, free-owner, free-dirty, free-on}
+use borrow.Author.Needs.{needs}
+use Rattle.table_carry.proofs.old.free01_walk.Statement.{statement}
+use Rattle.table_carry.proofs.old.free01_walk.Tie as tie
+
+abbrev Inv-loop : tie.InvT-loop
+Inv-loop old start slots first s₀ n₀ last₀ s n last =
+    (n ≤ slots) × (freeWalk (strictFrom old start slots) first ≡ freeRest (strictFrom old start slots) n last (walk (strictFrom old start slots) 0 (slots - n) s))
+
+abbrev μ-loop : tie.MeasureT-loop
+μ-loop old start slots first s₀ n₀ last₀ s n last = slots - n
+
+loop-holds : tie.Need-loop-holds Inv-loop μ-loop
+loop-holds c =
+    let a = c .before .args in
+    let S : List Slot = strictFrom (a .old .now) (a .start) (a .slots) in
+    (omega arith, free-first S (a .first) ∙ ap (λ (k : ℕ). freeRest S 0 0 (walk S 0 k (a .first))) (none-met (a .old .now) (a .start) (a .slots)))
+
+returns : tie.Need-returns Inv-loop μ-loop
+returns c = let a = c .before .before .before .before .args in let l = c .before .before .loop in free-long (strictFrom (a .old .now) (a .start) (a .slots)) (a .slots) (length-strict (a .old .now) (a .start) (a .slots)) _ (l .n) (l .last) (l .s) (l .inv .1) (c .before .loop-test .taken) (c .if1 .taken)
+
+returns-2 : tie.Need-returns-2 Inv-loop μ-loop
+returns-2 c = let a = c .before .before .before .before .before .args in let l = c .before .before .before .loop in free-out (strictFrom (a .old .now) (a .start) (a .slots)) (a .slots) (length-strict (a .old .now) (a .start) (a .slots)) _ (l .n) (l .last) (l .s) (l .inv .1) (c .before .before .loop-test .taken) (c .if2 .taken)
+
+strict-from-requires : tie.Need-strict-from-requires Inv-loop μ-loop
+strict-from-requires c κs = search needs
+
+returns-3 : tie.Need-returns-3 Inv-loop μ-loop
+returns-3 c = let a = c .before .before .before .before .before .before .before .before .args in let l = c .before .before .before .before .before .before .loop in free-owner (strictFrom (a .old .now) (a .start) (a .slots)) (a .slots) (length-strict (a .old .now) (a .start) (a .slots)) _ (l .n) (l .last) (l .s) (l .inv .1) (c .before .before .before .before .before .loop-test .taken) (c .before .before .strict-from .result) (c .before .before .strict-from .ensures) (c .before .before .before .if2 .left) (c .if3 .taken)
+
+sub-at : tie.Need-sub-at Inv-loop μ-loop
+sub-at c = search needs
+
+mul-at : tie.Need-mul-at Inv-loop μ-loop
+mul-at c = search needs
+
+add-at : tie.Need-add-at Inv-loop μ-loop
+add-at c = search needs
+
+add-at-2 : tie.Need-add-at-2 Inv-loop μ-loop
+add-at-2 c = search needs
+
+add-is-zero : tie.Need-add-is-zero Inv-loop μ-loop
+add-is-zero c = search needs
+
+sub-is-zero : tie.Need-sub-is-zero Inv-loop μ-loop
+sub-is-zero c = search needs
+
+part-is-zero-start : tie.Need-part-is-zero-start Inv-loop μ-loop
+part-is-zero-start c = search needs
+
+part-is-zero-end : tie.Need-part-is-zero-end Inv-loop μ-loop
+part-is-zero-end c = search needs
+
+is-zero-requires : tie.Need-is-zero-requires Inv-loop μ-loop
+is-zero-requires c κs = search needs
+
+returns-4 : tie.Need-returns-4 Inv-loop μ-loop
+returns-4 c = let a = c .before .before .before .before .before .before .before .before .before .before .before .args in let l = c .before .before .before .before .before .before .before .before .before .loop in free-dirty (strictFrom (a .old .now) (a .start) (a .slots)) (a .slots) (length-strict (a .old .now) (a .start) (a .slots)) _ (l .n) (l .last) (l .s) (l .inv .1) (c .before .before .before .before .before .before .before .before .loop-test .taken) (c .before .before .before .before .before .strict-from .result) (c .before .before .before .before .before .strict-from .ensures) (c .before .before .before .before .before .before .if2 .left) (c .before .before .before .if3 .left) (l .inv .0) (c .before .before .before .before .before .before .before .if1 .left) (c .before .is-zero .result) (c .before .is-zero .ensures ∙ blank-there (a .old .now) (a .start) (a .slots) (l .s) (c .before .before .before .before .before .before .before .before .before .before .before .pre) (omega (arith, c .before .before .before .before .before .before .before .before .loop-test .taken)) (c .before .before .before .before .before .before .if2 .left) (a .start + slotSize * (l .s - 1)) refl) (c .if4 .taken)
+
+add-n : tie.Need-add-n Inv-loop μ-loop
+add-n c = omega arith
+
+loop-less : tie.Need-loop-less Inv-loop μ-loop
+loop-less c = omega arith
+
+loop-again : tie.Need-loop-again Inv-loop μ-loop
+loop-again c = let a = c .before .before .before .before .before .before .before .before .before .before .before .args in let l = c .before .before .before .before .before .before .before .before .before .loop in (omega arith, free-on (strictFrom (a .old .now) (a .start) (a .slots)) (a .slots) (length-strict (a .old .now) (a .start) (a .slots)) _ (l .n) (l .last) (l .s) (l .inv .1) (c .before .before .before .before .before .before .before .before .loop-test .taken) (c .before .before .before .before .before .strict-from .result) (c .before .before .before .before .before .strict-from .ensures) (c .before .before .before .before .before .before .if2 .left) (c .before .before .before .if3 .left) (l .inv .0) (c .before .before .before .before .before .before .before .if1 .left) (c .before .is-zero .result) (c .before .is-zero .ensures ∙ blank-there (a .old .now) (a .start) (a .slots) (l .s) (c .before .before .before .before .before .before .before .before .before .before .before .pre) (omega (arith, c .before .before .before .before .before .before .before .before .loop-test .taken)) (c .before .before .before .before .before .before .if2 .left) (a .start + slotSize * (l .s - 1)) refl) (c .if4 .left))
+
+returns-5 : tie.Need-returns-5 Inv-loop μ-loop
+returns-5 c = let a = c .before .before .before .args in let l = c .before .loop in free-end (strictFrom (a .old .now) (a .start) (a .slots)) (a .slots) (length-strict (a .old .now) (a .start) (a .slots)) _ (l .n) (l .last) (l .s) (l .inv .1) (c .loop-test .left)
+
+pub free01-walk-spec : {M : Type 1} → statement M
+free01-walk-spec =
+    tie.close
+    (tie.spec
+    Inv-loop
+    μ-loop
+    loop-holds
+    returns
+    returns-2
+    strict-from-requires
+    returns-3
+    sub-at
+    mul-at
+    add-at
+    add-at-2
+    add-is-zero
+    sub-is-zero
+    part-is-zero-start
+    part-is-zero-end
+    is-zero-requires
+    returns-4
+    add-n
+    loop-less
+    loop-again
+    returns-5)
