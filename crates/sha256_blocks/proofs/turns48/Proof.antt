@@ -18,17 +18,8 @@ loop-holds : tie.Need-loop-holds Inv-loop μ-loop
 unfolding turns
 loop-holds c = (omega arith, refl)
 
-mul-turns16 : tie.Need-mul-turns16 Inv-loop μ-loop
-mul-turns16 c = omega arith
-
 turns16-requires : tie.Need-turns16-requires Inv-loop μ-loop
 turns16-requires c κs = (c .before .before .pre, omega arith)
-
-add-i : tie.Need-add-i Inv-loop μ-loop
-add-i c = omega arith
-
-loop-less : tie.Need-loop-less Inv-loop μ-loop
-loop-less c = omega arith
 
 loop-again : tie.Need-loop-again Inv-loop μ-loop
 loop-again c =
@@ -45,14 +36,4 @@ returns c =
 
 pub turns48-spec : {M : Type 1} → statement M
 turns48-spec =
-    tie.close
-    (tie.spec
-    Inv-loop
-    μ-loop
-    loop-holds
-    mul-turns16
-    turns16-requires
-    add-i
-    loop-less
-    loop-again
-    returns)
+    tie.close (tie.spec Inv-loop μ-loop loop-holds (λ c. omega arith) turns16-requires (λ c. omega arith) (λ c. omega arith) loop-again returns)

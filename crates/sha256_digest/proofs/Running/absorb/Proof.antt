@@ -13,18 +13,6 @@ use borrow.Author.Needs.{needs}
 use Rattle.sha256_digest.proofs.Running.absorb.Statement.{statement}
 use Rattle.sha256_digest.proofs.Running.absorb.Tie as tie
 
-sub-room : tie.Need-sub-room
-sub-room c = search needs
-
-wide-requires : tie.Need-wide-requires
-wide-requires c κs = search needs
-
-add-count : tie.Need-add-count
-add-count c = search needs
-
-slice-aggregate-put : tie.Need-slice-aggregate-put
-slice-aggregate-put c = search needs
-
 put-requires : tie.Need-put-requires
 put-requires c κs =
     let size : length (c .before .before .before .before .before .before .before .before .args .self .block) ≡ 64 = simp length-map at (c .before .before .before .before .before .before .before .before .good .0 .1 .1 .1 .0 .1 .0 .1) in
@@ -39,12 +27,6 @@ returns c =
     ap (λ (b : List ℕ). stateOf (record { chain = s .chain; block = b; count = n; blocks = s .blocks })) (c .before .put .ensures)
     ∙ short s (x .args .part .now) n size (omega arith) (omega arith)
 
-constants-requires : tie.Need-constants-requires
-constants-requires c κs = search needs
-
-slice-aggregate-put-2 : tie.Need-slice-aggregate-put-2
-slice-aggregate-put-2 c = search needs
-
 slice-aggregate-put-3 : tie.Need-slice-aggregate-put-3
 slice-aggregate-put-3 c = simp length-take (omega arith)
 
@@ -53,46 +35,10 @@ put-requires-2 c κs =
     let size : length (c .before .before .before .before .before .before .before .before .before .before .args .self .block) ≡ 64 = simp length-map at (c .before .before .before .before .before .before .before .before .before .before .good .0 .1 .1 .1 .0 .1 .0 .1) in
     simp length-take (omega arith)
 
-slice-aggregate-compress-blocks : tie.Need-slice-aggregate-compress-blocks
-slice-aggregate-compress-blocks c = search needs
-
-compress-blocks-requires : tie.Need-compress-blocks-requires
-compress-blocks-requires c κs = search needs
-
-sub-compress-blocks : tie.Need-sub-compress-blocks
-sub-compress-blocks c = search needs
-
-part-compress-blocks-start : tie.Need-part-compress-blocks-start
-part-compress-blocks-start c = search needs
-
-part-compress-blocks-end : tie.Need-part-compress-blocks-end
-part-compress-blocks-end c = search needs
-
 compress-blocks-requires-2 : tie.Need-compress-blocks-requires-2
 compress-blocks-requires-2 c κs =
     let first = c .before .before .compress-blocks .ensures .1 in
     (c .before .before .before .before .before .before .before .before .before .constants .ensures, (simp (length-take, length-drop) (omega arith), omega (arith, first, c .before .before .before .before .before .before .before .before .before .before .if1 .left)))
-
-mul-at : tie.Need-mul-at
-mul-at c = search needs
-
-add-at : tie.Need-add-at
-add-at c = search needs
-
-slice-aggregate-put-4 : tie.Need-slice-aggregate-put-4
-slice-aggregate-put-4 c = search needs
-
-sub-put : tie.Need-sub-put
-sub-put c = search needs
-
-part-put-start : tie.Need-part-put-start
-part-put-start c = search needs
-
-part-put-end : tie.Need-part-put-end
-part-put-end c = search needs
-
-put-requires-3 : tie.Need-put-requires-3
-put-requires-3 c κs = search needs
 
 returns-2 : tie.Need-returns-2
 returns-2 c =
@@ -116,29 +62,7 @@ returns-2 c =
 
 pub absorb-spec : {M : Type 1} → statement M
 absorb-spec =
-    tie.close
-    (tie.spec
-    sub-room
-    wide-requires
-    add-count
-    slice-aggregate-put
-    put-requires
-    returns
-    constants-requires
-    slice-aggregate-put-2
-    slice-aggregate-put-3
-    put-requires-2
-    slice-aggregate-compress-blocks
-    compress-blocks-requires
-    sub-compress-blocks
-    part-compress-blocks-start
-    part-compress-blocks-end
-    compress-blocks-requires-2
-    mul-at
-    add-at
-    slice-aggregate-put-4
-    sub-put
-    part-put-start
-    part-put-end
-    put-requires-3
-    returns-2)
+    tie.close (tie.spec (λ c. search needs) (λ c κs. search needs) (λ c. search needs) (λ c. search needs) put-requires returns (λ c κs. search needs)
+    (λ c. search needs) slice-aggregate-put-3 put-requires-2 (λ c. search needs) (λ c κs. search needs) (λ c. search needs) (λ c. search needs)
+    (λ c. search needs) compress-blocks-requires-2 (λ c. search needs) (λ c. search needs) (λ c. search needs) (λ c. search needs) (λ c. search needs)
+    (λ c. search needs) (λ c κs. search needs) returns-2)

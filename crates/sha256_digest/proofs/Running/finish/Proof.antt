@@ -10,15 +10,6 @@ use borrow.Author.Needs.{needs}
 use Rattle.sha256_digest.proofs.Running.finish.Statement.{statement}
 use Rattle.sha256_digest.proofs.Running.finish.Tie as tie
 
-constants-requires : tie.Need-constants-requires
-constants-requires c κs = search needs
-
-wide-requires : tie.Need-wide-requires
-wide-requires c κs = search needs
-
-sub-digest-from : tie.Need-sub-digest-from
-sub-digest-from c = search needs
-
 array-share-prefix-block : tie.Need-array-share-prefix-block
 array-share-prefix-block c =
     let s = c .before .before .before .before .before .before .args .self in
@@ -53,12 +44,5 @@ returns c =
 
 pub finish-spec : {M : Type 1} → statement M
 finish-spec =
-    tie.close
-    (tie.spec
-    constants-requires
-    wide-requires
-    sub-digest-from
-    array-share-prefix-block
-    slice-aggregate-digest-from
-    digest-from-requires
+    tie.close (tie.spec (search needs) (search needs) (search needs) array-share-prefix-block slice-aggregate-digest-from digest-from-requires
     returns)
