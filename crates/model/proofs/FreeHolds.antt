@@ -1,5 +1,5 @@
--- Which free slot is taken is open in document 01. What holds of it: it is the first of the free chain, and the rest stays the free chain. So no slot is
--- lost, and none is taken that a log holds.
+-- The slot taken is the first of the free chain, and the rest stays the free chain: so no slot is lost, and none is taken that a log holds. Document 01 leaves
+-- the slot open; request [4] has it so, and `a2m/proofs/Queue` says it of the queue.
 use Prim.Native.Nat.{ℕ, suc, _<_}
 use mathlib.Core.Path.{_≡_, sym, subst}
 use mathlib.Core.Logic.{_≢_}
