@@ -11,4 +11,4 @@ returns-2 c =
     (c .refused .ensures .0 ∙ sym (ap workedNumber e), c .refused .ensures .1 ∙ sym (ap workedBlocks e))
 
 pub worked-spec : {M : Type 1} → statement M
-worked-spec = tie.close (tie.spec (search needs) (search needs) (λ c κs. search needs) (search needs) returns-2)
+worked-spec = tie.close (tie.spec (λ c. search needs) (λ c. search needs) (λ c κs. search needs) (λ c. search needs) returns-2)

@@ -31,8 +31,8 @@ returns c =
 
 pub answer-line-spec : {M : Type 1} → statement M
 answer-line-spec =
-    tie.close (tie.spec (λ c κs. search needs) (search needs) (λ c κs. search needs) (λ c κs. search needs) (λ c κs. search needs) (search needs)
-    (search needs) returns)
+    tie.close (tie.spec (λ c κs. search needs) (λ c. search needs) (λ c κs. search needs) (λ c κs. search needs) (λ c κs. search needs)
+    (λ c. search needs) (λ c. search needs) returns)
 
 pub undivided : Undivided ("line::answer::render" ∷ "line::commands::parse" ∷ "script_lines::lines::cells" ∷ "script_lines::tables::carry_out" ∷ []) function
 undivided = refl
