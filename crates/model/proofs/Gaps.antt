@@ -10,8 +10,7 @@ use mathlib.Core.Bool.{Bool, true, false}
 use mathlib.Core.Option.{Option, none, some, Option·none-ne-some, Option·some-injective}
 use native.Mathlib.Omega.{arith}
 use native.Mathlib.Decide.{ℕ-discrete}
-use lib.ListN.{length, take, getElem?, set, List·getD-map}
-use lib.Seq.{getD-set-same, getD-set-other}
+use lib.ListN.{length, take, getElem?, List·getD-map}
 use lib.Dec.{leb}
 use borrow.Author.Tests.{leb-true, leb-false}
 use Rattle.receipt.specs.Attestation.{Attestation, LOOKUP, readAttestation}
@@ -19,23 +18,24 @@ use Rattle.receipt.proofs.Fields.{read-receipt}
 use Rattle.layout.specs.Image.{Entry}
 use Rattle.table.specs.Format.{formatRefusal, formatBytes}
 use Rattle.table.proofs.Lists.{In, in-right, in-cases}
-use Rattle.a2m.specs.Call.{Call, append, advance, truncate, lookup, end, Reply, done, Effect, replies, after, receiptIn}
+use Rattle.a2m.specs.Call.{Call, advance, truncate, lookup, Reply, replies, after, receiptIn}
 use Rattle.a2m.specs.NewEntry.{newEntry}
 use Rattle.survey.specs.Requests.{Request, requestStep, AllWideRequests}
 use Rattle.survey.proofs.RequestLaws.{made-wide}
-use Rattle.model.specs.Log.{Log, freshLog, lastEntry, entered, cutAt, Standing, unassigned, forgotten, assigned, skipped, standing, kindOf, referenceOf}
-use Rattle.model.specs.Model.{Rules, rules, rules01, Model, newModel, logAt, modelReceipt, shownFor, modelLookup, modelDone, modelAccept, modelStep}
+use Rattle.model.specs.Log.{Log, freshLog, entered, cutAt, Standing, unassigned, forgotten, assigned, skipped, standing, kindOf, referenceOf}
+use Rattle.model.specs.Model.{Rules, rules, rules01, Model, newModel, logAt, modelReceipt, shownFor, modelLookup, modelAccept, modelStep}
 use Rattle.model.specs.Program.{programStep}
 use Rattle.model.specs.Claim.{Turn, asking, modelTurn, callAt, replyAt, ShowsSkipped, SkippedAt, SkipsAt, ForgetsAt}
 use Rattle.model.proofs.Represents.{LogOk}
 use Rattle.model.proofs.Positions.{ok-low}
 use Rattle.model.proofs.Passed.{Stepped, turned, taken, stepped}
 use Rattle.model.proofs.Standings.{Means, standing-means}
+use Rattle.model.proofs.Changes.{Did, idle, appending, advancing, truncating}
 use Rattle.model.proofs.Later.{Later}
 use Rattle.model.proofs.Entries.{in-bounds}
 use Rattle.model.proofs.Turns.{WideTurn, Each, each-at, each-so}
 use Rattle.model.proofs.Shown.{length-LOOKUP}
-use Rattle.model.proofs.Along.{Keeps, at-keeps, at-later, At, at-call, at-none, skipping}
+use Rattle.model.proofs.Along.{Keeps, at-keeps, at-later, At, at-call, at-none, at-did, low-stays, skipping}
 use Rattle.model.proofs.Accepted.{Attests, attests, AttestsTurn}
 use Rattle.model.proofs.Apart.{Gap, at-gap}
 use Rattle.model.proofs.ImageClaim.{Proper, proper, new-keeps}
@@ -75,44 +75,6 @@ low-high l ok p h = go (ℕ-discrete (l .high) 0)
     go : Dec (l .high ≡ 0) → l .low ≤ p
     go (yes e) = let f = ok .fresh e in omega arith
     go (no z) = let f = ok-low l ok z in omega arith
-
--- ---- a call
-
--- what the call c makes of log g: nothing, an append's entry, an accepted advance's, or an accepted truncate's cut
-data Did (ru : Rules) (b : Model) (g : ℕ) (c : Call) (k : Log) : Type 0 where
-  nothing : k ≡ logAt (b .logs) g → Did ru b g c k
-  appended : (e : Entry) → e .position ≡ suc (logAt (b .logs) g .high) → k ≡ entered (logAt (b .logs) g) e → Did ru b g c k
-  advanced : (n : ℕ) (d x : List ℕ) (lo hi : ℕ) → c ≡ advance g n d x → modelStep ru b c .reply ≡ done lo hi → k ≡ entered (logAt (b .logs) g) (newEntry n x d) → Did ru b g c k
-  truncated : (n lo hi : ℕ) → c ≡ truncate g n → modelStep ru b c .reply ≡ done lo hi → k ≡ cutAt n (logAt (b .logs) g) → Did ru b g c k
-
-module _ (ru : Rules) (b : Model) (g : ℕ) where
-  did-at : (c : Call) (w h : ℕ) (l : Log) → h < length (b .logs) → modelStep ru b c ≡ modelDone w b h l → (h ≡ g → Did ru b g c l) → Did ru b g c (logAt (modelStep ru b c .state .logs) g)
-  unfolding modelDone
-  did-at c w h l hG e f = rw e (go (ℕ-discrete h g))
-    where
-      go : Dec (h ≡ g) → Did ru b g c (logAt (set (b .logs) h l) g)
-      go (yes q) = subst (Did ru b g c) (sym (subst (λ (y : ℕ). logAt (set (b .logs) h l) y ≡ l) q (getD-set-same (b .logs) h l (freshLog 0) hG))) (f q)
-      go (no z) = nothing (getD-set-other (b .logs) h g l (freshLog 0) (λ (q : g ≡ h). z (sym q)))
-
-  did : (c : Call) → Did ru b g c (logAt (modelStep ru b c .state .logs) g)
-  unfolding modelAccept modelDone
-  did c = go c (stepped ru b c)
-    where
-      go : (c : Call) → Stepped ru b c → Did ru b g c (logAt (modelStep ru b c .state .logs) g)
-      go c (turned k e) = nothing (ap (λ (o : Effect Model). logAt (o .state .logs) g) e)
-      go (append h x) (taken a e) = did-at _ 2 h _ (a .log) e (λ (q : h ≡ g). appended _ (ap (λ (y : ℕ). suc (logAt (b .logs) y .high)) q) (ap (λ (y : ℕ). entered (logAt (b .logs) y) (newEntry (suc (logAt (b .logs) h .high)) x (lastEntry (logAt (b .logs) h .entries) .digest))) q))
-      go (advance h n d x) (taken a e) = did-at _ 2 h _ (a .log) e (λ (q : h ≡ g). advanced n d x _ _ (ap (λ (y : ℕ). advance y n d x) q) (ap (λ (o : Effect Model). o .reply) e) (ap (λ (y : ℕ). entered (logAt (b .logs) y) (newEntry n x d)) q))
-      go (truncate h n) (taken a e) = did-at _ 0 h _ (a .log) e (λ (q : h ≡ g). truncated n _ _ (ap (λ (y : ℕ). truncate y n) q) (ap (λ (o : Effect Model). o .reply) e) (ap (λ (y : ℕ). cutAt n (logAt (b .logs) y)) q))
-      go (lookup h n c k) (taken a e) = nothing (ap (λ (o : Effect Model). logAt (o .state .logs) g) e)
-      go (end h c k) (taken a e) = nothing (ap (λ (o : Effect Model). logAt (o .state .logs) g) e)
-
--- the low changes by an accepted truncate alone
-did-low : (ru : Rules) (b : Model) (g : ℕ) (c : Call) (k : Log) → Did ru b g c k → (p : ℕ) → logAt (b .logs) g .low ≤ p → ((n lo hi : ℕ) → c ≡ truncate g n → modelStep ru b c .reply ≡ done lo hi → n ≤ p) → k .low ≤ p
-unfolding entered cutAt
-did-low ru b g c k (nothing e) p h cut = rw e h
-did-low ru b g c k (appended x t e) p h cut = rw e h
-did-low ru b g c k (advanced n d x lo hi t a e) p h cut = rw e h
-did-low ru b g c k (truncated n lo hi t a e) p h cut = rw e (cut n lo hi t a)
 
 -- ---- along the list
 
@@ -164,23 +126,6 @@ module _ (b : Model) (keeps : Keeps b) (ts : List Turn) (wide : Each WideTurn ts
   abbrev rs : List Reply
   rs = replies modelTurn b ts
 
-  -- what call h makes of log g
-  did-call : (g h : ℕ) (c : Call) (o : At b ts h c) → Did (o .turn .rules) (after modelTurn b (take h ts)) g c (at g (suc h))
-  did-call g h c o = rw (o .next) (did (o .turn .rules) (after modelTurn b (take h ts)) g c)
-
-  -- the low stays at p or below while no accepted truncate goes past p
-  low-stays : (g p j i : ℕ) → ((h m : ℕ) → j < h → h < i → ForgetsAt ts rs h g m → m ≤ p) → at g (suc j) .low ≤ p → (k : ℕ) → j < k → k ≤ i → at g k .low ≤ p
-  low-stays g p j i kept low zero lo hi = absurd (omega arith)
-  low-stays g p j i kept low (suc k) lo hi = go (ℕ-discrete k j) (λ (q : j < k). low-stays g p j i kept low k q (omega arith)) (callAt ts k) refl
-    where
-      go : Dec (k ≡ j) → (j < k → at g k .low ≤ p) → (o : Option Call) → callAt ts k ≡ o → at g (suc k) .low ≤ p
-      go (yes e) below o f = rw e low
-      go (no z) below none f = rw (at-none b ts k f) (below (omega arith))
-      go (no z) below (some c) f =
-          let o = at-call b ts k c f in
-          did-low _ _ g c _ (did-call g k c o) p (below (omega arith))
-          (λ (n L H : ℕ) (t : c ≡ truncate g n) (a : modelStep (o .turn .rules) (after modelTurn b (take k ts)) c .reply ≡ done L H). kept k n (omega arith) hi (record { call = f ∙ ap some t; low = L; high = H; accepted = o .reply ∙ a }))
-
   pub model-gap : (i j g p : ℕ) (r : List ℕ) (a : GapAsked b ts (replies modelTurn b ts) i j g p r) (t : Turn) → getElem? ts i ≡ some t → Attests (t .rules)
       → MarksGap (t .rules) g p (newEntry (a .skips .n) (a .skips .value) (a .skips .given)) r
   unfolding entered
@@ -195,7 +140,7 @@ module _ (b : Model) (keeps : Keeps b) (ts : List Turn) (wide : Each WideTurn ts
       let e = newEntry (k .n) (k .value) (k .given) in
       let jumped : at g (suc j) ≡ entered (at g j) e = skipping b ts j g p k in
       let low : at g (suc j) .low ≤ p = rw jumped (low-high (at g j) first p above) in
-      let s : standing (at g i) p ≡ skipped e = gap-stays (at g j) (at g i) first (at-keeps b keeps ts wide i .sound g) e (rw jumped at (at-later b ts (suc j) i (a .later) g)) p above below (low-stays g p j i (a .kept) low i (a .later) (le-refl i)) in
+      let s : standing (at g i) p ≡ skipped e = gap-stays (at g j) (at g i) first (at-keeps b keeps ts wide i .sound g) e (rw jumped at (at-later b ts (suc j) i (a .later) g)) p above below (low-stays b ts j i g p (a .kept) low i (a .later) (le-refl i)) in
       let p64 : p < 2 ^ 64 = made-wide (o .turn .request) _ (o .makes) (each-at WideTurn ts wide i _ (o .there)) in
       let q : receiptIn (modelStep (t .rules) m (lookup g p (a .nonce) (a .lent)) .reply) ≡ some r = ap (λ (u : Turn). receiptIn (modelStep (u .rules) m (lookup g p (a .nonce) (a .lent)) .reply)) (sym same) ∙ ap receiptIn (sym (o .reply)) ∙ a .receipt in
       lookup-marks (t .rules) attests m (at-keeps b keeps ts wide i) g p p64 (a .nonce) (a .lent) r q e s
@@ -226,17 +171,17 @@ module _ (b : Model) (keeps : Keeps b) (ts : List Turn) (wide : Each WideTurn ts
           record { low = omega arith; high = h; empty = λ (e : Entry) (m : In e (at g i .entries)) (q : e .position ≡ p). z .empty e (l .kept e m (omega arith)) q }
 
       made : at g i .high < p → (c : Call) → callAt ts i ≡ some c → (o : At b ts i c) → Did (o .turn .rules) (after modelTurn b (take i ts)) g c (at g (suc i)) → SkipsAt b ts rs i g p
-      made h c f o (nothing e) = let y = subst (λ (l : Log). Gap l p) e z .high in absurd (omega arith)
-      made h c f o (appended x t e) =
+      made h c f o (idle e) = let y = subst (λ (l : Log). Gap l p) e z .high in absurd (omega arith)
+      made h c f o (appending x t e) =
           let y = subst (λ (l : Log). Gap l p) e z in
           let top = y .high in
           absurd (y .empty x (in-right x (at g i .entries) (x ∷ []) (inl refl)) (omega arith))
-      made h c f o (advanced n d x lo hi t a e) =
+      made h c f o (advancing n d x lo hi t a e) =
           let y = subst (λ (l : Log). Gap l p) e z in
           let top = y .high in
           let off : n ≢ p = y .empty (newEntry n x d) (in-right _ (at g i .entries) (newEntry n x d ∷ []) (inl refl)) in
           record { n = n; given = d; value = x; call = f ∙ ap some t; low = lo; high = hi; accepted = o .reply ∙ a; above = h; below = omega arith }
-      made h c f o (truncated n lo hi t a e) = let y = subst (λ (l : Log). Gap l p) e z .high in absurd (omega arith)
+      made h c f o (truncating n lo hi t a e) = let y = subst (λ (l : Log). Gap l p) e z .high in absurd (omega arith)
 
       go : (x : Bool) → leb p (at g i .high) ≡ x → (Gap (at g i) p → (j : ℕ) × (j < i) × SkipsAt b ts rs j g p) → (c : Option Call) → callAt ts i ≡ c → (j : ℕ) × (j < suc i) × SkipsAt b ts rs j g p
       go true e before c f = let s = before (earlier (leb-true p (at g i .high) e)) in let lt = s .1 in (s .0, omega arith, s .2)
@@ -244,7 +189,7 @@ module _ (b : Model) (keeps : Keeps b) (ts : List Turn) (wide : Each WideTurn ts
           let h = leb-false p (at g i .high) e in
           let top = subst (λ (m : Model). Gap (logAt (m .logs) g) p) (at-none b ts i f) z .high in
           absurd (omega arith)
-      go false e before (some c) f = let o = at-call b ts i c f in (i, le-refl (suc i), made (leb-false p (at g i .high) e) c f o (did-call g i c o))
+      go false e before (some c) f = let o = at-call b ts i c f in (i, le-refl (suc i), made (leb-false p (at g i .high) e) c f o (at-did b ts i g c o))
 
   pub model-made : Each AttestsTurn ts → (i g p : ℕ) → logAt (b .logs) g .high ≡ 0 → SkippedAt (replies modelTurn b ts) i g p → (j : ℕ) × (j < i) × SkipsAt b ts (replies modelTurn b ts) j g p
   model-made a i g p fresh s = gap-from g p fresh i (at-gap b keeps ts wide a i g p s)
