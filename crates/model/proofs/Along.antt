@@ -183,7 +183,7 @@ skipping b ts j g p k =
 pub at-did : (b : Model) (ts : List Turn) (j g : ℕ) (c : Call) (o : At b ts j c) → Did (o .turn .rules) (after modelTurn b (take j ts)) g c (logAt (after modelTurn b (take (suc j) ts) .logs) g)
 at-did b ts j g c o = rw (o .next) (did (o .turn .rules) (after modelTurn b (take j ts)) g c)
 
--- after call i up to call j, with no truncate between them that was accepted and goes past n, the low stays at n or below
+-- where no accepted truncate between calls i and j goes past n, the low stays at n or below
 module _ (b : Model) (ts : List Turn) (i j g n : ℕ) (kept : (k m : ℕ) → i < k → k < j → ForgetsAt ts (replies modelTurn b ts) k g m → m ≤ n) where
   abbrev at : ℕ → Log
   at k = logAt (after modelTurn b (take k ts) .logs) g

@@ -44,7 +44,7 @@ use Rattle.model.proofs.Jumped.{ShowsPut, asked-by}
 
 -- ---- a log
 
--- what e jumped over, from l's high on, stays skipped by e down to the low of a later log
+-- what e jumped over, from l's high on, is skipped by e in every later log whose low has not passed it
 gap-stays : (l k : Log) → LogOk l → LogOk k → (e : Entry) → Later (entered l e) k → (p : ℕ) → l .high < p → p < e .position → k .low ≤ p → standing k p ≡ skipped e
 unfolding entered
 gap-stays l k ok ok′ e later p above below low = go (standing k p) (standing-means k ok′ p (omega arith))
@@ -126,6 +126,7 @@ module _ (b : Model) (keeps : Keeps b) (ts : List Turn) (wide : Each WideTurn ts
   abbrev rs : List Reply
   rs = replies modelTurn b ts
 
+  -- a lookup of what an advance skipped, and no truncate has passed since, shows it skipped by that advance
   pub model-gap : (i j g p : ℕ) (r : List ℕ) (a : GapAsked b ts (replies modelTurn b ts) i j g p r) (t : Turn) → getElem? ts i ≡ some t → Attests (t .rules)
       → MarksGap (t .rules) g p (newEntry (a .skips .n) (a .skips .value) (a .skips .given)) r
   unfolding entered
@@ -156,7 +157,7 @@ module _ (b : Model) (keeps : Keeps b) (ts : List Turn) (wide : Each WideTurn ts
       let m : MarksGap rules g p (newEntry (k .n) (k .value) (k .given)) r = subst (λ (x : Rules). MarksGap x g p (newEntry (k .n) (k .value) (k .given)) r) ru (model-gap i j g p r a (o .turn) (o .there) (subst Attests (sym ru) attests)) in
       (m .skipped, record { reference = m .reference; shown = m .value; digest = m .digest })
 
-  -- and a gap, if log g was fresh at first, is one that an accepted advance skipped
+  -- a gap, if log g was fresh at first, is one that an accepted advance skipped
   gap-from : (g p : ℕ) → logAt (b .logs) g .high ≡ 0 → (i : ℕ) → Gap (at g i) p → (j : ℕ) × (j < i) × SkipsAt b ts rs j g p
   unfolding after entered cutAt
   gap-from g p fresh zero z = let lo = keeps .sound g .low1 in let l = z .low in let h = z .high in absurd (omega arith)
@@ -191,6 +192,7 @@ module _ (b : Model) (keeps : Keeps b) (ts : List Turn) (wide : Each WideTurn ts
           absurd (omega arith)
       go false e before (some c) f = let o = at-call b ts i c f in (i, le-refl (suc i), made (leb-false p (at g i .high) e) c f o (at-did b ts i g c o))
 
+  -- so what a receipt shows skipped, an accepted advance before it skipped
   pub model-made : Each AttestsTurn ts → (i g p : ℕ) → logAt (b .logs) g .high ≡ 0 → SkippedAt (replies modelTurn b ts) i g p → (j : ℕ) × (j < i) × SkipsAt b ts (replies modelTurn b ts) j g p
   model-made a i g p fresh s = gap-from g p fresh i (at-gap b keeps ts wide a i g p s)
 
