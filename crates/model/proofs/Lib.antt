@@ -16,6 +16,7 @@ pub mod EitherOrderCase
 pub mod Entries
 pub mod FreeHolds
 pub mod Fresh
+pub mod Gaps
 pub mod History
 pub mod ImageClaim
 pub mod Jumped
