@@ -19,6 +19,7 @@ pub mod Fresh
 pub mod History
 pub mod ImageClaim
 pub mod Jumped
+pub mod JumpedCarried
 pub mod Lacking
 pub mod Later
 pub mod Lookups
