@@ -20,6 +20,7 @@ pub mod Gaps
 pub mod History
 pub mod ImageClaim
 pub mod Jumped
+pub mod JumpedCarried
 pub mod Lacking
 pub mod Later
 pub mod Lookups
