@@ -15,7 +15,7 @@ use Rattle.model.specs.Model.{Rules, Model, logAt, modelDone, modelAccep
 use Rattle.model.specs.Claim.{Turn, modelTurn, callAt, replyAt, ShowsAt, SkipsAt, ForgetsAt}
 use Rattle.model.proofs.Turns.{WideTurn, turn-so, Each}
 use Rattle.survey.proofs.RequestLaws.{made-step, unmade-state}
-use Rattle.model.proofs.Requests.{book-is}
+use Rattle.model.proofs.Requests.{request-is}
 use Rattle.model.proofs.Represents.{Sound}
 use Rattle.model.proofs.Passed.{Stepped, turned, taken, stepped}
 use Rattle.model.proofs.Sound.{step-sound}
@@ -123,7 +123,7 @@ at-call b ts j c h = go (getElem? ts j) refl
     go (some t) e =
         let m : madeOf (t .request) ≡ some c = rw (callAt, e) at h in
         let a = at-turn b ts j t e in
-        let s : modelTurn (after modelTurn b (take j ts)) t ≡ modelStep (t .rules) (after modelTurn b (take j ts)) c = book-is (t .rules) _ (t .request) ∙ made-step (modelStep (t .rules)) _ (t .request) c m in
+        let s : modelTurn (after modelTurn b (take j ts)) t ≡ modelStep (t .rules) (after modelTurn b (take j ts)) c = request-is (t .rules) _ (t .request) ∙ made-step (modelStep (t .rules)) _ (t .request) c m in
         record { turn = t; there = e; makes = m; next = a .next ∙ ap (λ (o : Effect Model). o .state) s; reply = a .reply ∙ ap (λ (o : Effect Model). o .reply) s }
 
 -- one that makes no call leaves the model as it was
@@ -141,7 +141,7 @@ at-none b ts j h = go (getElem? ts j) refl
     go none e = ap (after modelTurn b) (take-none ts j e)
     go (some t) e =
         let m : madeOf (t .request) ≡ none = rw (callAt, e) at h in
-        at-turn b ts j t e .next ∙ ap (λ (o : Effect Model). o .state) (book-is (t .rules) _ (t .request)) ∙ unmade-state (modelStep (t .rules)) _ (t .request) m
+        at-turn b ts j t e .next ∙ ap (λ (o : Effect Model). o .state) (request-is (t .rules) _ (t .request)) ∙ unmade-state (modelStep (t .rules)) _ (t .request) m
 
 -- what a receipt shows assigned, the model has then
 pub at-shown : (b : Model) → Keeps b → (ts : List Turn) → Each WideTurn ts → (i g n : ℕ) (v d : List ℕ) → ShowsAt (replies modelTurn b ts) i g n v d → EntryAt (logAt (after modelTurn b (take i ts) .logs) g) n v d

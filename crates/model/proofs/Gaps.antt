@@ -202,21 +202,21 @@ module _ (lent : List ℕ) (G S keeper : ℕ) (key reserves : List ℕ) (k64 : k
   abbrev answered : List Reply
   answered = replies (requestStep programStep) (formatBytes lent G S keeper key reserves) qs
 
-  abbrev book : Model
-  book = newModel S keeper key reserves
+  abbrev start : Model
+  start = newModel S keeper key reserves
 
   abbrev turns : List Turn
   turns = asking rules qs
 
   -- a gap shows skipped, by the reading that jumped over it, until it is truncated
-  pub gap-shown : (i j g p : ℕ) (r : List ℕ) (a : GapAsked book turns answered i j g p r) → ShowsSkipped r g p × ShowsPut (a .skips .n) (a .skips .given) (a .skips .value) (readAttestation r)
+  pub gap-shown : (i j g p : ℕ) (r : List ℕ) (a : GapAsked start turns answered i j g p r) → ShowsSkipped r g p × ShowsPut (a .skips .n) (a .skips .given) (a .skips .value) (readAttestation r)
   gap-shown =
       rw (programClaim lent G S keeper key reserves k64 accepted qs w .answers)
-      (λ (i j g p : ℕ) (r : List ℕ) (a : GapAsked book turns (replies modelTurn book turns) i j g p r). model-gap-put book (new-keeps S keeper key reserves k64) turns (each-so Proper WideTurn (λ (t : Turn) (y : Proper t). y .wide) turns (proper qs w)) i j g p r a (asked-by qs i))
+      (λ (i j g p : ℕ) (r : List ℕ) (a : GapAsked start turns (replies modelTurn start turns) i j g p r). model-gap-put start (new-keeps S keeper key reserves k64) turns (each-so Proper WideTurn (λ (t : Turn) (y : Proper t). y .wide) turns (proper qs w)) i j g p r a (asked-by qs i))
 
   -- and nothing but a gap does
-  pub gap-made : (i g p : ℕ) → SkippedAt answered i g p → (j : ℕ) × (j < i) × SkipsAt book turns answered j g p
+  pub gap-made : (i g p : ℕ) → SkippedAt answered i g p → (j : ℕ) × (j < i) × SkipsAt start turns answered j g p
   gap-made =
       let P = proper qs w in
       rw (programClaim lent G S keeper key reserves k64 accepted qs w .answers)
-      (λ (i g p : ℕ) (s : SkippedAt (replies modelTurn book turns) i g p). model-made book (new-keeps S keeper key reserves k64) turns (each-so Proper WideTurn (λ (t : Turn) (y : Proper t). y .wide) turns P) (each-so Proper AttestsTurn (λ (t : Turn) (y : Proper t). y .attests) turns P) i g p (ap (λ (l : Log). l .high) (List·getD-map freshLog reserves g 0)) s)
+      (λ (i g p : ℕ) (s : SkippedAt (replies modelTurn start turns) i g p). model-made start (new-keeps S keeper key reserves k64) turns (each-so Proper WideTurn (λ (t : Turn) (y : Proper t). y .wide) turns P) (each-so Proper AttestsTurn (λ (t : Turn) (y : Proper t). y .attests) turns P) i g p (ap (λ (l : Log). l .high) (List·getD-map freshLog reserves g 0)) s)

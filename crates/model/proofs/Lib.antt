@@ -14,7 +14,6 @@ pub mod Demand3
 pub mod EitherOrder
 pub mod EitherOrderCase
 pub mod Entries
-pub mod FreeHolds
 pub mod Fresh
 pub mod Gaps
 pub mod History
