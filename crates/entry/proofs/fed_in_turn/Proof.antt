@@ -1,4 +1,4 @@
--- `entry::entry_digest` meets its contract: a walk of its code, by hand. The state is made in a local and lent to `feed` three times, each for a
+-- `entry::fed_in_turn` meets its contract: a walk of its code, by hand. The state is made in a local and lent to `feed` three times, each for a
 -- lifetime of the call; the position's bytes are lent with it the first time.
 -- Of `number`, `new`, `feed` and `finish` the proof knows their contracts alone. Of the two slices, one copy goes to `feed` and one is kept for the exit.
 mod Fed
@@ -65,8 +65,8 @@ use Rattle.sha256_digest.proofs.Running.finish.Symbol.{name as #sha256·finish}
 use Rattle.sha256_digest.proofs.Running.finish.Met as finish-thm
 use Rattle.entry.specs.Digest.{entryDigest}
 use Rattle.entry.proofs.DigestLaws.{fed-is}
-use Rattle.entry.proofs.entry_digest.Proof.Lent.{Shared, lends-bytes, bytes-back}
-use Rattle.entry.proofs.entry_digest.Proof.Fed.{R, Feed, feeds}
+use Rattle.entry.proofs.fed_in_turn.Proof.Lent.{Shared, lends-bytes, bytes-back}
+use Rattle.entry.proofs.fed_in_turn.Proof.Fed.{R, Feed, feeds}
 use Rattle.entry.proofs.number as number
 use Rattle.entry.proofs.number.Symbol as number-def
 use Rattle.entry.proofs.number.Symbol.{name as #entry·number}
@@ -74,17 +74,17 @@ use Rattle.entry.proofs.number.Met as number-thm
 use Rattle.entry.proofs.feed.Symbol as feed-def
 use Rattle.entry.proofs.feed.Symbol.{name as #entry·feed}
 use Rattle.entry.proofs.feed.Met as feed-thm
-use Rattle.entry.proofs.entry_digest.Key.{name as #entry·entry-digest}
-use Rattle.entry.proofs.entry_digest as entry-digest
-use Rattle.entry.proofs.entry_digest.Statement as stated
-use Rattle.entry.proofs.entry_digest.Code as code
+use Rattle.entry.proofs.fed_in_turn.Key.{name as #entry·fed-in-turn}
+use Rattle.entry.proofs.fed_in_turn as fed-in-turn
+use Rattle.entry.proofs.fed_in_turn.Statement as stated
+use Rattle.entry.proofs.fed_in_turn.Code as code
 use Rattle.refusal.specs.Unwritten.{unwritten, counts}
-use Rattle.entry.proofs.entry_digest.Code.Mir.{function}
+use Rattle.entry.proofs.fed_in_turn.Code.Mir.{function}
 
-abbrev stayed : Stays (entry-digest.ended .signature .params) (entry-digest.ended .kept)
+abbrev stayed : Stays (fed-in-turn.ended .signature .params) (fed-in-turn.ended .kept)
 stayed = (stay-none (λ _. u64) yes, (stay-none-slice (0 ∷ []) tt (plain (λ _. u8)) yes, (stay-none-slice (1 ∷ []) tt (plain (λ _. u8)) yes, tt)))
 
--- what `finish` says of the digest, and what `entry_digest` says
+-- what `finish` says of the digest, and what `fed_in_turn` says
 abbrev Finished : Running → Digest → Type 0
 Finished h r = (r .bytes ≡ finished (stateOf h)) × (r .blocks ≡ finishedBlocks (stateOf h))
 
@@ -128,7 +128,7 @@ module _ {M : Type 1} (𝓤 : URA M) (H : Heap 𝓤) (A : Atoms 𝓤) (W : Given
   vals = (vint w64 n ∷ [], (vx ∷ [], (vy ∷ [], tt)))
 
   abbrev Post : Val → SProp 𝓤
-  Post = walkOf 𝓤 H A entry-digest.ended stayed (entry-digest.clauses 𝓤 H A at-mem run) .post (((κ, (κ′, tt)), (q, (q′, tt)), tt, a, vals), tt)
+  Post = walkOf 𝓤 H A fed-in-turn.ended stayed (fed-in-turn.clauses 𝓤 H A at-mem run) .post (((κ, (κ′, tt)), (q, (q′, tt)), tt, a, vals), tt)
 
   -- the value and the previous digest
   abbrev X : Fml
@@ -160,7 +160,7 @@ module _ {M : Type 1} (𝓤 : URA M) (H : Heap 𝓤) (A : Atoms 𝓤) (W : Given
       → ent 𝓤 (⋆ 𝓤 H A (‵ (D.the-row .own r (v ∷ [])) ∷ ‵ (flft κ q) ∷ ‵ (flft κ′ q′) ∷ ‵ X ∷ ‵ Y ∷ [])) (Post v)
   exits r v e =
       qed W (‵ (D.the-row .own r (v ∷ [])) ∷ ‵ (flft κ q) ∷ ‵ (flft κ′ q′) ∷ ‵ X ∷ ‵ Y ∷ []) ∵
-      suffices ! _ (ends-at 𝓤 H A entry-digest.ended stayed (entry-digest.clauses 𝓤 H A at-mem run) W (((κ, (κ′, tt)), (q, (q′, tt)), tt, a, vals), tt) v r (tt, (tt, (tt, tt))) (tt, (tt, (tt, tt)))) $ says ! e $
+      suffices ! _ (ends-at 𝓤 H A fed-in-turn.ended stayed (fed-in-turn.clauses 𝓤 H A at-mem run) W (((κ, (κ′, tt)), (q, (q′, tt)), tt, a, vals), tt) v r (tt, (tt, (tt, tt))) (tt, (tt, (tt, tt)))) $ says ! e $
       nothing ! $ move ! (3 ∷ 0 ∷ []) $ join ! $ move ! (2 ∷ 0 ∷ []) $ join ! $ frame ! $
       -- [the result; the value; the previous digest]
       nothing ! $ move ! (3 ∷ 0 ∷ []) $ fjoin ! $ move ! (2 ∷ 0 ∷ []) $ fjoin ! $ owned ! u64 (Is u64) (uint-makes 𝓤 H A W w64) n _ (refl, n-fits) $ fjoin ! $ frame ! $ done !
@@ -203,7 +203,7 @@ module _ {M : Type 1} (𝓤 : URA M) (H : Heap 𝓤) (A : Atoms 𝓤) (W : Given
   unit-typed r e = subst (λ (w : Val). IsTrue (hasTy tyUnit w) × WT w) (sym e) (tt, tt)
 
   module _ (C : Calls 𝓤 H) (Λ : Loops 𝓤 H) (fm : FmC 𝓤 H (W .laws) C) (known-number : Triple 𝓤 (C #entry·number) (Number 𝓤 H A at-mem run)) (known-new : Triple 𝓤 (C #sha256·new) (New 𝓤 H A at-mem run)) (known-feed : Triple 𝓤 (C #entry·feed) (Feed 𝓤 H A at-mem run)) (known-finish : Triple 𝓤 (C #sha256·finish) (Finish 𝓤 H A at-mem run)) where
-    walk : Is (ShrSlice (named 0) κ u8) x (vx ∷ []) → Is (ShrSlice (named 1) κ′ u8) y (vy ∷ []) → ent 𝓤 (onEntry 𝓤 H A entry-digest.signature (κ, (κ′, tt)) (q, (q′, tt)) a vals) (WpFn 𝓤 H C Λ code.function (vint w64 n ∷ vx ∷ vy ∷ []) Post)
+    walk : Is (ShrSlice (named 0) κ u8) x (vx ∷ []) → Is (ShrSlice (named 1) κ′ u8) y (vy ∷ []) → ent 𝓤 (onEntry 𝓤 H A fed-in-turn.signature (κ, (κ′, tt)) (q, (q′, tt)) a vals) (WpFn 𝓤 H C Λ code.function (vint w64 n ∷ vx ∷ vy ∷ []) Post)
     walk is-x is-y =
         qed W ((‵ (flft κ q) ⊛ ‵ (flft κ′ q′) ⊛ ‵ ftrue) ∷ ‵ (owns (u64 ∷ ShrSlice (named 0) κ u8 ∷ ShrSlice (named 1) κ′ u8 ∷ []) a vals) ∷ []) ∵ enter ! C Λ code.function (vint w64 n ∷ vx ∷ vy ∷ []) _ $
         alloc1 ! (λ l₀. alloc1 ! (λ l₁. alloc1 ! (λ l₂. alloc1 ! (λ l₃. alloc1 ! (λ l₄. alloc1 ! (λ l₅. alloc1 ! (λ l₆. alloc1 ! (λ l₇. alloc1 ! (λ l₈. alloc1 ! (λ l₉. alloc1 ! (λ l₁₀. alloc1 ! (λ l₁₁. alloc1 ! (λ l₁₂. alloc1 ! (λ l₁₃. alloc0 ! $ params1 ! $
@@ -266,26 +266,26 @@ module _ {M : Type 1} (𝓤 : URA M) (H : Heap 𝓤) (A : Atoms 𝓤) (W : Given
         keep ! (0 ∷ 2 ∷ 1 ∷ 3 ∷ 4 ∷ []) $ by ! (exits r z (fed-is n xs (x .now) (y .now) r e nx ny (digest-is ((([] ++ xs) ++ x .now) ++ y .now) (stateOf h₃) r k₃ e₄))))))))))))))))))))))))))))))))))))
 
 module _ {M : Type 1} (𝓤 : URA M) (H : Heap 𝓤) (A : Atoms 𝓤) (W : Given 𝓤 H A) (at-mem : Memory → SProp 𝓤) (run : Routine → Fun 𝓤) where
-  entry-digest-walks : (C : Calls 𝓤 H) (Λ : Loops 𝓤 H) → FmC 𝓤 H (W .laws) C → Triple 𝓤 (C #entry·number) (Number 𝓤 H A at-mem run) → Triple 𝓤 (C #sha256·new) (New 𝓤 H A at-mem run) → Triple 𝓤 (C #entry·feed) (Feed 𝓤 H A at-mem run) → Triple 𝓤 (C #sha256·finish) (Finish 𝓤 H A at-mem run)
-      → Walks 𝓤 H A entry-digest.ended stayed (WpFn 𝓤 H C Λ code.function) (entry-digest.clauses 𝓤 H A at-mem run)
-  entry-digest-walks C Λ fm known-number known-new known-feed known-finish = walked 𝓤 H A entry-digest.ended stayed (entry-digest.clauses 𝓤 H A at-mem run) (WpFn 𝓤 H C Λ code.function)
+  fed-in-turn-walks : (C : Calls 𝓤 H) (Λ : Loops 𝓤 H) → FmC 𝓤 H (W .laws) C → Triple 𝓤 (C #entry·number) (Number 𝓤 H A at-mem run) → Triple 𝓤 (C #sha256·new) (New 𝓤 H A at-mem run) → Triple 𝓤 (C #entry·feed) (Feed 𝓤 H A at-mem run) → Triple 𝓤 (C #sha256·finish) (Finish 𝓤 H A at-mem run)
+      → Walks 𝓤 H A fed-in-turn.ended stayed (WpFn 𝓤 H C Λ code.function) (fed-in-turn.clauses 𝓤 H A at-mem run)
+  fed-in-turn-walks C Λ fm known-number known-new known-feed known-finish = walked 𝓤 H A fed-in-turn.ended stayed (fed-in-turn.clauses 𝓤 H A at-mem run) (WpFn 𝓤 H C Λ code.function)
       (λ κs. (uint-vals w64, (slice-vals, (slice-vals, tt)))) (λ κs. (uint-tells w64, (shr-slice-tells (named 0) (κs .0) u8, (shr-slice-tells (named 1) (κs .1 .0) u8, tt))))
       (λ κs qs bounds a g are. needs 𝓤 ((length (a .1 .0 .now) ≡ 32) × (length (a .1 .1 .0 .now) ≡ 32)) _ (λ sizes.
       walk 𝓤 H A W at-mem run (κs .0) (κs .1 .0) (qs .0) (qs .1 .0) (a .0) (are .0 .1) (a .1 .0) (a .1 .1 .0) (sizes .0) (sizes .1) C Λ fm known-number known-new known-feed known-finish (are .1 .0) (are .1 .1 .0)))
 
-entry-digest-meets : {M : Type 1} (𝓤 : URA M) (H : Heap 𝓤) (A : Atoms 𝓤) → Given 𝓤 H A → (at-mem : Memory → SProp 𝓤) (run : Routine → Fun 𝓤) (𝓣 : Tables 𝓤 H)
+fed-in-turn-meets : {M : Type 1} (𝓤 : URA M) (H : Heap 𝓤) (A : Atoms 𝓤) → Given 𝓤 H A → (at-mem : Memory → SProp 𝓤) (run : Routine → Fun 𝓤) (𝓣 : Tables 𝓤 H)
     → Triple 𝓤 (𝓣 .C #entry·number) (Number 𝓤 H A at-mem run) → Triple 𝓤 (𝓣 .C #sha256·new) (New 𝓤 H A at-mem run) → Triple 𝓤 (𝓣 .C #entry·feed) (Feed 𝓤 H A at-mem run) → Triple 𝓤 (𝓣 .C #sha256·finish) (Finish 𝓤 H A at-mem run)
-    → Meets 𝓤 H A entry-digest.signature (WpFn 𝓤 H (𝓣 .C) (𝓣 .Λ) code.function) (entry-digest.spec 𝓤 H A at-mem run)
-entry-digest-meets 𝓤 H A W at-mem run 𝓣 known-number known-new known-feed known-finish =
-    walk-meets 𝓤 H A entry-digest.ended stayed W (goes-none 𝓤 H A W 2 (λ _. u64) yes (λ κs x f. refl), (goes-none-slice 𝓤 H A W 2 (0 ∷ []) tt (plain (λ _. u8)) yes, (goes-none-slice 𝓤 H A W 2 (1 ∷ []) tt (plain (λ _. u8)) yes, tt))) (entry-digest.clauses 𝓤 H A at-mem run)
-    (WpFn 𝓤 H (𝓣 .C) (𝓣 .Λ) code.function) (WpFn-mono 𝓤 H (W .laws) 𝓣 code.function) (entry-digest-walks 𝓤 H A W at-mem run (𝓣 .C) (𝓣 .Λ) (fmOf 𝓤 H (W .laws) 𝓣) known-number known-new known-feed known-finish)
+    → Meets 𝓤 H A fed-in-turn.signature (WpFn 𝓤 H (𝓣 .C) (𝓣 .Λ) code.function) (fed-in-turn.spec 𝓤 H A at-mem run)
+fed-in-turn-meets 𝓤 H A W at-mem run 𝓣 known-number known-new known-feed known-finish =
+    walk-meets 𝓤 H A fed-in-turn.ended stayed W (goes-none 𝓤 H A W 2 (λ _. u64) yes (λ κs x f. refl), (goes-none-slice 𝓤 H A W 2 (0 ∷ []) tt (plain (λ _. u8)) yes, (goes-none-slice 𝓤 H A W 2 (1 ∷ []) tt (plain (λ _. u8)) yes, tt))) (fed-in-turn.clauses 𝓤 H A at-mem run)
+    (WpFn 𝓤 H (𝓣 .C) (𝓣 .Λ) code.function) (WpFn-mono 𝓤 H (W .laws) 𝓣 code.function) (fed-in-turn-walks 𝓤 H A W at-mem run (𝓣 .C) (𝓣 .Λ) (fmOf 𝓤 H (W .laws) 𝓣) known-number known-new known-feed known-finish)
 
-pub entry-digest-spec : {M : Type 1} → stated.statement M
+pub fed-in-turn-spec : {M : Type 1} → stated.statement M
 unfolding code.routine tablesOf
-entry-digest-spec 𝓤 H 𝓜 𝓖 𝓡 =
-    entered 𝓤 H (tripleOf 𝓤 H (𝓖 .A) entry-digest.signature (entry-digest.spec 𝓤 H (𝓖 .A) (𝓜 .mem) (𝓡 .run)))
-    (tables 𝓤 H 𝓜 𝓡 code.env .C) (tables 𝓤 H 𝓜 𝓡 code.env .Λ) #entry·entry-digest code.function (code.unfolded 𝓤 H 𝓜 𝓡)
-    (entry-digest-meets 𝓤 H (𝓖 .A) (givenOf 𝓤 H 𝓜 𝓖) (𝓜 .mem) (𝓡 .run) (tablesOf 𝓤 H 𝓜 (tables 𝓤 H 𝓜 𝓡 code.env))
+fed-in-turn-spec 𝓤 H 𝓜 𝓖 𝓡 =
+    entered 𝓤 H (tripleOf 𝓤 H (𝓖 .A) fed-in-turn.signature (fed-in-turn.spec 𝓤 H (𝓖 .A) (𝓜 .mem) (𝓡 .run)))
+    (tables 𝓤 H 𝓜 𝓡 code.env .C) (tables 𝓤 H 𝓜 𝓡 code.env .Λ) #entry·fed-in-turn code.function (code.unfolded 𝓤 H 𝓜 𝓡)
+    (fed-in-turn-meets 𝓤 H (𝓖 .A) (givenOf 𝓤 H 𝓜 𝓖) (𝓜 .mem) (𝓡 .run) (tablesOf 𝓤 H 𝓜 (tables 𝓤 H 𝓜 𝓡 code.env))
     (cited 𝓤 H (Number 𝓤 H (𝓖 .A) (𝓜 .mem) (𝓡 .run)) 𝓜 𝓡 code.env #entry·number number-def.routine code.calls-entry·number (number-thm.met 𝓤 H 𝓜 𝓖 𝓡))
     (cited 𝓤 H (New 𝓤 H (𝓖 .A) (𝓜 .mem) (𝓡 .run)) 𝓜 𝓡 code.env #sha256·new new-def.routine code.calls-sha256-digest·Running·new (new-thm.met 𝓤 H 𝓜 𝓖 𝓡))
     (cited 𝓤 H (Feed 𝓤 H (𝓖 .A) (𝓜 .mem) (𝓡 .run)) 𝓜 𝓡 code.env #entry·feed feed-def.routine code.calls-entry·feed (feed-thm.met 𝓤 H 𝓜 𝓖 𝓡))
