@@ -5,9 +5,6 @@ use Rattle.bigendian.proofs.Laws.{unbe-split, unbe-byte}
 use borrow.Author.Needs.{needs}
 use Rattle.bigendian.proofs.get_u16.Statement.{statement}
 use Rattle.bigendian.proofs.get_u16.Tie as tie
-use Rattle.bigendian.proofs.get_u16.Reads as reads
-use Rattle.bigendian.proofs.get_u16.Lts as lts
-use Rattle.bigendian.proofs.wide16.Reads as wide16-reads
 
 returns : tie.Need-returns
 returns c = let x = c .before .before .before .before .before in omega (arith, unbe-split 1 1 (x .args .at) (x .args .s .now) (x .pre), unbe-byte (x .args .at) (x .args .s .now) (omega arith), unbe-byte (x .args .at + 1) (x .args .s .now) (omega arith))

@@ -4,10 +4,6 @@ use Rattle.bigendian.proofs.Laws.{unbe-split}
 use borrow.Author.Needs.{needs}
 use Rattle.bigendian.proofs.get_u32.Statement.{statement}
 use Rattle.bigendian.proofs.get_u32.Tie as tie
-use Rattle.bigendian.proofs.get_u32.Reads as reads
-use Rattle.bigendian.proofs.get_u32.Lts as lts
-use Rattle.bigendian.proofs.get_u16.Reads as get-u16-reads
-use Rattle.bigendian.proofs.wide32.Reads as wide32-reads
 
 returns : tie.Need-returns
 returns c = let x = c .before .before .before .before .before in omega (arith, unbe-split 2 2 (x .args .at) (x .args .s .now) (x .pre))

@@ -28,7 +28,7 @@ returns c =
     let f : ℕ = length p % 64 in
     let last = c .before .before .compress-blocks2 in
     let e = closing (a .h) (p12 .compress-blocks .result) (last .result) p (replicate 128 0) (p5 .put-u64 .last .0) (a .before) f
-    (x .pre .0 .0) refl refl refl
+    (x .pre .0 .0) refl refl (omega arith)
     (p12 .compress-blocks .ensures)
     (p5 .put-u64 .ensures
     ∙ ap₂ (λ (t : List ℕ) (n : ℕ). splice (set t f 128) ((f + 72) / 64 * 64 - 8) (be 8 ((a .before + n) * 8)))
