@@ -8,8 +8,7 @@
  *   full. Where several fit, the order given at the function decides.
  * - A function that may hash returns with its number, by value, how many blocks of 64 bytes SHA-256 compressed for it
  *   (keeper_result): those that were compressed, whatever the number. What is refused before it hashes counts 0.
- * - A refusal changes nothing: no byte of a lent buffer and no result. Results are written when the number is 0, and only
- *   then.
+ * - A refusal changes nothing: no byte of a lent buffer and no result. Results are written only when the number is 0.
  * - It keeps no pointer, allocates nothing and has no state of its own: all that goes from call to call is the table. So
  *   threads may call at the same time, as long as none writes a buffer that another one lends: lookups of one table may run
  *   side by side, an append stands alone.
@@ -40,7 +39,7 @@ extern "C" {
 /* Numbers returned. */
 enum {
     KEEPER_DONE = 0,            /* none below applies */
-    KEEPER_TORN = 1,            /* the table is not whole; carry: the old table is not, by document 01's test */
+    KEEPER_TORN = 1,            /* the table is not whole; carry: the old one is not, by document 01's test; keeper_free: no header with the mark */
     KEEPER_NO_LOG = 2,          /* the table has no such log */
     KEEPER_POSITION = 3,        /* lookup of 0; advance to H or below; truncate outside L < n <= H */
     KEEPER_SPENT = 4,           /* append to a log whose H is 2^64 - 1 */
@@ -70,7 +69,7 @@ enum {
     KEEPER_RECEIPT_BYTES = 160,
     KEEPER_COLLISION_BYTES = 144,
     KEEPER_MEMBER_BYTES = 40,   /* an item of a roster: keeper number, big-endian, and key */
-    KEEPER_SENTENCE_BYTES = 200 /* a verdict in words; no terminating zero is among them */
+    KEEPER_SENTENCE_BYTES = 200 /* a verdict in words; a terminating zero is not promised */
 };
 
 /* A position is a survey number, the upper 24 of its bits, and a reading number, the lower 40. */
@@ -243,7 +242,7 @@ keeper_result keeper_verify_end(const uint8_t *key, size_t key_bytes, const uint
  * member's key, and is assigned; others are passed over, a skipped one with what it shows. A value and digest are certified
  * when good receipts of as many different members as are needed show both.
  *
- * place becomes the place, from 0, of the first good receipt that shows the certified pair, and mask the members whose good
+ * place becomes the place, from 0, of the first good receipt whose pair is certified, and mask the members whose good
  * receipts show it, the lowest bit for the roster's first. The certified value stands at
  * certificate + place * KEEPER_RECEIPT_BYTES + KEEPER_AT_VALUE, the digest at KEEPER_AT_DIGEST of the same receipt.
  *
@@ -261,9 +260,11 @@ keeper_result keeper_certify(uint64_t members, uint64_t needed, const uint8_t *r
  * or digests, or one is assigned and the other skipped.
  *
  * found becomes 1, and first and second the places, from 0, of the first such pair: the least first place, then the least
- * second one behind it. If there is none, found becomes 0, and first and second stay as they were. A keeper whose table was
- * formatted once and from then on only called, and carried once at most, never contradicts itself. needed takes part in the
- * test for 17 alone.
+ * second one behind it. If there is none, found becomes 0, and first and second stay as they were. needed takes part in the test
+ * for 17 alone.
+ *
+ * A keeper never contradicts itself whose table was formatted once, reached each call as the last one left it, was written by
+ * nothing else, and was carried once at most, from then on called as the copy alone.
  *
  * Blocks: 6 for each receipt that is a possible entry with the keeper number of a member, accepted or not; with a refusal none.
  * Refused, in this order: 17; 12; 9. */
@@ -276,8 +277,8 @@ keeper_result keeper_contradiction(uint64_t members, uint64_t needed, const uint
  * stands in the verdict. Verdicts that differ in a number have different sentences, also from every certificate's;
  * docs/SENTENCES.md has the wording.
  *
- * The sentence stands at the buffer's start, and zero bytes fill the rest. It may take all KEEPER_SENTENCE_BYTES, so there need not
- * be a terminating zero: print it by "%.200s". Hashes nothing. Refused: 7 for another length of sentence. */
+ * The sentence stands at the buffer's start, and zero bytes fill the rest. No wording of this version takes more than 196 bytes, but
+ * only 200 are promised: print it by "%.200s". Hashes nothing. Refused: 7 for another length of sentence. */
 uint8_t keeper_receipt_sentence(uint8_t number, const keeper_verdict *verdict, uint8_t *sentence, size_t sentence_bytes);
 
 /* The same of a verdict on a certificate: number is what keeper_certify returned, place and mask what it filled. Members are

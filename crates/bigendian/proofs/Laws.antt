@@ -118,7 +118,7 @@ unbe-part-lt l at n h =
 pub be-unbe-part : (l : List ℕ) (at n : ℕ) → Bytes l → at + n ≤ length l → be n (unbe (part l at n)) ≡ part l at n
 be-unbe-part l at n h k = ap (λ (i : ℕ). be i (unbe (part l at n))) (sym (length-part l at n k)) ∙ be-unbe (part l at n) (bytes-part l at n h)
 
--- writing: a number's upper bytes and then its lower ones. Every writer's contract is this law at its width
+-- writing: a number's upper bytes and then its lower ones
 
 pub put-split : (v w at n : ℕ) (l : List ℕ) → at + (v + w) ≤ length l → splice (splice l at (be v (n / 256 ^ w))) (at + v) (be w (n % 256 ^ w)) ≡ splice l at (be (v + w) n)
 put-split v w at n l h =

@@ -1,11 +1,12 @@
 // Big-endian numbers in byte slices, at 2, 4 and 8 bytes. The contracts cite `be` and `unbe`, over any width.
+use octets::put;
 ghost use mathlib.Core.Path.{_≡_};
 ghost use Prim.Native.Nat.{_+_, _≤_, _<_};
 ghost use lib.ListN.{length};
 ghost use Rattle.bigendian.specs.BigEndian.{be, unbe};
 ghost use Rattle.octets.specs.Octets.{part, splice};
 
-// Each reader joins the numbers of two parts, and each writer writes two halves: one law for every width proves them all.
+// Each reader joins the numbers of two parts: one law for every width proves them all.
 
 fn wide16(b: u8) -> u16
     ensures { λ r. ⌜ (r ≡ b) × (r < 256) ⌝ }
@@ -62,13 +63,42 @@ pub fn put_u16(out: &mut [u8], at: usize, n: u16)
     out[at + 1] = (n % 256) as u8;
 }
 
+// The 4 bytes of n. Made as a whole and then stored, the compiler turns them about at once; stored one by one in a lent slice they
+// stay four stores.
+fn four(n: u32) -> [u8; 4]
+    ensures { λ r. ⌜ r ≡ be 4 n ⌝ }
+{
+    [
+        (n / 16777216 % 256) as u8,
+        (n / 65536 % 256) as u8,
+        (n / 256 % 256) as u8,
+        (n % 256) as u8,
+    ]
+}
+
+// The 8 bytes of n.
+fn eight(n: u64) -> [u8; 8]
+    ensures { λ r. ⌜ r ≡ be 8 n ⌝ }
+{
+    [
+        (n / 72057594037927936 % 256) as u8,
+        (n / 281474976710656 % 256) as u8,
+        (n / 1099511627776 % 256) as u8,
+        (n / 4294967296 % 256) as u8,
+        (n / 16777216 % 256) as u8,
+        (n / 65536 % 256) as u8,
+        (n / 256 % 256) as u8,
+        (n % 256) as u8,
+    ]
+}
+
 // Writes n as 4 bytes from at on.
 pub fn put_u32(out: &mut [u8], at: usize, n: u32)
     requires { ⌜ at + 4 ≤ length (now out) ⌝ }
     ensures { λ _. ⌜ now (out .exit) ≡ splice (now (out .entry)) at (be 4 n) ⌝ }
 {
-    put_u16(out, at, (n / 65536) as u16);
-    put_u16(out, at + 2, (n % 65536) as u16);
+    let bytes = four(n);
+    put(out, at, &bytes);
 }
 
 // Writes n as 8 bytes from at on.
@@ -76,6 +106,6 @@ pub fn put_u64(out: &mut [u8], at: usize, n: u64)
     requires { ⌜ at + 8 ≤ length (now out) ⌝ }
     ensures { λ _. ⌜ now (out .exit) ≡ splice (now (out .entry)) at (be 8 n) ⌝ }
 {
-    put_u32(out, at, (n / 4294967296) as u32);
-    put_u32(out, at + 4, (n % 4294967296) as u32);
+    let bytes = eight(n);
+    put(out, at, &bytes);
 }

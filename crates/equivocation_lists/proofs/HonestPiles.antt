@@ -28,7 +28,7 @@ use Rattle.survey.specs.Requests.{Request, callOf, early, madeOf, requestStep}
 use Rattle.model.specs.Model.{Model, modelStep}
 use Rattle.model.specs.Claim.{Turn, modelTurn, callAt, replyAt, ListClaim}
 use Rattle.model.specs.Question.{questionOf, nonceOf}
-use Rattle.model.proofs.Requests.{book-is}
+use Rattle.model.proofs.Requests.{request-is}
 use Rattle.model.proofs.NeverPair.{OneStory, never-pair}
 use Rattle.equivocation_lists.specs.Written.{Wrote, OneList}
 
@@ -48,7 +48,7 @@ asked b [] j r h = absurd (Option·none-ne-some r h)
 asked b (t ∷ ts) zero r h = go (madeOf (t .request)) refl
   where
     go : (o : Option Call) → madeOf (t .request) ≡ o → (c : Call) × (madeOf (t .request) ≡ some c)
-    go none e = absurd (Option·none-ne-some r (sym (ap (λ (x : Effect Model). receiptIn (x .reply)) (book-is (t .rules) b (t .request)) ∙ away Model (modelStep (t .rules)) b (t .request) e) ∙ h))
+    go none e = absurd (Option·none-ne-some r (sym (ap (λ (x : Effect Model). receiptIn (x .reply)) (request-is (t .rules) b (t .request)) ∙ away Model (modelStep (t .rules)) b (t .request) e) ∙ h))
     go (some c) e = (c, e)
 asked b (t ∷ ts) (suc j) r h = asked (modelTurn b t .state) ts j r h
 
@@ -113,7 +113,7 @@ module _ (roster pile : List ℕ) where
       let u = h .wrote p (omega arith) (accepted-at roster pile p .1 (i .first)) e in
       let w = h .wrote q within (accepted-at roster pile q .1 (i .second)) (sym (c .keeper) ∙ e) in
       not-both _ (conflicting-exactly (readAttestation (receiptAt pile p)) (readAttestation (receiptAt pile q)) .1 c)
-      (never-conflicting (h .book) (h .turns) (h .answers) (h .blocks) (h .table) (h .claim) (receiptAt pile p) (receiptAt pile q) u w)
+      (never-conflicting (h .start) (h .turns) (h .answers) (h .blocks) (h .table) (h .claim) (receiptAt pile p) (receiptAt pile q) u w)
 
   -- if so of every keeper of the roster's, there is no pair
   pub honest-pile : ((i : ℕ) → i < size roster → OneList roster pile (keeperAt roster i)) → firstPair roster pile ≡ none
@@ -128,7 +128,7 @@ module _ (roster pile : List ℕ) where
   -- so of a pile that one list wrote
   pub one-list : (b : Model) (ts : List Turn) (rs : List Reply) (ks : List ℕ) (m : Image) → ListClaim b ts rs ks m → ((p : ℕ) → p < receiptCount pile → Wrote rs (receiptAt pile p)) → firstPair roster pile ≡ none
   one-list b ts rs ks m claim w =
-      honest-pile (λ i l. record { book = b; turns = ts; answers = rs; blocks = ks; table = m; claim = claim; wrote = λ p h a e. w p h })
+      honest-pile (λ i l. record { start = b; turns = ts; answers = rs; blocks = ks; table = m; claim = claim; wrote = λ p h a e. w p h })
 
 module _ (n k : ℕ) (roster pile : List ℕ) where
   -- and the answer is that there is none

@@ -19,10 +19,10 @@ Wrote rs r = (j : ℕ) × (receiptIn (replyAt rs j) ≡ some r)
 
 -- one list wrote each accepted receipt of the keeper's in the pile
 pub record OneList (roster pile : List ℕ) (keeper : ℕ) : Type 0 where
-  pub book : Model
+  pub start : Model
   pub turns : List Turn
   pub answers : List Reply
   pub blocks : List ℕ
   pub table : Image
-  pub claim : ListClaim book turns answers blocks table
+  pub claim : ListClaim start turns answers blocks table
   pub wrote : (p : ℕ) → p < receiptCount pile → acceptedAt roster pile p ≡ true → readAttestation (receiptAt pile p) .keeper ≡ keeper → Wrote answers (receiptAt pile p)

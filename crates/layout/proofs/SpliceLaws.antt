@@ -1,4 +1,5 @@
--- A row, a slot, a next or the first free slot put into a table's bytes is that one set in its image; first on images, then on bytes.
+-- A row, a slot, a next or the first free slot put into a table's bytes is that one set in its image, and the number of free slots or the last one is that set in
+-- its stock; first on images, then on bytes.
 use Prim.Native.Nat.{ℕ, zero, suc, _+_, _-_, _*_, _^_, _≤_, _<_}
 use mathlib.Core.Path.{_≡_, sym, ap, _∙_, subst}
 use mathlib.Core.List.{List, _++_}

@@ -57,7 +57,7 @@ pub record Range (logs slots : ℕ) : Type 0 where
   pub slots-least : 1 ≤ slots
   pub slots-most : slots ≤ 800
 
--- a table in a layout, of so many logs and slots, both in range
+-- a table in a layout, of so many logs and slots, at most 16 and 800
 pub record CountedIn (p : Plan) (b : List ℕ) (logs slots : ℕ) : Type 0 where
   pub logs-are : logs ≡ logsOf b
   pub slots-are : slots ≡ slotsOf b

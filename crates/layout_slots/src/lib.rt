@@ -9,6 +9,7 @@ use layout::places::put_byte;
 use layout::places::put_pair;
 use layout::places::row_offset;
 use layout::places::slot_offset;
+use octets::bytes32;
 use octets::is_zero;
 ghost use mathlib.Core.Path.{_≡_};
 ghost use Prim.Native.Nat.{_≤_, _<_};
@@ -117,8 +118,10 @@ pub fn write_slot(
     put_byte(part, 1, 0);
     put_pair(part, 2, next);
     put_u64(part, 4, position);
-    octets::put(part, 12, value);
-    octets::put(part, 44, digest);
+    let value_bytes = bytes32(value);
+    octets::put(part, 12, &value_bytes);
+    let digest_bytes = bytes32(digest);
+    octets::put(part, 44, &digest_bytes);
 }
 
 // An entry, or a free slot, into slot s.

@@ -4,20 +4,22 @@ use mathlib.Core.Path.{_≡_, refl, sym, ap, _∙_}
 use mathlib.Core.List.{List, [], _∷_}
 use mathlib.Core.Option.{Option, none, some, Option·none-ne-some, Option·some-ne-none, Option·some-injective}
 use native.Mathlib.Omega.{arith}
+use native.Mathlib.Decide.{ℕ-discrete}
 use lib.ListN.{length, take, getElem?, length-set}
 use lib.Seq.{getD-set-same}
 use Rattle.a2m.specs.Call.{Call, append, advance, truncate, lookup, end, refused, done, Effect, replies, after, receiptIn, Wide}
 use Rattle.survey.specs.Requests.{madeOf}
 use Rattle.a2m.specs.NewEntry.{newEntry}
-use Rattle.model.specs.Log.{freshLog, entered, cutAt}
+use Rattle.model.specs.Log.{Log, freshLog, entered, cutAt}
 use Rattle.model.specs.Model.{Rules, Model, logAt, modelDone, modelAccept, modelStep}
-use Rattle.model.specs.Claim.{Turn, modelTurn, callAt, replyAt, ShowsAt, SkipsAt}
+use Rattle.model.specs.Claim.{Turn, modelTurn, callAt, replyAt, ShowsAt, SkipsAt, ForgetsAt}
 use Rattle.model.proofs.Turns.{WideTurn, turn-so, Each}
 use Rattle.survey.proofs.RequestLaws.{made-step, unmade-state}
-use Rattle.model.proofs.Requests.{book-is}
+use Rattle.model.proofs.Requests.{request-is}
 use Rattle.model.proofs.Represents.{Sound}
 use Rattle.model.proofs.Passed.{Stepped, turned, taken, stepped}
 use Rattle.model.proofs.Sound.{step-sound}
+use Rattle.model.proofs.Changes.{Did, did, did-low}
 use Rattle.model.proofs.Later.{Later, later-refl, after-later}
 use Rattle.model.proofs.Entries.{EntryAt, AllFit, step-fits}
 use Rattle.model.proofs.Shown.{step-shown}
@@ -121,7 +123,7 @@ at-call b ts j c h = go (getElem? ts j) refl
     go (some t) e =
         let m : madeOf (t .request) ≡ some c = rw (callAt, e) at h in
         let a = at-turn b ts j t e in
-        let s : modelTurn (after modelTurn b (take j ts)) t ≡ modelStep (t .rules) (after modelTurn b (take j ts)) c = book-is (t .rules) _ (t .request) ∙ made-step (modelStep (t .rules)) _ (t .request) c m in
+        let s : modelTurn (after modelTurn b (take j ts)) t ≡ modelStep (t .rules) (after modelTurn b (take j ts)) c = request-is (t .rules) _ (t .request) ∙ made-step (modelStep (t .rules)) _ (t .request) c m in
         record { turn = t; there = e; makes = m; next = a .next ∙ ap (λ (o : Effect Model). o .state) s; reply = a .reply ∙ ap (λ (o : Effect Model). o .reply) s }
 
 -- one that makes no call leaves the model as it was
@@ -139,7 +141,7 @@ at-none b ts j h = go (getElem? ts j) refl
     go none e = ap (after modelTurn b) (take-none ts j e)
     go (some t) e =
         let m : madeOf (t .request) ≡ none = rw (callAt, e) at h in
-        at-turn b ts j t e .next ∙ ap (λ (o : Effect Model). o .state) (book-is (t .rules) _ (t .request)) ∙ unmade-state (modelStep (t .rules)) _ (t .request) m
+        at-turn b ts j t e .next ∙ ap (λ (o : Effect Model). o .state) (request-is (t .rules) _ (t .request)) ∙ unmade-state (modelStep (t .rules)) _ (t .request) m
 
 -- what a receipt shows assigned, the model has then
 pub at-shown : (b : Model) → Keeps b → (ts : List Turn) → Each WideTurn ts → (i g n : ℕ) (v d : List ℕ) → ShowsAt (replies modelTurn b ts) i g n v d → EntryAt (logAt (after modelTurn b (take i ts) .logs) g) n v d
@@ -176,3 +178,24 @@ pub skipping : (b : Model) (ts : List Turn) (j g p : ℕ) (k : SkipsAt b ts (rep
 skipping b ts j g p k =
     let a = at-call b ts j (advance g (k .n) (k .given) (k .value)) (k .call) in
     ap (λ (x : Model). logAt (x .logs) g) (a .next) ∙ advanced (a .turn .rules) (after modelTurn b (take j ts)) g (k .n) (k .given) (k .value) (k .low) (k .high) (sym (a .reply) ∙ k .accepted)
+
+-- what call j makes of log g
+pub at-did : (b : Model) (ts : List Turn) (j g : ℕ) (c : Call) (o : At b ts j c) → Did (o .turn .rules) (after modelTurn b (take j ts)) g c (logAt (after modelTurn b (take (suc j) ts) .logs) g)
+at-did b ts j g c o = rw (o .next) (did (o .turn .rules) (after modelTurn b (take j ts)) g c)
+
+-- where no accepted truncate between calls i and j goes past n, the low stays at n or below
+module _ (b : Model) (ts : List Turn) (i j g n : ℕ) (kept : (k m : ℕ) → i < k → k < j → ForgetsAt ts (replies modelTurn b ts) k g m → m ≤ n) where
+  abbrev at : ℕ → Log
+  at k = logAt (after modelTurn b (take k ts) .logs) g
+
+  pub low-stays : at (suc i) .low ≤ n → (k : ℕ) → i < k → k ≤ j → at k .low ≤ n
+  low-stays low zero lo hi = absurd (omega arith)
+  low-stays low (suc k) lo hi = go (ℕ-discrete k i) (λ (q : i < k). low-stays low k q (omega arith)) (callAt ts k) refl
+    where
+      go : Dec (k ≡ i) → (i < k → at k .low ≤ n) → (o : Option Call) → callAt ts k ≡ o → at (suc k) .low ≤ n
+      go (yes e) below o f = rw e low
+      go (no z) below none f = rw (at-none b ts k f) (below (omega arith))
+      go (no z) below (some c) f =
+          let o = at-call b ts k c f in
+          did-low _ _ g c _ (at-did b ts k g c o) n (below (omega arith))
+          (λ (m L H : ℕ) (t : c ≡ truncate g m) (a : modelStep (o .turn .rules) (after modelTurn b (take k ts)) c .reply ≡ done L H). kept k m (omega arith) hi (record { call = f ∙ ap some t; low = L; high = H; accepted = o .reply ∙ a }))

@@ -30,10 +30,10 @@ use Rattle.model.proofs.Accepted.{Attests, AttestsTurn}
 
 -- ---- a gap of a log: a position from L to H without an entry
 
-record Gap (l : Log) (n : ℕ) : Type 0 where
-  low : l .low ≤ n
-  high : n ≤ l .high
-  empty : (e : Entry) → In e (l .entries) → e .position ≢ n
+pub record Gap (l : Log) (n : ℕ) : Type 0 where
+  pub low : l .low ≤ n
+  pub high : n ≤ l .high
+  pub empty : (e : Entry) → In e (l .entries) → e .position ≢ n
 
 skipped-gap : (l : Log) → LogOk l → (n : ℕ) (e : Entry) → Means l n (skipped e) → Gap l n
 skipped-gap l ok n e h =
@@ -93,7 +93,7 @@ module _ (ru : Rules) (t : Attests ru) (b : Model) (keeps : Keeps b) where
 
 -- ---- along the list
 
-at-gap : (b : Model) → Keeps b → (ts : List Turn) → Each WideTurn ts → Each AttestsTurn ts → (j g n : ℕ) → SkippedAt (replies modelTurn b ts) j g n → Gap (logAt (after modelTurn b (take j ts) .logs) g) n
+pub at-gap : (b : Model) → Keeps b → (ts : List Turn) → Each WideTurn ts → Each AttestsTurn ts → (j g n : ℕ) → SkippedAt (replies modelTurn b ts) j g n → Gap (logAt (after modelTurn b (take j ts) .logs) g) n
 unfolding after replies
 at-gap b k [] w a j g n s = absurd (Option·none-ne-some (s .receipt) (s .there))
 at-gap b k (t ∷ ts) w a zero g n s =

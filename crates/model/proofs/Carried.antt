@@ -27,7 +27,7 @@ use Rattle.model.specs.Log.{freshLog}
 use Rattle.model.specs.Model.{rules01, rules, Model}
 use Rattle.model.specs.ModelOf.{modelOf}
 use Rattle.model.specs.Claim.{Turn, asking, by, modelTurn, ListClaim}
-use Rattle.model.specs.Carried.{book01, carriedTurns, Reached01}
+use Rattle.model.specs.Carried.{model01, carriedTurns, Reached01}
 use Rattle.model.proofs.OfImage.{image-stands, image-list}
 use Rattle.model.proofs.Turns.{Each, replies-by, after-by}
 use Rattle.model.proofs.Along.{Keeps, after-fixed}
@@ -73,29 +73,29 @@ pub length-none : (old : List ℕ) (n size : ℕ) → carryRefusal old n ≡ con
 length-none old n size e h = e ∙ ap (λ (t : Bool). cond {A = Option ℕ} t none (some 7)) (eq-eqb n size h)
 
 -- a table that says the book after some calls has its G and S, so a carry is refused only for another buffer length
-pub said-answer : (G S keeper : ℕ) (key : List ℕ) (ts : List Turn) (old : List ℕ) → whole01 old ≡ true → Stands (read01 old) (after modelTurn (book01 G S keeper key) ts)
+pub said-answer : (G S keeper : ℕ) (key : List ℕ) (ts : List Turn) (old : List ℕ) → whole01 old ≡ true → Stands (read01 old) (after modelTurn (model01 G S keeper key) ts)
     → (n : ℕ) → carryRefusal old n ≡ cond (eqb n (tableSize G S)) none (some 7)
 said-answer G S keeper key ts old w s n =
-    let f = after-fixed (book01 G S keeper key) ts in
+    let f = after-fixed (model01 G S keeper key) ts in
     let logs : logsOf old ≡ G = sym (length-rows01 old) ∙ s .says .count ∙ f .count ∙ length-map (replicate G 0) freshLog ∙ length-replicate G 0 in
     let slots : slotsOf old ≡ S = sym (length-slots01 old) ∙ s .says .size ∙ f .size in
     carry-sized old n w ∙ ap₂ (λ (g k : ℕ). cond {A = Option ℕ} (eqb n (tableSize g k)) none (some 7)) logs slots
 
 module _ (G S keeper : ℕ) (key : List ℕ) (cs₁ : List Call) (rs₁ : List Reply) (old : List ℕ) (r : Reached01 G S keeper key cs₁ rs₁ old) where
-  pub reached : Stands (read01 old) (after modelTurn (book01 G S keeper key) (by rules01 cs₁))
-  reached = subst (λ (b : Model). Stands (read01 old) b) (r .says ∙ sym (after-by rules01 (book01 G S keeper key) cs₁)) (old-stands old (r .bytes) (r .whole))
+  pub reached : Stands (read01 old) (after modelTurn (model01 G S keeper key) (by rules01 cs₁))
+  reached = subst (λ (b : Model). Stands (read01 old) b) (r .says ∙ sym (after-by rules01 (model01 G S keeper key) cs₁)) (old-stands old (r .bytes) (r .whole))
 
   -- the book's answer to the carry: 1 never occurs
   pub carry-answer : (n : ℕ) → carryRefusal old n ≡ cond (eqb n (tableSize G S)) none (some 7)
   carry-answer = said-answer G S keeper key (by rules01 cs₁) old (r .whole) reached
 
   keeper-fits : keeper < 2 ^ 64
-  keeper-fits = subst (λ (k : ℕ). k < 2 ^ 64) (reached .says .keeper ∙ after-fixed (book01 G S keeper key) (by rules01 cs₁) .keeper) (reached .fits .keeper)
+  keeper-fits = subst (λ (k : ℕ). k < 2 ^ 64) (reached .says .keeper ∙ after-fixed (model01 G S keeper key) (by rules01 cs₁) .keeper) (reached .fits .keeper)
 
   -- "Demand 3's list may hold one carry: it counts from the old formatting, the calls before the carry going by 01's rules."
   pub carriedClaim : AllWide cs₁ → (lent : List ℕ) → length lent ≡ tableSize G S → (qs : List Request) → AllWideRequests qs
-      → ListClaim (book01 G S keeper key) (carriedTurns cs₁ qs) (rs₁ ++ replies (requestStep tableStep) (carryBytes old lent) qs) (works modelTurn (book01 G S keeper key) (by rules01 cs₁) ++ works (requestStep tableStep) (carryBytes old lent) qs) (readTable (after (requestStep tableStep) (carryBytes old lent) qs))
+      → ListClaim (model01 G S keeper key) (carriedTurns cs₁ qs) (rs₁ ++ replies (requestStep tableStep) (carryBytes old lent) qs) (works modelTurn (model01 G S keeper key) (by rules01 cs₁) ++ works (requestStep tableStep) (carryBytes old lent) qs) (readTable (after (requestStep tableStep) (carryBytes old lent) qs))
   carriedClaim w₁ lent e qs w₂ =
-      let b = book01 G S keeper key in
+      let b = model01 G S keeper key in
       let n = length-none old (length lent) (tableSize G S) (carry-answer (length lent)) e in
       rw (r .answers ∙ sym (replies-by rules01 b cs₁)) (carry-claim b (new-keeps S keeper key (replicate G 0) keeper-fits) (by rules01 cs₁) (proper01 cs₁ w₁) old reached lent n qs w₂)

@@ -27,9 +27,9 @@ use Rattle.model.specs.Model.{rules01, Model, modelStep}
 use Rattle.model.specs.ModelOf.{modelOf}
 use Rattle.model.specs.Claim.{by, modelTurn, ListClaim}
 use Rattle.model.specs.Calls01.{format01, step01, AllGiveBytes}
-use Rattle.model.specs.Carried.{book01, carriedTurns, Reached01}
+use Rattle.model.specs.Carried.{model01, carriedTurns, Reached01}
 use Rattle.model.proofs.OfWhole.{rep-model}
-use Rattle.model.proofs.NoReserves.{book-unreserved}
+use Rattle.model.proofs.NoReserves.{unreserved01}
 use Rattle.model.proofs.Turns.{replies-by, after-by}
 use Rattle.model.proofs.ImageClaim.{proper01, new-keeps}
 use Rattle.model.proofs.Fresh.{formatted-rep, fresh-sound}
@@ -48,17 +48,17 @@ stands-now : (m : Image) (b : Model) → Stands01 m b → Stands m b
 stands-now m b s = record { says = s .says; sound = s .sound; backed = backed01 m b (s .says) (s .sound) (s .unreserved); fits = s .fits; counts = s .counts }
 
 module _ (G S keeper : ℕ) (key : List ℕ) (counts : Range G S) (k64 : keeper < 2 ^ 64) (k32 : length key ≡ 32) where
-  abbrev book : Model
-  book = book01 G S keeper key
+  abbrev start : Model
+  start = model01 G S keeper key
 
   abbrev first : Image
   first = formatted S keeper key (replicate G 0)
 
-  format-stands : Stands01 first book
+  format-stands : Stands01 first start
   format-stands = record {
     says = formatted-rep S keeper key (replicate G 0) (counts .slots-least);
     sound = fresh-sound S keeper key (replicate G 0);
-    unreserved = book-unreserved G S keeper key;
+    unreserved = unreserved01 G S keeper key;
     fits = formatted-fits S keeper key (replicate G 0) G (length-replicate {A = ℕ} G 0) counts (rw (sum-none G) (omega arith)) k64 k32;
     counts = rw (length-map (replicate G 0) freshLog, length-replicate {A = ℕ} G 0) counts;
   }
@@ -68,29 +68,29 @@ module _ (G S keeper : ℕ) (key : List ℕ) (counts : Range G S) (k64 : keeper 
   format-octets k = record { key = k; slots = every-tabulate SlotOctets S (λ i. freeSlot (queuedNext S (suc i))) (freeSlot 0) (free-octets 0) (λ i h. free-octets (queuedNext S (suc i))) }
 
   module _ (cs : List Call) (w : AllWide cs) where
-    F : FollowsAll01 first book cs
-    F = list-follows01 first book format-stands cs w
+    F : FollowsAll01 first start cs
+    F = list-follows01 first start format-stands cs w
 
     -- the table that document 01's calls leave
     abbrev old : List ℕ
     old = after step01 (format01 G S keeper key) cs
 
     reached-image : read01 old ≡ F .image
-    reached-image = ap read01 (F .bytes) ∙ read-back (F .image) (after (modelStep rules01) book cs) (F .stands)
+    reached-image = ap read01 (F .bytes) ∙ read-back (F .image) (after (modelStep rules01) start cs) (F .stands)
 
-    pub reached-stands : Stands (read01 old) (after modelTurn book (by rules01 cs))
-    reached-stands = rw (reached-image, after-by rules01 book cs) (stands-now (F .image) (after (modelStep rules01) book cs) (F .stands))
+    pub reached-stands : Stands (read01 old) (after modelTurn start (by rules01 cs))
+    reached-stands = rw (reached-image, after-by rules01 start cs) (stands-now (F .image) (after (modelStep rules01) start cs) (F .stands))
 
     -- the calls answer as the plain book by document 01's rules
-    pub answers01 : replies step01 (format01 G S keeper key) cs ≡ replies (modelStep rules01) book cs
+    pub answers01 : replies step01 (format01 G S keeper key) cs ≡ replies (modelStep rules01) start cs
     answers01 = F .answers
 
     -- and leave a table that says it, and that document 01 calls whole
-    pub says01 : modelOf (read01 old) ≡ after (modelStep rules01) book cs
-    says01 = ap modelOf reached-image ∙ rep-model (F .image) (after (modelStep rules01) book cs) (F .stands .says)
+    pub says01 : modelOf (read01 old) ≡ after (modelStep rules01) start cs
+    says01 = ap modelOf reached-image ∙ rep-model (F .image) (after (modelStep rules01) start cs) (F .stands .says)
 
     pub stays-whole01 : whole01 old ≡ true
-    stays-whole01 = ap whole01 (F .bytes) ∙ whole-written (F .image) (after (modelStep rules01) book cs) (F .stands)
+    stays-whole01 = ap whole01 (F .bytes) ∙ whole-written (F .image) (after (modelStep rules01) start cs) (F .stands)
 
     -- so `Carried: carriedClaim` speaks of what they do: where key and values are bytes, the table is one that `Reached01` asks for
     pub calls01 : Bytes key → AllGiveBytes cs → Reached01 G S keeper key cs (replies step01 (format01 G S keeper key) cs) old
@@ -102,7 +102,7 @@ module _ (G S keeper : ℕ) (key : List ℕ) (counts : Range G S) (k64 : keeper 
 
     -- one list of demand 3, with document 01's calls and the carry in it
     pub carriedBytes : (lent : List ℕ) → length lent ≡ tableSize G S → (qs : List Request) → AllWideRequests qs
-        → ListClaim book (carriedTurns cs qs) (replies step01 (format01 G S keeper key) cs ++ replies (requestStep tableStep) (carryBytes old lent) qs) (works modelTurn book (by rules01 cs) ++ works (requestStep tableStep) (carryBytes old lent) qs) (readTable (after (requestStep tableStep) (carryBytes old lent) qs))
+        → ListClaim start (carriedTurns cs qs) (replies step01 (format01 G S keeper key) cs ++ replies (requestStep tableStep) (carryBytes old lent) qs) (works modelTurn start (by rules01 cs) ++ works (requestStep tableStep) (carryBytes old lent) qs) (readTable (after (requestStep tableStep) (carryBytes old lent) qs))
     carriedBytes lent e qs w₂ =
         let n = length-none old (length lent) (tableSize G S) (answer01 (length lent)) e in
-        rw (answers01 ∙ sym (replies-by rules01 book cs)) (carry-claim book (new-keeps S keeper key (replicate G 0) k64) (by rules01 cs) (proper01 cs w) old reached-stands lent n qs w₂)
+        rw (answers01 ∙ sym (replies-by rules01 start cs)) (carry-claim start (new-keeps S keeper key (replicate G 0) k64) (by rules01 cs) (proper01 cs w) old reached-stands lent n qs w₂)

@@ -18,7 +18,7 @@ use Rattle.model.specs.ModelOf.{modelOf}
 use Rattle.model.specs.Claim.{asking, by, modelTurn, ListClaim}
 use Rattle.model.specs.Program.{programStep}
 use Rattle.model.specs.Calls01.{format01, step01}
-use Rattle.model.specs.Carried.{book01, carriedTurns, Reached01}
+use Rattle.model.specs.Carried.{model01, carriedTurns, Reached01}
 use Rattle.model.proofs.TableClaim.{Stands}
 use Rattle.model.proofs.Program.{SameList, same-list}
 use Rattle.model.proofs.Carried.{carry-writes, old-stands, later, length-none, reached, carry-answer, carriedClaim}
@@ -35,7 +35,7 @@ laterProgram old lent h e qs w =
     rw (t .answers, t .blocks, t .bytes) (later old lent h e qs w)
 
 pub reachedProgram : (G S keeper : ℕ) (key : List ℕ) (cs₁ : List Call) (rs₁ : List Reply) (old : List ℕ) → Reached01 G S keeper key cs₁ rs₁ old → AllWide cs₁ → (lent : List ℕ) → length lent ≡ tableSize G S → (qs : List Request) → AllWideRequests qs
-    → ListClaim (book01 G S keeper key) (carriedTurns cs₁ qs) (rs₁ ++ replies (requestStep programStep) (carryBytes old lent) qs) (works modelTurn (book01 G S keeper key) (by rules01 cs₁) ++ works (requestStep programStep) (carryBytes old lent) qs) (readTable (after (requestStep programStep) (carryBytes old lent) qs))
+    → ListClaim (model01 G S keeper key) (carriedTurns cs₁ qs) (rs₁ ++ replies (requestStep programStep) (carryBytes old lent) qs) (works modelTurn (model01 G S keeper key) (by rules01 cs₁) ++ works (requestStep programStep) (carryBytes old lent) qs) (readTable (after (requestStep programStep) (carryBytes old lent) qs))
 reachedProgram G S keeper key cs₁ rs₁ old r w₁ lent e qs w₂ =
     let n = length-none old (length lent) (tableSize G S) (carry-answer G S keeper key cs₁ rs₁ old r (length lent)) e in
     let t = copy-same old lent n _ (reached G S keeper key cs₁ rs₁ old r) qs w₂ in
@@ -46,8 +46,8 @@ module _ (G S keeper : ℕ) (key : List ℕ) (counts : Range G S) (k64 : keeper 
   old = after step01 (format01 G S keeper key) cs₁
 
   pub carriedProgram : (lent : List ℕ) → length lent ≡ tableSize G S → (qs : List Request) → AllWideRequests qs
-      → ListClaim (book01 G S keeper key) (carriedTurns cs₁ qs) (replies step01 (format01 G S keeper key) cs₁ ++ replies (requestStep programStep) (carryBytes old lent) qs)
-      (works modelTurn (book01 G S keeper key) (by rules01 cs₁) ++ works (requestStep programStep) (carryBytes old lent) qs) (readTable (after (requestStep programStep) (carryBytes old lent) qs))
+      → ListClaim (model01 G S keeper key) (carriedTurns cs₁ qs) (replies step01 (format01 G S keeper key) cs₁ ++ replies (requestStep programStep) (carryBytes old lent) qs)
+      (works modelTurn (model01 G S keeper key) (by rules01 cs₁) ++ works (requestStep programStep) (carryBytes old lent) qs) (readTable (after (requestStep programStep) (carryBytes old lent) qs))
   carriedProgram lent e qs w₂ =
       let n = length-none old (length lent) (tableSize G S) (answer01 G S keeper key counts k64 k32 cs₁ w₁ (length lent)) e in
       let t = copy-same old lent n _ (reached-stands G S keeper key counts k64 k32 cs₁ w₁) qs w₂ in

@@ -12,10 +12,10 @@ use Rattle.survey.specs.Requests.{Request, callOf, early, requestStep}
 use Rattle.survey.proofs.RequestLaws.{passed-step, away-step}
 use Rattle.model.specs.Log.{freshLog}
 use Rattle.model.specs.Model.{rules, Model, modelStep}
-use Rattle.model.specs.Book.{bookStep}
+use Rattle.model.specs.ModelRequests.{modelRequest}
 use Rattle.model.specs.EitherOrder.{logAsked, Accepted, BothAccepted}
 use Rattle.model.proofs.Passed.{Stepped, turned, taken, stepped}
-use Rattle.model.proofs.Requests.{book-is}
+use Rattle.model.proofs.Requests.{request-is}
 use Rattle.model.proofs.Along.{step-fixed}
 use Rattle.model.proofs.SameLog.{Same, same-sym, same-trans, others, Alike, accept-alike}
 
@@ -87,24 +87,24 @@ accepted-made step s q a = go (early q) refl
     go (some k) e = absurd (a k (ap (λ (o : Effect _). o .reply) (away-step step s q k e)))
 
 pub record Commutes (b : Model) (q p : Request) : Type 0 where
-  pub one : bookStep rules b q .reply ≡ bookStep rules (bookStep rules b p .state) q .reply
-  pub oneWork : bookStep rules b q .blocks ≡ bookStep rules (bookStep rules b p .state) q .blocks
-  pub two : bookStep rules b p .reply ≡ bookStep rules (bookStep rules b q .state) p .reply
-  pub twoWork : bookStep rules b p .blocks ≡ bookStep rules (bookStep rules b q .state) p .blocks
-  pub state : bookStep rules (bookStep rules b q .state) p .state ≡ bookStep rules (bookStep rules b p .state) q .state
+  pub one : modelRequest rules b q .reply ≡ modelRequest rules (modelRequest rules b p .state) q .reply
+  pub oneWork : modelRequest rules b q .blocks ≡ modelRequest rules (modelRequest rules b p .state) q .blocks
+  pub two : modelRequest rules b p .reply ≡ modelRequest rules (modelRequest rules b q .state) p .reply
+  pub twoWork : modelRequest rules b p .blocks ≡ modelRequest rules (modelRequest rules b q .state) p .blocks
+  pub state : modelRequest rules (modelRequest rules b q .state) p .state ≡ modelRequest rules (modelRequest rules b p .state) q .state
 
-pub commutes : (b : Model) (q p : Request) → BothAccepted (bookStep rules) logAsked b q p → Commutes b q p
+pub commutes : (b : Model) (q p : Request) → BothAccepted (modelRequest rules) logAsked b q p → Commutes b q p
 commutes b q p a =
-    let made : (m : Model) (x : Request) → Accepted (bookStep rules m x .reply) → early x ≡ none = λ (m : Model) (x : Request) (h : Accepted (bookStep rules m x .reply)). accepted-made (modelStep rules) m x (subst (λ (o : Effect Model). Accepted (o .reply)) (book-is rules m x) h) in
-    let on : (x : Request) → early x ≡ none → (m : Model) → bookStep rules m x ≡ modelStep rules m (callOf x) = λ (x : Request) (h : early x ≡ none) (m : Model). book-is rules m x ∙ passed-step (modelStep rules) m x h in
+    let made : (m : Model) (x : Request) → Accepted (modelRequest rules m x .reply) → early x ≡ none = λ (m : Model) (x : Request) (h : Accepted (modelRequest rules m x .reply)). accepted-made (modelStep rules) m x (subst (λ (o : Effect Model). Accepted (o .reply)) (request-is rules m x) h) in
+    let on : (x : Request) → early x ≡ none → (m : Model) → modelRequest rules m x ≡ modelStep rules m (callOf x) = λ (x : Request) (h : early x ≡ none) (m : Model). request-is rules m x ∙ passed-step (modelStep rules) m x h in
     let eq = on q (made b q (a .first)) in
     let ep = on p (made b p (a .other)) in
     let c = callOf q in
     let d = callOf p in
     let bc = modelStep rules b c .state in
     let bd = modelStep rules b d .state in
-    let qp : bookStep rules (bookStep rules b q .state) p ≡ modelStep rules bc d = ep _ ∙ ap (λ (o : Effect Model). modelStep rules (o .state) d) (eq b) in
-    let pq : bookStep rules (bookStep rules b p .state) q ≡ modelStep rules bd c = eq _ ∙ ap (λ (o : Effect Model). modelStep rules (o .state) c) (ep b) in
+    let qp : modelRequest rules (modelRequest rules b q .state) p ≡ modelStep rules bc d = ep _ ∙ ap (λ (o : Effect Model). modelStep rules (o .state) d) (eq b) in
+    let pq : modelRequest rules (modelRequest rules b p .state) q ≡ modelStep rules bd c = eq _ ∙ ap (λ (o : Effect Model). modelStep rules (o .state) c) (ep b) in
     let C = calls-commute b c d (record {
       apart = a .apart;
       first = subst (λ (o : Effect Model). Accepted (o .reply)) (eq b) (a .first);

@@ -12,7 +12,7 @@ use Rattle.a2m.specs.Call.{append, refused, done, replies}
 use Rattle.survey.specs.Requests.{Request, plain}
 use Rattle.model.specs.Log.{lastEntry, entered}
 use Rattle.model.specs.Model.{rules01, rules, Model, newModel, total, lacks, lacksBut, slotRule, modelRefusal, modelDone, modelAccept, modelStep}
-use Rattle.model.specs.Book.{bookStep}
+use Rattle.model.specs.ModelRequests.{modelRequest}
 use Rattle.model.specs.Stage.{requestsOf}
 use Rattle.model.proofs.Stage.{WithinModel}
 
@@ -36,6 +36,6 @@ within : WithinModel start 0 crowded
 unfolding placed zeros be lastEntry entered rules rules01 total lacks lacksBut slotRule modelRefusal modelDone modelAccept modelStep
 within = (λ e. absurd (other e), (λ e. absurd (other e), (λ e. absurd (other e), (λ e p. lit< tt, tt))))
 
-pub crowded-answers : replies (bookStep rules) start crowded ≡ done 1 1 ∷ done 1 2 ∷ refused 16 ∷ done 1 1 ∷ []
+pub crowded-answers : replies (modelRequest rules) start crowded ≡ done 1 1 ∷ done 1 2 ∷ refused 16 ∷ done 1 1 ∷ []
 unfolding placed zeros be lastEntry entered rules rules01 total lacks lacksBut slotRule modelRefusal modelDone modelAccept modelStep replies
 crowded-answers = refl

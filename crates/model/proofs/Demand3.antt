@@ -18,7 +18,7 @@ use Rattle.a2m.specs.TableCalls.{tableStep}
 use Rattle.survey.specs.Requests.{Request, requestStep, AllWideRequests}
 use Rattle.model.specs.Log.{freshLog}
 use Rattle.model.specs.Model.{rules, newModel, total}
-use Rattle.model.specs.Book.{bookStep}
+use Rattle.model.specs.ModelRequests.{modelRequest}
 use Rattle.model.specs.Claim.{asking, ListClaim}
 use Rattle.model.proofs.Backed.{new-backed}
 use Rattle.model.proofs.ImageClaim.{new-keeps}
@@ -52,5 +52,5 @@ module _ (lent : List ℕ) (G S keeper : ℕ) (key reserves : List ℕ) (k64 : k
   staysWhole qs w = rw bytes-are (table-whole (formatted S keeper key reserves) (newModel S keeper key reserves) stands qs w)
 
   -- request [1]: the number on the status screen and the entries of the plain book make S after every list of requests
-  pub countAlong : (qs : List Request) → AllWideRequests qs → stockOf (after (requestStep tableStep) (formatBytes lent G S keeper key reserves) qs) .count + total (after (bookStep rules) (newModel S keeper key reserves) qs .logs) ≡ S
+  pub countAlong : (qs : List Request) → AllWideRequests qs → stockOf (after (requestStep tableStep) (formatBytes lent G S keeper key reserves) qs) .count + total (after (modelRequest rules) (newModel S keeper key reserves) qs .logs) ≡ S
   countAlong qs w = rw bytes-are (table-count (formatted S keeper key reserves) (newModel S keeper key reserves) stands qs w)

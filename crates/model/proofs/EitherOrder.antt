@@ -17,7 +17,7 @@ use Rattle.a2m.proofs.Clear.{clear}
 use Rattle.survey.specs.Requests.{Request, plain, callOf, early, requestStep, WideRequest, AllWideRequests}
 use Rattle.survey.proofs.RequestLaws.{passed-step}
 use Rattle.model.specs.Model.{rules, Model}
-use Rattle.model.specs.Book.{bookStep}
+use Rattle.model.specs.ModelRequests.{modelRequest}
 use Rattle.model.specs.ModelOf.{modelOf}
 use Rattle.model.specs.Program.{programStep}
 use Rattle.model.specs.EitherOrder.{logAsked, Accepted, BothAccepted, EitherOrder, SameReceipts}
@@ -28,7 +28,7 @@ use Rattle.model.proofs.Commutes.{accepted-made, commutes}
 
 -- ---- a step that answers every list as a model does
 
-module _ (step : List ℕ → Request → Effect (List ℕ)) (b : List ℕ) (m : Model) (answers : (qs : List Request) → AllWideRequests qs → replies step b qs ≡ replies (bookStep rules) m qs) (blocks : (qs : List Request) → AllWideRequests qs → works step b qs ≡ works (bookStep rules) m qs) where
+module _ (step : List ℕ → Request → Effect (List ℕ)) (b : List ℕ) (m : Model) (answers : (qs : List Request) → AllWideRequests qs → replies step b qs ≡ replies (modelRequest rules) m qs) (blocks : (qs : List Request) → AllWideRequests qs → works step b qs ≡ works (modelRequest rules) m qs) where
   pub as-model : (q p : Request) → WideRequest q → WideRequest p → BothAccepted step logAsked b q p → EitherOrder step AllWideRequests b q p
   unfolding replies works
   as-model q p wq wp a =
@@ -51,9 +51,9 @@ module _ (step : List ℕ → Request → Effect (List ℕ)) (b : List ℕ) (m :
         two = ap (at 0) pq ∙ C .two ∙ sym (ap (at 1) qp);
         twoWork = ap (of 0) kpq ∙ C .twoWork ∙ sym (ap (of 1) kqp);
         later = λ (qs : List Request) (w : AllWideRequests qs).
-            ap (drop 2) (answers (q ∷ p ∷ qs) (wq, (wp, w))) ∙ ap (λ (x : Model). replies (bookStep rules) x qs) (C .state) ∙ sym (ap (drop 2) (answers (p ∷ q ∷ qs) (wp, (wq, w))));
+            ap (drop 2) (answers (q ∷ p ∷ qs) (wq, (wp, w))) ∙ ap (λ (x : Model). replies (modelRequest rules) x qs) (C .state) ∙ sym (ap (drop 2) (answers (p ∷ q ∷ qs) (wp, (wq, w))));
         laterWork = λ (qs : List Request) (w : AllWideRequests qs).
-            ap (drop 2) (blocks (q ∷ p ∷ qs) (wq, (wp, w))) ∙ ap (λ (x : Model). works (bookStep rules) x qs) (C .state) ∙ sym (ap (drop 2) (blocks (p ∷ q ∷ qs) (wp, (wq, w))));
+            ap (drop 2) (blocks (q ∷ p ∷ qs) (wq, (wp, w))) ∙ ap (λ (x : Model). works (modelRequest rules) x qs) (C .state) ∙ sym (ap (drop 2) (blocks (p ∷ q ∷ qs) (wp, (wq, w))));
       }
 
 -- ---- bytes
@@ -78,10 +78,10 @@ module _ (b : List ℕ) (h : Bytes b) where
   abbrev M : Model
   M = modelOf (readTable b)
 
-  table-answers : whole b ≡ true → (qs : List Request) → AllWideRequests qs → replies (requestStep tableStep) b qs ≡ replies (bookStep rules) M qs
+  table-answers : whole b ≡ true → (qs : List Request) → AllWideRequests qs → replies (requestStep tableStep) b qs ≡ replies (modelRequest rules) M qs
   table-answers w qs wide = whole-list b h w qs wide .answers ∙ replies-asking rules M qs
 
-  table-blocks : whole b ≡ true → (qs : List Request) → AllWideRequests qs → works (requestStep tableStep) b qs ≡ works (bookStep rules) M qs
+  table-blocks : whole b ≡ true → (qs : List Request) → AllWideRequests qs → works (requestStep tableStep) b qs ≡ works (modelRequest rules) M qs
   table-blocks w qs wide = whole-list b h w qs wide .blocks ∙ works-asking rules M qs
 
   -- request [14]: two requests, be they among the five calls or by survey and reading

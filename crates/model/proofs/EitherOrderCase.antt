@@ -15,13 +15,13 @@ use Rattle.a2m.specs.TableCalls.{tableStep}
 use Rattle.survey.specs.Requests.{Request, plain, closes, requestStep}
 use Rattle.model.specs.Log.{lastEntry, entered}
 use Rattle.model.specs.Model.{rules01, rules, Model, newModel, total, lacks, lacksBut, slotRule, modelRefusal, modelDone, modelAccept, modelStep}
-use Rattle.model.specs.Book.{unless}
+use Rattle.model.specs.ModelRequests.{unless}
 use Rattle.model.specs.Claim.{asking, modelTurn}
 use Rattle.model.specs.EitherOrder.{logAsked, Accepted, BothAccepted}
 use Rattle.model.proofs.Demand3.{listClaim}
 
-abbrev book : Model
-book = newModel 4 7 (zeros 32) (0 ∷ 0 ∷ [])
+abbrev start : Model
+start = newModel 4 7 (zeros 32) (0 ∷ 0 ∷ [])
 
 abbrev rain : Request
 rain = plain (append 0 (placed 41))
@@ -29,11 +29,11 @@ rain = plain (append 0 (placed 41))
 abbrev stage : Request
 stage = closes 1 0 (placed 42)
 
-rain-first : replies modelTurn book (asking rules (rain ∷ stage ∷ [])) ≡ done 1 1 ∷ done 1 (2 ^ 40 - 1) ∷ []
+rain-first : replies modelTurn start (asking rules (rain ∷ stage ∷ [])) ≡ done 1 1 ∷ done 1 (2 ^ 40 - 1) ∷ []
 unfolding placed zeros be lastEntry entered rules rules01 total lacks lacksBut slotRule modelRefusal modelDone modelAccept modelStep unless replies
 rain-first = refl
 
-stage-first : replies modelTurn book (asking rules (stage ∷ rain ∷ [])) ≡ done 1 (2 ^ 40 - 1) ∷ done 1 1 ∷ []
+stage-first : replies modelTurn start (asking rules (stage ∷ rain ∷ [])) ≡ done 1 (2 ^ 40 - 1) ∷ done 1 1 ∷ []
 unfolding placed zeros be lastEntry entered rules rules01 total lacks lacksBut slotRule modelRefusal modelDone modelAccept modelStep unless replies
 stage-first = refl
 

@@ -10,7 +10,7 @@ use Rattle.survey.specs.Requests.{Request, callOf, requestStep, WideRequest, Al
 use Rattle.a2m.specs.ImageCalls.{imageStep}
 use Rattle.model.specs.Log.{freshLog}
 use Rattle.model.specs.Model.{rules01, rules, Model, newModel, logAt, modelStep}
-use Rattle.model.specs.Book.{bookStep}
+use Rattle.model.specs.ModelRequests.{modelRequest}
 use Rattle.model.specs.Claim.{Turn, asking, by, modelTurn, RowSays, ListClaim}
 use Rattle.model.proofs.Represents.{Rep, Sound}
 use Rattle.model.proofs.Reading.{entries-are}
@@ -24,7 +24,7 @@ use Rattle.model.proofs.Remembers.{model-remembers}
 use Rattle.model.proofs.Apart.{model-apart}
 use Rattle.model.proofs.Accepted.{Attests, attests01, attests, AttestsTurn, model-verified}
 use Rattle.survey.proofs.RequestLaws.{steps-so}
-use Rattle.model.proofs.Requests.{book-is}
+use Rattle.model.proofs.Requests.{request-is}
 use Rattle.model.proofs.Rising.{model-rising, model-closed}
 use Rattle.model.proofs.Once.{meets-once}
 use Rattle.model.proofs.Untorn.{Calm, calm01, calm, CalmTurn, model-untorn}
@@ -36,25 +36,25 @@ record AgreeOn (x : Effect Image) (y : Effect Model) : Type 0 where
   sound : Sound (y .state)
   backed : Backed (y .state)
 
-request-agrees : (m : Image) (b : Model) → Rep m b → Sound b → Backed b → (q : Request) → AgreeOn (requestStep imageStep m q) (bookStep rules b q)
+request-agrees : (m : Image) (b : Model) → Rep m b → Sound b → Backed b → (q : Request) → AgreeOn (requestStep imageStep m q) (modelRequest rules b q)
 request-agrees m b R ok k q =
-    subst (AgreeOn (requestStep imageStep m q)) (sym (book-is rules b q))
+    subst (AgreeOn (requestStep imageStep m q)) (sym (request-is rules b q))
     (steps-so imageStep (modelStep rules) m b q AgreeOn (λ (n : ℕ) (h : 7 ≤ n). record { agree = record { reply = refl; blocks = refl; state = R }; sound = ok; backed = k })
     (λ (w : WideRequest q → Wide (callOf q)). record { agree = step-agrees m b R ok k (callOf q); sound = step-sound rules b ok (callOf q); backed = step-backed b k (callOf q) }))
 
 -- the answers to a list, and the states after it
 pub record AgreeAll (m : Image) (b : Model) (qs : List Request) : Type 0 where
-  pub answers : replies (requestStep imageStep) m qs ≡ replies (bookStep rules) b qs
-  pub blocks : works (requestStep imageStep) m qs ≡ works (bookStep rules) b qs
-  pub state : Rep (after (requestStep imageStep) m qs) (after (bookStep rules) b qs)
-  pub sound : Sound (after (bookStep rules) b qs)
+  pub answers : replies (requestStep imageStep) m qs ≡ replies (modelRequest rules) b qs
+  pub blocks : works (requestStep imageStep) m qs ≡ works (modelRequest rules) b qs
+  pub state : Rep (after (requestStep imageStep) m qs) (after (modelRequest rules) b qs)
+  pub sound : Sound (after (modelRequest rules) b qs)
 
 pub list-agrees : (m : Image) (b : Model) → Rep m b → Sound b → Backed b → (qs : List Request) → AgreeAll m b qs
 unfolding replies works after
 list-agrees m b R ok k [] = record { answers = refl; blocks = refl; state = R; sound = ok }
 list-agrees m b R ok k (q ∷ qs) =
     let s = request-agrees m b R ok k q in
-    let ih = list-agrees (requestStep imageStep m q .state) (bookStep rules b q .state) (s .agree .state) (s .sound) (s .backed) qs in
+    let ih = list-agrees (requestStep imageStep m q .state) (modelRequest rules b q .state) (s .agree .state) (s .sound) (s .backed) qs in
     record {
       answers = ap₂ {C = List Reply} (λ (x : Reply) (l : List Reply). x ∷ l) (s .agree .reply) (ih .answers);
       blocks = ap₂ {C = List ℕ} (λ (k : ℕ) (l : List ℕ). k ∷ l) (s .agree .blocks) (ih .blocks);
@@ -101,7 +101,7 @@ image-claim b keeps key few ts pt m R k qs w =
     let A = list-agrees m c R (kc .sound) k qs in
     let M = after (requestStep imageStep) m qs in
     let e : replies modelTurn b ts ++ replies (requestStep imageStep) m qs ≡ replies modelTurn b (ts ++ us) = ap (λ (l : List Reply). replies modelTurn b ts ++ l) (A .answers ∙ sym (replies-asking rules c qs)) ∙ sym (replies-on b ts us) in
-    let s : after (bookStep rules) c qs ≡ after modelTurn b (ts ++ us) = sym (after-on b ts us ∙ after-asking rules c qs) in
+    let s : after (modelRequest rules) c qs ≡ after modelTurn b (ts ++ us) = sym (after-on b ts us ∙ after-asking rules c qs) in
     let R1 : Rep M (after modelTurn b (ts ++ us)) = subst (λ (x : Model). Rep M x) s (A .state) in
     let f = after-fixed b (ts ++ us) in
     let size : length (M .slots) ≡ b .size = R1 .size ∙ f .size in

@@ -91,7 +91,7 @@ module _ (b : Model) (keeps : Keeps b) (ts : List Turn) (wide : Each WideTurn ts
 
 -- ---- the list that the program makes on the table of an accepted format
 
-asked-by : (qs : List Request) (i : ℕ) (t : Turn) → getElem? (asking rules qs) i ≡ some t → t .rules ≡ rules
+pub asked-by : (qs : List Request) (i : ℕ) (t : Turn) → getElem? (asking rules qs) i ≡ some t → t .rules ≡ rules
 asked-by [] i t h = absurd (Option·none-ne-some t h)
 asked-by (q ∷ qs) zero t h = ap (λ (x : Turn). x .rules) (sym (Option·some-injective (asks rules q) t h))
 asked-by (q ∷ qs) (suc i) t h = asked-by qs i t h

@@ -14,11 +14,12 @@ pub mod Demand3
 pub mod EitherOrder
 pub mod EitherOrderCase
 pub mod Entries
-pub mod FreeHolds
 pub mod Fresh
+pub mod Gaps
 pub mod History
 pub mod ImageClaim
 pub mod Jumped
+pub mod JumpedCarried
 pub mod Lacking
 pub mod Later
 pub mod Lookups

@@ -6,9 +6,9 @@ use native.Mathlib.Omega.{arith}
 use Rattle.a2m.specs.Call.{Call, Wide, refused, Effect}
 use Rattle.survey.specs.Requests.{Request, callOf, WideRequest}
 use Rattle.model.specs.Model.{rules, Model, modelStep}
-use Rattle.model.specs.Book.{bookStep}
+use Rattle.model.specs.ModelRequests.{modelRequest}
 use Rattle.model.proofs.Untorn.{Lacks, none-not, slot-not, step-not, refused-not}
-use Rattle.model.proofs.Requests.{book-so}
+use Rattle.model.proofs.Requests.{request-so}
 
 lacks-six : Lacks 6 rules
 unfolding rules
@@ -21,5 +21,5 @@ model-answer b call = step-not 6 (λ z. omega arith) (λ z. omega arith) (λ z. 
 not-six : (k : ℕ) → 7 ≤ k → refused k ≢ refused 6
 not-six k h = refused-not k 6 (λ (z : k ≡ 6). omega arith)
 
-pub book-answer : (b : Model) (q : Request) → bookStep rules b q .reply ≢ refused 6
-book-answer b q = book-so rules b q (λ (o : Effect Model). o .reply ≢ refused 6) not-six (λ (w : WideRequest q → Wide (callOf q)). model-answer b (callOf q))
+pub request-answer : (b : Model) (q : Request) → modelRequest rules b q .reply ≢ refused 6
+request-answer b q = request-so rules b q (λ (o : Effect Model). o .reply ≢ refused 6) not-six (λ (w : WideRequest q → Wide (callOf q)). model-answer b (callOf q))

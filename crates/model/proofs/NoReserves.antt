@@ -12,7 +12,7 @@ use borrow.Author.Tests.{eqb-false, lt-leb, le-ltb}
 use Rattle.a2m.specs.Call.{Call, append, advance, truncate, lookup, end, Wide}
 use Rattle.model.specs.Log.{Log, freshLog, entered, cutAt}
 use Rattle.model.specs.Model.{Rules, rules01, rules, slotRule, Model, logAt, total, lacks, lacksBut, isNil, not32, noLog, modelRefusal, modelStep}
-use Rattle.model.specs.Carried.{book01}
+use Rattle.model.specs.Carried.{model01}
 use Rattle.model.proofs.Backed.{Backed}
 use Rattle.model.proofs.Passed.{peel}
 use Rattle.model.proofs.Changes.{Change, same, entering, cutting, step-change}
@@ -85,5 +85,5 @@ replicate-zero zero i = refl
 replicate-zero (suc n) zero = refl
 replicate-zero (suc n) (suc i) = replicate-zero n i
 
-pub book-unreserved : (G S keeper : ℕ) (key : List ℕ) → NoReserves (book01 G S keeper key)
-book-unreserved G S keeper key g = ap (λ (l : Log). l .reserve) (List·getD-map freshLog (replicate G 0) g 0) ∙ replicate-zero G g
+pub unreserved01 : (G S keeper : ℕ) (key : List ℕ) → NoReserves (model01 G S keeper key)
+unreserved01 G S keeper key g = ap (λ (l : Log). l .reserve) (List·getD-map freshLog (replicate G 0) g 0) ∙ replicate-zero G g

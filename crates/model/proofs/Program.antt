@@ -18,7 +18,7 @@ use Rattle.survey.specs.Requests.{Request, callOf, requestStep, WideRequest, Al
 use Rattle.a2m.proofs.Unchanged.{Reads}
 use Rattle.a2m.proofs.Written.{step-written}
 use Rattle.model.specs.Model.{rules, Model, newModel}
-use Rattle.model.specs.Book.{bookStep}
+use Rattle.model.specs.ModelRequests.{modelRequest}
 use Rattle.model.specs.Claim.{asking, ListClaim}
 use Rattle.model.specs.Program.{passedOn, programStep}
 use Rattle.model.proofs.TableClaim.{Stands, in-range, request-stands, request-written}
@@ -77,7 +77,7 @@ same-list m b s [] w = record { answers = refl; blocks = refl; bytes = refl }
 same-list m b s (q ∷ qs) w =
     let e = same-request m b s q in
     let t = request-written m b s q in
-    let ih = same-list (requestStep imageStep m q .state) (bookStep rules b q .state) (request-stands m b s q (w .0)) qs (w .1) in
+    let ih = same-list (requestStep imageStep m q .state) (modelRequest rules b q .state) (request-stands m b s q (w .0)) qs (w .1) in
     record {
       answers = rw (e, t) (ap {B = List Reply} (λ (l : List Reply). requestStep imageStep m q .reply ∷ l) (ih .answers));
       blocks = rw (e, t) (ap {B = List ℕ} (λ (l : List ℕ). requestStep imageStep m q .blocks ∷ l) (ih .blocks));

@@ -1,77 +1,30 @@
 -- The model is no empty one: what a call put at n, a later lookup of n shows assigned, until a truncate goes past n.
-use Prim.Native.Nat.{ℕ, zero, suc, _^_, _≤_, _<_}
+use Prim.Native.Nat.{ℕ, suc, _^_, _<_}
 use native.Mathlib.Nat.{le-refl}
-use mathlib.Core.Path.{_≡_, refl, sym, ap, subst, _∙_}
+use mathlib.Core.Path.{_≡_, refl, sym, ap, _∙_}
 use mathlib.Core.Logic.{inl, inr}
 use mathlib.Core.List.{List, [], _∷_}
-use mathlib.Core.Bool.{Bool, true, false}
-use mathlib.Core.Option.{Option, none, some}
+use mathlib.Core.Option.{none}
 use native.Mathlib.Omega.{arith}
-use native.Mathlib.Decide.{ℕ-discrete}
-use lib.ListN.{length, take, set}
-use lib.Seq.{getD-set-same, getD-set-other}
-use lib.Dec.{leb}
-use borrow.Author.Tests.{leb-true, leb-false, eq-eqb, ne-eqb, le-leb, lt-leb, le-ltb}
+use lib.ListN.{length, take}
+use lib.Seq.{getD-set-same}
+use borrow.Author.Tests.{eq-eqb, ne-eqb, le-leb, lt-leb, le-ltb}
 use Rattle.receipt.specs.Attestation.{Attestation, LOOKUP, receiptBytes, readAttestation}
 use Rattle.receipt.proofs.Fields.{read-receipt}
 use Rattle.layout.specs.Image.{Entry}
-use Rattle.a2m.specs.Call.{Call, append, advance, truncate, lookup, end, refused, done, Effect, Reply, replies, after, receiptIn}
-use Rattle.table.proofs.Lists.{In, in-left, in-right}
-use Rattle.model.specs.Log.{Log, freshLog, keepFrom, entered, cutAt, assigned, standingAmong, standing, kindOf, referenceOf}
+use Rattle.a2m.specs.Call.{Call, append, advance, truncate, lookup, refused, done, Reply, replies, after, receiptIn}
+use Rattle.table.proofs.Lists.{In, in-right}
+use Rattle.model.specs.Log.{Log, freshLog, keepFrom, entered, assigned, standingAmong, standing, kindOf, referenceOf}
 use Rattle.model.specs.Model.{Rules, Model, logAt, modelRefusal, modelReceipt, shownFor, modelLookup, modelDone, modelAccept, modelStep}
-use Rattle.model.specs.Claim.{Turn, modelTurn, callAt, Shows, replyAt, ShowsAt, Stores, Asked}
+use Rattle.model.specs.Claim.{Turn, modelTurn, Shows, replyAt, ShowsAt, Stores, Asked}
 use Rattle.model.proofs.Turns.{WideTurn, Each}
 use Rattle.model.proofs.Represents.{LogOk, Rising}
-use Rattle.model.proofs.Passed.{Passed, Stepped, turned, taken, stepped}
-use Rattle.model.proofs.Later.{in-kept}
+use Rattle.model.proofs.Passed.{Stepped, turned, taken, stepped}
 use Rattle.model.proofs.Entries.{EntryAt, in-bounds, rising-in}
 use Rattle.model.proofs.Shown.{length-LOOKUP}
-use Rattle.model.proofs.Along.{Keeps, after-fixed, at-keeps, At, at-call, at-none}
-
--- ---- a log keeps its entries down to its low
-
-kept-at : (l : Log) (m n : ℕ) (v d : List ℕ) → m ≤ n → EntryAt l n v d → EntryAt (cutAt m l) n v d
-unfolding cutAt
-kept-at l m n v d h e = let p = e .position in record { entry = e .entry; there = in-kept m (e .entry) (l .entries) (e .there) (omega arith); position = e .position; value = e .value; digest = e .digest }
-
-more-at : (l : Log) (x : Entry) (n : ℕ) (v d : List ℕ) → EntryAt l n v d → EntryAt (entered l x) n v d
-unfolding entered
-more-at l x n v d e = record { entry = e .entry; there = in-left (e .entry) (l .entries) (x ∷ []) (e .there); position = e .position; value = e .value; digest = e .digest }
+use Rattle.model.proofs.Along.{Keeps, after-fixed, at-keeps, at-later, at-call, low-stays}
 
 -- ---- one call
-
--- the entry stays in log g, or the call is an accepted truncate of log g past it
-data Next (ru : Rules) (b : Model) (g n : ℕ) (v d : List ℕ) (c : Call) : Type 0 where
-  stays : EntryAt (logAt (modelStep ru b c .state .logs) g) n v d → Next ru b g n v d c
-  forgets : (m low high : ℕ) → c ≡ truncate g m → modelStep ru b c .reply ≡ done low high → n < m → Next ru b g n v d c
-
-module _ (ru : Rules) (b : Model) (g n : ℕ) (v d : List ℕ) (h : EntryAt (logAt (b .logs) g) n v d) where
-  set-at : (k : ℕ) (l : Log) → k < length (b .logs) → (k ≡ g → EntryAt l n v d) → EntryAt (logAt (set (b .logs) k l) g) n v d
-  set-at k l kG f = go (ℕ-discrete k g)
-    where
-      go : Dec (k ≡ g) → EntryAt (logAt (set (b .logs) k l) g) n v d
-      go (yes e) = subst (λ (j : ℕ). EntryAt (logAt (set (b .logs) k l) j) n v d) e (rw (getD-set-same (b .logs) k l (freshLog 0) kG) (f e))
-      go (no z) = rw (getD-set-other (b .logs) k g l (freshLog 0) (λ (e : g ≡ k). z (sym e))) h
-
-  accept-next : (c : Call) → Passed ru b c → modelStep ru b c ≡ modelAccept ru b c → Next ru b g n v d c
-  unfolding modelAccept modelDone
-  accept-next (append k x) a e = stays (rw e (set-at k _ (a .log) (λ (q : k ≡ g). more-at (logAt (b .logs) k) _ n v d (rw q h))))
-  accept-next (advance k m y x) a e = stays (rw e (set-at k _ (a .log) (λ (q : k ≡ g). more-at (logAt (b .logs) k) _ n v d (rw q h))))
-  accept-next (truncate k m) a e = go (ℕ-discrete k g) (leb m n) refl
-    where
-      go : Dec (k ≡ g) → (t : Bool) → leb m n ≡ t → Next ru b g n v d (truncate k m)
-      go (yes q) true f = stays (rw e (set-at k _ (a .log) (λ (z : k ≡ g). kept-at (logAt (b .logs) k) m n v d (leb-true m n f) (rw z h))))
-      go (yes q) false f = forgets m _ _ (ap (λ (j : ℕ). truncate j m) q) (ap (λ (o : Effect Model). o .reply) e) (leb-false m n f)
-      go (no z) t f = stays (rw e (set-at k _ (a .log) (λ (q : k ≡ g). absurd (z q))))
-  accept-next (lookup k m c r) a e = stays (rw e h)
-  accept-next (end k c r) a e = stays (rw e h)
-
-  next : (c : Call) → Next ru b g n v d c
-  next c = go (stepped ru b c)
-    where
-      go : Stepped ru b c → Next ru b g n v d c
-      go (turned k e) = stays (rw e h)
-      go (taken a e) = accept-next c a e
 
 -- a call that put x at n of log g
 record Stored (b after : Model) (g n : ℕ) (x : List ℕ) : Type 0 where
@@ -160,27 +113,20 @@ module _ (b : Model) (keeps : Keeps b) (ts : List Turn) (w : Each WideTurn ts) (
   unfolding met
   put-at = let r = at-call b ts i (a .put) (a .first) in rw (r .next) (stored (r .turn .rules) (met i) g n (a .low) x (a .put) (a .stores) (sym (r .reply) ∙ a .accepted))
 
-  held-at : (d : List ℕ) → EntryAt (logAt (met (suc i) .logs) g) n x d → (k : ℕ) → i < k → k ≤ j → EntryAt (logAt (met k .logs) g) n x d
+  -- the entry stays, since the low does not go past n
+  held-at : (d : List ℕ) → EntryAt (logAt (met (suc i) .logs) g) n x d → EntryAt (logAt (met j .logs) g) n x d
   unfolding met
-  held-at d h zero lo hi = absurd (omega arith)
-  held-at d h (suc k) lo hi = go (ℕ-discrete k i) (λ (q : i < k). held-at d h k q (omega arith)) (callAt ts k) refl
-    where
-      on : i < k → EntryAt (logAt (met k .logs) g) n x d → (c : Call) → callAt ts k ≡ some c → (r : At b ts k c) → Next (r .turn .rules) (met k) g n x d c → EntryAt (logAt (met (suc k) .logs) g) n x d
-      on q e c f r (stays e′) = rw (r .next) e′
-      on q e c f r (forgets m low high z y past) =
-          let le : m ≤ n = a .kept k m q hi (record { call = f ∙ ap some z; low = low; high = high; accepted = r .reply ∙ y }) in
-          absurd (omega arith)
-
-      go : Dec (k ≡ i) → (i < k → EntryAt (logAt (met k .logs) g) n x d) → (o : Option Call) → callAt ts k ≡ o → EntryAt (logAt (met (suc k) .logs) g) n x d
-      go (yes e) below o f = rw e h
-      go (no z) below none f = rw (at-none b ts k f) (below (omega arith))
-      go (no z) below (some c) f = let r = at-call b ts k c f in on (omega arith) (below (omega arith)) c f r (next (r .turn .rules) (met k) g n x d (below (omega arith)) c)
+  held-at d h =
+      let p = h .position in
+      let first = in-bounds (logAt (met (suc i) .logs) g) (at-keeps b keeps ts w (suc i) .sound g) (h .entry) (h .there) .0 in
+      let low = low-stays b ts i j g n (a .kept) (omega arith) j (a .later) (le-refl j) in
+      record { entry = h .entry; there = at-later b ts (suc i) j (a .later) g .kept (h .entry) (h .there) (omega arith); position = p; value = h .value; digest = h .digest }
 
   pub model-remembers : (d : List ℕ) × ShowsAt (replies modelTurn b ts) j g n x d
   unfolding met
   model-remembers =
       let s = put-at in
-      let e = held-at (s .digest) (s .entry) j (a .later) (le-refl j) in
+      let e = held-at (s .digest) (s .entry) in
       let r = at-call b ts j (lookup g n (a .nonce) 160) (a .second) in
       let gG : g < length (met j .logs) = rw (after-fixed b (take j ts) .count) (rw (after-fixed b (take i ts) .count) at (s .log)) in
       (s .digest, shows-at (r .turn .rules) (met j) (at-keeps b keeps ts w j) g n x (s .digest) e (a .nonce) (a .sized) gG (replies modelTurn b ts) j (r .reply))

@@ -16,7 +16,7 @@ use Rattle.model.specs.Model.{Rules, Model, logAt, modelDone, modelAccep
 use Rattle.model.specs.Claim.{Turn, modelTurn, requestAt, callAt, replyAt, AssignsAt, ClosesAt}
 use Rattle.model.proofs.Passed.{Stepped, turned, taken, stepped}
 use Rattle.survey.proofs.RequestLaws.{Early, away, made-call, early-of}
-use Rattle.model.proofs.Requests.{book-is}
+use Rattle.model.proofs.Requests.{request-is}
 use Rattle.model.proofs.Along.{at-later, at-turn, at-call, advanced}
 
 -- a log's high before and after a call that assigns n in it
@@ -69,7 +69,7 @@ module _ (b : Model) (ts : List Turn) where
       go : (t : Turn) → getElem? ts i ≡ some t → t .request ≡ q → Early q → callAt ts i ≡ some (callOf q)
       go t e z (away k u v) =
           let o = at-turn b ts i t e .reply in
-          let s : modelTurn (after modelTurn b (take i ts)) t .reply ≡ refused k = ap (λ (x : Effect Model). x .reply) (book-is (t .rules) _ (t .request)) ∙ rw (z, requestStep, v) refl in
+          let s : modelTurn (after modelTurn b (take i ts)) t .reply ≡ refused k = ap (λ (x : Effect Model). x .reply) (request-is (t .rules) _ (t .request)) ∙ rw (z, requestStep, v) refl in
           absurd (let y : refused k ≡ done low high = sym s ∙ sym o ∙ r in let x : _≡_ {A = ℕ} 0 1 = cc in omega arith)
       go t e z (made-call v w) = rw (callAt, e, z, madeOf, v) (ap (λ (x : Request). some (callOf x)) z)
 

@@ -1,5 +1,5 @@
--- Two models with one log in common: a call on that log, made while it holds fewer entries than its reserve, answers alike in both and leaves the log alike;
--- a call on another log leaves it.
+-- Two models with one log in common: a call on that log, accepted in both, answers alike and leaves the log alike; so does any call on it, if puts are made only
+-- while it holds fewer entries than its reserve. A call on another log leaves it.
 use Prim.Native.Nat.{ℕ, _-_, _^_, _<_}
 use mathlib.Core.Path.{_≡_, refl, sym, ap, subst, _∙_}
 use mathlib.Core.Logic.{_≢_}

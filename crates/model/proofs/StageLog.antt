@@ -15,7 +15,7 @@ use Rattle.survey.specs.Requests.{Request, callOf, requestStep, AllWideRequests
 use Rattle.a2m.specs.ImageCalls.{rowIn, entriesIn, imageStep}
 use Rattle.a2m.specs.TableCalls.{tableStep}
 use Rattle.model.specs.Model.{Model, newModel, rules}
-use Rattle.model.specs.Book.{bookStep}
+use Rattle.model.specs.ModelRequests.{modelRequest}
 use Rattle.model.specs.Stage.{requestsOf, answersOf, Within}
 use Rattle.model.proofs.Reading.{entries-are}
 use Rattle.model.proofs.SameLog.{Below}
@@ -35,10 +35,10 @@ within-model : (m : Image) (b : Model) → Stands m b → (g : ℕ) (qs : List R
 within-model m b s g [] a w = tt
 within-model m b s g (q ∷ qs) a w =
     let rest : Within (writeTable (requestStep imageStep m q .state)) g qs = subst (λ (x : List ℕ). Within x g qs) (ap (λ (o : Effect (List ℕ)). o .state) (request-written m b s q)) (w .1) in
-    (λ (z : logOf (callOf q) ≡ g) (p : Puts (callOf q)). below-in m b s g (w .0 z p), within-model (requestStep imageStep m q .state) (bookStep rules b q .state) (request-stands m b s q (a .0)) g qs (a .1) rest)
+    (λ (z : logOf (callOf q) ≡ g) (p : Puts (callOf q)). below-in m b s g (w .0 z p), within-model (requestStep imageStep m q .state) (modelRequest rules b q .state) (request-stands m b s q (a .0)) g qs (a .1) rest)
 
 -- the bytes answer as the model, with its blocks
-as-model : (m : Image) (b : Model) → Stands m b → (qs : List Request) → AllWideRequests qs → (replies (requestStep tableStep) (writeTable m) qs ≡ replies (bookStep rules) b qs) × (works (requestStep tableStep) (writeTable m) qs ≡ works (bookStep rules) b qs)
+as-model : (m : Image) (b : Model) → Stands m b → (qs : List Request) → AllWideRequests qs → (replies (requestStep tableStep) (writeTable m) qs ≡ replies (modelRequest rules) b qs) × (works (requestStep tableStep) (writeTable m) qs ≡ works (modelRequest rules) b qs)
 as-model m b s qs a =
     let W = list-written m b s qs a in
     let A = list-agrees m b (s .says) (s .sound) (s .backed) qs in

@@ -13,12 +13,12 @@ use Rattle.refusal.specs.Answer.{answer}
 use Rattle.survey.specs.Requests.{Request, plain, advances, looks, closes, early, madeOf}
 use Rattle.model.specs.Log.{lastEntry, keepFrom, keepBelow, entered, standingAmong, standing, kindOf, referenceOf, examinedFor}
 use Rattle.model.specs.Model.{rules01, rules, Model, newModel, total, lacks, lacksBut, slotRule, isNil, modelRefusal, modelReceipt, shownFor, modelLookup, modelEnd, modelDone, modelAccept, modelStep}
-use Rattle.model.specs.Book.{unless}
+use Rattle.model.specs.ModelRequests.{unless}
 use Rattle.model.specs.Claim.{asking, modelTurn, requestAt, callAt, AssignsAt, ClosesAt}
 use Rattle.model.specs.Marked.{dashes, shown, columnsOf, A, S, zero32}
 
-abbrev book : Model
-book = newModel 3 7 (zeros 32) (0 ∷ 0 ∷ [])
+abbrev start : Model
+start = newModel 3 7 (zeros 32) (0 ∷ 0 ∷ [])
 
 abbrev asked : List Request
 asked =
@@ -26,7 +26,7 @@ asked =
     closes 0 0 (placed 45) ∷ plain (append 0 (placed 46)) ∷ closes 9 (2 ^ 24) (placed 47) ∷ advances 0 (2 ^ 24) 0 [] (placed 48) ∷ looks 0 0 (2 ^ 40 + 5) zero32 160 ∷ looks 0 0 0 zero32 160 ∷ []
 
 abbrev answers : List Reply
-answers = replies modelTurn book (asking rules asked)
+answers = replies modelTurn start (asking rules asked)
 
 pub survey-answers : map numbered answers ≡
     answer 0 (1 ∷ 1099511627781 ∷ []) ∷ answer 0 (1 ∷ []) ∷ answer 0 (1 ∷ []) ∷ answer 0 (1 ∷ 2199023255551 ∷ []) ∷ answer 3 [] ∷ answer 3 [] ∷

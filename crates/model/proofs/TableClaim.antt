@@ -20,7 +20,7 @@ use Rattle.table.proofs.Links.{chain-links}
 use Rattle.a2m.proofs.FitsAfter.{step-fits}
 use Rattle.a2m.proofs.Written.{step-written}
 use Rattle.model.specs.Model.{rules, Model, total, modelStep}
-use Rattle.model.specs.Book.{bookStep}
+use Rattle.model.specs.ModelRequests.{modelRequest}
 use Rattle.model.specs.Claim.{Turn, asking, modelTurn, ListClaim}
 use Rattle.model.proofs.Represents.{Rep, Sound}
 use Rattle.model.proofs.Backed.{Backed, step-backed}
@@ -30,7 +30,7 @@ use Rattle.model.proofs.Sound.{step-sound}
 use Rattle.model.proofs.Along.{Keeps, step-fixed, after-fixed}
 use Rattle.model.proofs.Turns.{Each, after-asking}
 use Rattle.survey.proofs.RequestLaws.{steps-so}
-use Rattle.model.proofs.Requests.{book-is}
+use Rattle.model.proofs.Requests.{request-is}
 use Rattle.model.proofs.ImageClaim.{Proper, image-claim}
 
 -- bytes of an image that says a sound model, all within their fields, with the slots promised there
@@ -54,9 +54,9 @@ step-stands m b s c w = record {
 }
 
 -- a request likewise
-pub request-stands : (m : Image) (b : Model) → Stands m b → (q : Request) → WideRequest q → Stands (requestStep imageStep m q .state) (bookStep rules b q .state)
+pub request-stands : (m : Image) (b : Model) → Stands m b → (q : Request) → WideRequest q → Stands (requestStep imageStep m q .state) (modelRequest rules b q .state)
 request-stands m b s q w =
-    subst (λ (o : Effect Model). Stands (requestStep imageStep m q .state) (o .state)) (sym (book-is rules b q))
+    subst (λ (o : Effect Model). Stands (requestStep imageStep m q .state) (o .state)) (sym (request-is rules b q))
     (steps-so imageStep (modelStep rules) m b q (λ (x : Effect Image) (y : Effect Model). Stands (x .state) (y .state)) (λ (k : ℕ) (h : 7 ≤ k). s) (λ (v : WideRequest q → Wide (callOf q)). step-stands m b s (callOf q) (v w, tt)))
 
 pub request-written : (m : Image) (b : Model) → Stands m b → (q : Request) → requestStep tableStep (writeTable m) q ≡ written (requestStep imageStep m q)
@@ -68,14 +68,14 @@ pub record WrittenAll (m : Image) (b : Model) (qs : List Request) : Type 0 where
   pub answers : replies (requestStep tableStep) (writeTable m) qs ≡ replies (requestStep imageStep) m qs
   pub blocks : works (requestStep tableStep) (writeTable m) qs ≡ works (requestStep imageStep) m qs
   pub bytes : after (requestStep tableStep) (writeTable m) qs ≡ writeTable (after (requestStep imageStep) m qs)
-  pub stands : Stands (after (requestStep imageStep) m qs) (after (bookStep rules) b qs)
+  pub stands : Stands (after (requestStep imageStep) m qs) (after (modelRequest rules) b qs)
 
 pub list-written : (m : Image) (b : Model) → Stands m b → (qs : List Request) → AllWideRequests qs → WrittenAll m b qs
 unfolding replies works after
 list-written m b s [] w = record { answers = refl; blocks = refl; bytes = refl; stands = s }
 list-written m b s (q ∷ qs) w =
     let e = request-written m b s q in
-    let ih = list-written (requestStep imageStep m q .state) (bookStep rules b q .state) (request-stands m b s q (w .0)) qs (w .1) in
+    let ih = list-written (requestStep imageStep m q .state) (modelRequest rules b q .state) (request-stands m b s q (w .0)) qs (w .1) in
     record {
       answers = rw e (ap {B = List Reply} (λ l. requestStep imageStep m q .reply ∷ l) (ih .answers));
       blocks = rw e (ap {B = List ℕ} (λ l. requestStep imageStep m q .blocks ∷ l) (ih .blocks));
@@ -99,15 +99,15 @@ table-whole m b s qs w =
     let W = list-written m b s qs w in
     let t = W .stands in
     let M = after (requestStep imageStep) m qs in
-    ap whole (W .bytes) ∙ written-whole M (t .fits) (in-range _ _ t) ∙ whole-of M (after (bookStep rules) b qs) (t .says) (t .sound) (t .backed)
+    ap whole (W .bytes) ∙ written-whole M (t .fits) (in-range _ _ t) ∙ whole-of M (after (modelRequest rules) b qs) (t .says) (t .sound) (t .backed)
 
 -- request [1], "each call keeps it true": the number that the bytes hold, and the entries of all logs, make the slots
-pub table-count : (m : Image) (b : Model) → Stands m b → (qs : List Request) → AllWideRequests qs → stockOf (after (requestStep tableStep) (writeTable m) qs) .count + total (after (bookStep rules) b qs .logs) ≡ b .size
+pub table-count : (m : Image) (b : Model) → Stands m b → (qs : List Request) → AllWideRequests qs → stockOf (after (requestStep tableStep) (writeTable m) qs) .count + total (after (modelRequest rules) b qs .logs) ≡ b .size
 table-count m b s qs w =
     let W = list-written m b s qs w in
     let t = W .stands in
     let M = after (requestStep imageStep) m qs in
     let number : stockOf (after (requestStep tableStep) (writeTable m) qs) .count ≡ length (freeChain M) = ap (λ (l : List ℕ). stockOf l .count) (W .bytes) ∙ ap (λ (k : Stock). k .count) (stock-write M (t .fits)) in
     let queue : length (freeChain M) ≡ length (t .says .queue) = ap length (chain-links (M .slots) 0 (M .free) (t .says .queue) (t .says .free .links)) in
-    let size : after (bookStep rules) b qs .size ≡ b .size = ap (λ (x : Model). x .size) (sym (after-asking rules b qs)) ∙ after-fixed b (asking rules qs) .size in
+    let size : after (modelRequest rules) b qs .size ≡ b .size = ap (λ (x : Model). x .size) (sym (after-asking rules b qs)) ∙ after-fixed b (asking rules qs) .size in
     omega (arith, number, queue, t .says .sum, t .says .size, size)

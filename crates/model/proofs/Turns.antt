@@ -7,9 +7,9 @@ use lib.ListN.{getElem?}
 use Rattle.a2m.specs.Call.{Call, Wide, Reply, refused, Effect, effect, replies, works, after}
 use Rattle.survey.specs.Requests.{Request, callOf, WideRequest}
 use Rattle.model.specs.Model.{Rules, Model, modelStep}
-use Rattle.model.specs.Book.{bookStep}
+use Rattle.model.specs.ModelRequests.{modelRequest}
 use Rattle.model.specs.Claim.{Turn, asks, under, asking, by, modelTurn}
-use Rattle.model.proofs.Requests.{book-so}
+use Rattle.model.proofs.Requests.{request-so}
 
 -- ---- a list of items, each of them another's name
 
@@ -35,13 +35,13 @@ replies-by ru b cs = replies-map modelTurn (under ru) b cs
 pub after-by : (ru : Rules) (b : Model) (cs : List Call) → after modelTurn b (by ru cs) ≡ after (modelStep ru) b cs
 after-by ru b cs = after-map modelTurn (under ru) b cs
 
-pub replies-asking : (ru : Rules) (b : Model) (qs : List Request) → replies modelTurn b (asking ru qs) ≡ replies (bookStep ru) b qs
+pub replies-asking : (ru : Rules) (b : Model) (qs : List Request) → replies modelTurn b (asking ru qs) ≡ replies (modelRequest ru) b qs
 replies-asking ru b qs = replies-map modelTurn (asks ru) b qs
 
-pub works-asking : (ru : Rules) (b : Model) (qs : List Request) → works modelTurn b (asking ru qs) ≡ works (bookStep ru) b qs
+pub works-asking : (ru : Rules) (b : Model) (qs : List Request) → works modelTurn b (asking ru qs) ≡ works (modelRequest ru) b qs
 works-asking ru b qs = works-map modelTurn (asks ru) b qs
 
-pub after-asking : (ru : Rules) (b : Model) (qs : List Request) → after modelTurn b (asking ru qs) ≡ after (bookStep ru) b qs
+pub after-asking : (ru : Rules) (b : Model) (qs : List Request) → after modelTurn b (asking ru qs) ≡ after (modelRequest ru) b qs
 after-asking ru b qs = after-map modelTurn (asks ru) b qs
 
 pub replies-on : (b : Model) (ts us : List Turn) → replies modelTurn b (ts ++ us) ≡ replies modelTurn b ts ++ replies modelTurn (after modelTurn b ts) us
@@ -64,7 +64,7 @@ after-on b (t ∷ ts) us = after-on (modelTurn b t .state) ts us
 -- what holds where the request is turned away, with 7 or more, and where it makes its call, holds of the turn
 pub turn-so : (b : Model) (t : Turn) (P : Effect Model → Type 0)
     → ((k : ℕ) → 7 ≤ k → P (effect (refused k) 0 b)) → ((c : Call) → (WideRequest (t .request) → Wide c) → P (modelStep (t .rules) b c)) → P (modelTurn b t)
-turn-so b t P a m = book-so (t .rules) b (t .request) P a (m (callOf (t .request)))
+turn-so b t P a m = request-so (t .rules) b (t .request) P a (m (callOf (t .request)))
 
 -- ---- what each turn of a list has
 

@@ -14,8 +14,8 @@ use Rattle.model.specs.ModelOf.{modelOf}
 use Rattle.model.specs.Claim.{Turn, by, asking}
 
 -- the plain book of document 01's formatting: logs without reserves
-abbrev pub book01 : ℕ → ℕ → ℕ → List ℕ → Model
-book01 G S keeper key = newModel S keeper key (replicate G 0)
+abbrev pub model01 : ℕ → ℕ → ℕ → List ℕ → Model
+model01 G S keeper key = newModel S keeper key (replicate G 0)
 
 -- "the calls before the carry going by 01's rules", those after it, calls by survey and reading among them, by the present ones
 abbrev pub carriedTurns : List Call → List Request → List Turn
@@ -25,5 +25,5 @@ carriedTurns before later = by rules01 before ++ asking rules later
 pub record Reached01 (G S keeper : ℕ) (key : List ℕ) (cs : List Call) (rs : List Reply) (old : List ℕ) : Type 0 where
   pub bytes : Bytes old
   pub whole : whole01 old ≡ true
-  pub says : modelOf (read01 old) ≡ after (modelStep rules01) (book01 G S keeper key) cs
-  pub answers : rs ≡ replies (modelStep rules01) (book01 G S keeper key) cs
+  pub says : modelOf (read01 old) ≡ after (modelStep rules01) (model01 G S keeper key) cs
+  pub answers : rs ≡ replies (modelStep rules01) (model01 G S keeper key) cs

@@ -18,7 +18,7 @@ use Rattle.survey.specs.Packing.{surveyOf}
 use Rattle.survey.specs.Requests.{Request, plain, closes, madeOf}
 use Rattle.model.specs.Log.{Log}
 use Rattle.model.specs.Model.{Rules, Model, logAt}
-use Rattle.model.specs.Book.{bookStep}
+use Rattle.model.specs.ModelRequests.{modelRequest}
 use Rattle.model.specs.Question.{questionOf, nonceOf, valuesOf}
 
 -- ---- lists in which each request goes by its own rules
@@ -41,7 +41,7 @@ abbrev pub by : Rules → List Call → List Turn
 by ru cs = map (under ru) cs
 
 abbrev pub modelTurn : Model → Turn → Effect Model
-modelTurn b t = bookStep (t .rules) b (t .request)
+modelTurn b t = modelRequest (t .rules) b (t .request)
 
 -- request j of the list, and the call that it makes: none if it was turned away
 unfoldable pub requestAt : List Turn → ℕ → Option Request

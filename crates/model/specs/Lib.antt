@@ -1,4 +1,3 @@
-pub mod Book
 pub mod Calls01
 pub mod Carried
 pub mod Claim
@@ -7,6 +6,7 @@ pub mod Log
 pub mod Marked
 pub mod Model
 pub mod ModelOf
+pub mod ModelRequests
 pub mod Program
 pub mod Question
 pub mod Stage

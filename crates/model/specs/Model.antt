@@ -1,6 +1,6 @@
 -- The reference model of the table calls: document 01's plain book, "fed the arguments of an accepted format (G, S, keeper number, key), then each
--- call's arguments .., never a table or an answer"; of request [5] it has the reserves, a log for each, and a count of its own of what logs lack. With the calls on images it shares the types of calls, answers and entries, the digest rule and
--- the receipt bytes; its refusals, lookups and truncation are its own.
+-- call's arguments .., never a table or an answer"; of request [5] it has the reserves, a log for each, and a count of its own of what logs lack. With the
+-- calls on images it shares the types of calls, answers and entries, the digest rule and the receipt bytes; its refusals, lookups and truncation are its own.
 use Prim.Native.Nat.{ℕ, zero, suc, _+_, _-_, _^_}
 use mathlib.Core.List.{List, [], _∷_, map}
 use mathlib.Core.Bool.{Bool, true, false, cond, not, _||_}

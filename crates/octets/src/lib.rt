@@ -51,3 +51,14 @@ pub fn is_zero(s: &[u8]) -> bool
     }
     any == 0
 }
+
+// The bytes of a slice of 32. Put somewhere from here they are a few moves: the compiler knows that a local overlaps nothing, which
+// of two lent slices it has to find out.
+pub fn bytes32(s: &[u8]) -> [u8; 32]
+    requires { ⌜ length (now s) ≡ 32 ⌝ }
+    ensures { λ r. ⌜ r ≡ now (s .entry) ⌝ }
+{
+    let mut out = [0u8; 32];
+    put(&mut out, 0, &s[0..32]);
+    out
+}

@@ -10,6 +10,7 @@ ghost use Rattle.receipt.specs.Attestation.{attestedBytes, receiptBytes};
 ghost use Rattle.receipt.specs.Writer.{nameBytes, factBytes, attestationOf, writeRefusal};
 use bigendian::put_u64;
 use hmac::tag;
+use octets::bytes32;
 use octets::put;
 use receipt::Facts;
 use receipt::Name;
@@ -48,9 +49,12 @@ fn put_attested(out: &mut [u8], f: Facts, nonce: &[u8], value: &[u8], digest: &[
     ensures { λ _. ⌜ now (out .exit) ≡ splice (now (out .entry)) 0 (attestedBytes (attestationOf f (now (nonce .entry)) (now (value .entry)) (now (digest .entry)))) ⌝ }
 {
     put_facts(out, f);
-    put(out, 32, nonce);
-    put(out, 64, value);
-    put(out, 96, digest);
+    let nonce_bytes = bytes32(nonce);
+    put(out, 32, &nonce_bytes);
+    let value_bytes = bytes32(value);
+    put(out, 64, &value_bytes);
+    let digest_bytes = bytes32(digest);
+    put(out, 96, &digest_bytes);
 }
 
 // Writes the tag of bytes 0 to 127, the tag writer being lent bytes 128 to 159, and hands on the blocks that it hashed.

@@ -9,6 +9,34 @@ use workload::Course;
 // The bytes of an input that decide it: a line of 200, its newline, and one more.
 const INPUT: usize = 202;
 
+// How many bytes were read, or that a read failed.
+struct Request {
+    unread: bool,
+    size: usize,
+}
+
+// Reads to the end of the input, or as much as the buffer holds.
+fn read_request(input: &mut [u8]) -> Request
+    ensures { λ r. ⌜ r .size ≤ length (now (input .exit)) ⌝ }
+{
+    let mut size = 0;
+    while size < input.len() {
+        let got = libc::read(STDIN_FILENO, &mut input[size..]);
+        if got < 0 {
+            return Request { unread: true, size };
+        }
+        let n = io::count(got, &input[size..]);
+        if n == 0 {
+            break;
+        }
+        size += n;
+    }
+    Request {
+        unread: false,
+        size,
+    }
+}
+
 // Writes the first piece, which stands in the buffer, and then the lines, a buffer full at a time.
 fn send(out: &mut [u8], first: Course) -> bool
     requires { ⌜ (first .to ≤ length (now out)) × (length (now out) ≡ 65536) ⌝ }
@@ -45,7 +73,12 @@ fn main() {
         return;
     }
     let mut input = [0u8; INPUT];
-    let n = io::read_full(STDIN_FILENO, &mut input);
+    let request = read_request(&mut input);
+    if request.unread {
+        os::fail(b"rush: the input cannot be read");
+        return;
+    }
+    let n = request.size;
     let mut out = io::large_buffer();
     let first = workload_write::begin(&input[..n], &mut out);
     if !send(&mut out, first) {

@@ -1,4 +1,4 @@
-// Request [9]'s sentences: the four of its design, all kinds, all refusal numbers of both subjects, the longest of each form, and buffers of
+// Request [9]'s sentences: one of each form, all kinds, all refusal numbers of both subjects, the longest of each form, and buffers of
 // other lengths. Every buffer holds an old text of x's. A line for each: the number returned, the buffer's bytes before its first zero, and
 // the others in hexadecimal.
 ghost use Prim.Native.Nat.{_≤_};

@@ -1,4 +1,4 @@
--- The last bytes of a message and the padding, as they stand in an array of two blocks; and the number of blocks.
+-- The last bytes of a message and the padding, as they stand in an array of one or two blocks; and the number of blocks.
 --
 use mathlib.Core.Path.{_≡_, refl, sym, ap, ap₂, _∙_}
 use Prim.Native.Nat.{ℕ, zero, suc, _+_, _-_, _*_, _/_, _%_, _≤_}
@@ -29,7 +29,7 @@ lastBlocks f = (f + 72) / 64
 abbrev pub tail : List ℕ → List ℕ → ℕ → List ℕ
 tail l r n = splice (set (splice l 0 r) (n % 64) 128) (lastBlocks (n % 64) * 64 - 8) (be 8 (n * 8))
 
-module _ (l r : List ℕ) (n : ℕ) (blank : l ≡ replicate (length l) 0) (long : length l ≡ 128) (size : length r ≡ n % 64) where
+module _ (l r : List ℕ) (n : ℕ) (blank : l ≡ replicate (length l) 0) (long : lastBlocks (n % 64) * 64 ≤ length l) (size : length r ≡ n % 64) where
   zeros : ℕ
   zeros = (119 - n % 64) % 64
 
@@ -52,10 +52,10 @@ module _ (l r : List ℕ) (n : ℕ) (blank : l ≡ replicate (length l) 0) (long
       ∙ ap (λ (i : ℕ). splice (splice l 0 r) i (128 ∷ [])) (sym (zero-add (length r)))
       ∙ splice-append l 0 r (128 ∷ []) (omega (arith, size, long))
 
-  length-begun : length (splice l 0 marked) ≡ 128
-  length-begun = length-splice l marked 0 (omega (arith, length-marked, long)) ∙ long
+  length-begun : length (splice l 0 marked) ≡ length l
+  length-begun = length-splice l marked 0 (omega (arith, length-marked, long))
 
-  pub length-tail : length (tail l r n) ≡ 128
+  pub length-tail : length (tail l r n) ≡ length l
   length-tail =
       ap (λ (b : List ℕ). length (splice b (lastBlocks (n % 64) * 64 - 8) (be 8 (n * 8)))) begun-is
       ∙ length-splice (splice l 0 marked) (be 8 (n * 8)) (lastBlocks (n % 64) * 64 - 8) (omega (arith, length-begun, length-be 8 (n * 8)))

@@ -75,9 +75,9 @@ blocks-take n h m k =
     ap (blocks n h) (sym (take-append-drop (n * 64) m))
     ∙ blocks-prefix n h (take (n * 64) m) (drop (n * 64) m) (simp length-take (omega arith))
 
--- what `digest_from` computes, with f bytes after the whole blocks of p: v after those blocks, t the array of two blocks that
+-- what `digest_from` computes, with f bytes after the whole blocks of p: v after those blocks, t the array of one or two blocks that
 -- was l, and d after its blocks
-pub closing : (h v d : Compressed) (p l t : List ℕ) (before f : ℕ) → before % 64 ≡ 0 → f ≡ length p % 64 → l ≡ replicate (length l) 0 → length l ≡ 128
+pub closing : (h v d : Compressed) (p l t : List ℕ) (before f : ℕ) → before % 64 ≡ 0 → f ≡ length p % 64 → l ≡ replicate (length l) 0 → lastBlocks f * 64 ≤ length l
     → (v .value ≡ blocks (length p / 64) (h .value) p) × (v .blocks ≡ h .blocks + length p / 64)
     → t ≡ splice (set (splice l 0 (drop (length p / 64 * 64) p)) f 128) (lastBlocks f * 64 - 8) (be 8 ((before + length p) * 8))
     → (d .value ≡ blocks (lastBlocks f) (v .value) t) × (d .blocks ≡ v .blocks + lastBlocks f)
@@ -88,9 +88,10 @@ closing h v d p l t before f whole ef blank long ev et ed =
     let r : List ℕ = drop (length p / 64 * 64) p in
     let e : f ≡ n % 64 = omega arith in
     let lr : length r ≡ n % 64 = rw length-drop (omega arith) in
+    let room : lastBlocks (n % 64) * 64 ≤ length l = omega arith in
     let tail-eq : t ≡ tail l r n = et ∙ ap (λ (g : ℕ). splice (set (splice l 0 r) g 128) (lastBlocks g * 64 - 8) (be 8 (n * 8))) e in
-    let fits : lastBlocks f * 64 ≤ length t = omega (arith, ap length tail-eq, length-tail l r n blank long lr) in
-    let front : take (lastBlocks f * 64) t ≡ r ++ padding n = ap₂ (λ (g : ℕ) (u : List ℕ). take (lastBlocks g * 64) u) e tail-eq ∙ tail-padded l r n blank long lr in
+    let fits : lastBlocks f * 64 ≤ length t = omega (arith, ap length tail-eq, length-tail l r n blank room lr) in
+    let front : take (lastBlocks f * 64) t ≡ r ++ padding n = ap₂ (λ (g : ℕ) (u : List ℕ). take (lastBlocks g * 64) u) e tail-eq ∙ tail-padded l r n blank room lr in
     let size : length (r ++ padding n) ≡ lastBlocks f * 64 = sym (ap length front) ∙ length-take-le (lastBlocks f * 64) t fits in
     let count : lastBlocks f ≡ length (r ++ padding n) / 64 = omega arith in (
       ap bytes
@@ -114,6 +115,33 @@ unfilled s size =
     (ap (λ (i : ℕ). drop (i * 64) (take f (s .block))) none)
     (omega arith)
     (omega arith)
+
+-- a part of no whole block
+pub no-block : (p h : List ℕ) → length p < 64 → h ≡ blocks (length p / 64) h p
+unfolding blocks
+no-block p h k = let none : length p / 64 ≡ 0 = omega arith in ap (λ (i : ℕ). blocks i h p) (sym none)
+
+-- what `finish` computes where the block has room for the padding: t the block that was zero, and d after it, with nothing behind it
+pub padded : (s : Running) (d : Compressed) (t : List ℕ) → length (s .block) ≡ 64 → s .count % 64 < 56
+    → t ≡ splice (set (splice (replicate 64 0) 0 (take (s .count % 64) (s .block))) (s .count % 64) 128) 56 (be 8 (s .count * 8))
+    → (d .value ≡ blocks (length {A = ℕ} [] / 64) (blocks 1 (s .chain) t) []) × (d .blocks ≡ s .blocks + 1 + length {A = ℕ} [] / 64)
+    → (bytes (d .value) ≡ finished (stateOf s)) × (d .blocks ≡ finishedBlocks (stateOf s))
+padded s d t size k et ed =
+    let f : ℕ = s .count % 64 in
+    let z : List ℕ = replicate 64 0 in
+    let p : List ℕ = take f (s .block) in
+    let h : Compressed = record { value = s .chain; blocks = s .blocks } in
+    let lp : length p ≡ f = length-take-le f (s .block) (omega arith) in
+    let none : length p / 64 ≡ 0 = omega arith in
+    let one : lastBlocks f ≡ 1 = omega arith in
+    let n : s .count ≡ s .count - f + length p = omega arith in
+    let fits : lastBlocks f * 64 ≤ 64 = omega arith in
+    let e = closing h h d p z t (s .count - f) f (omega arith) (omega arith) refl fits
+    (no-block p (s .chain) (omega arith), omega arith)
+    (et ∙ ap (λ (i : ℕ). splice (set (splice z 0 (drop (i * 64) p)) f 128) 56 (be 8 (s .count * 8))) (sym none)
+    ∙ ap₂ (λ (i j : ℕ). splice (set (splice z 0 (drop (length p / 64 * 64) p)) f 128) (i * 64 - 8) (be 8 (j * 8))) (sym one) n)
+    (ed .0 ∙ sym (no-block [] (blocks 1 (s .chain) t) (omega arith)) ∙ ap (λ (i : ℕ). blocks i (s .chain) t) (sym one), omega (arith, ed .1, one)) in
+    (e .0 ∙ ap finished (unfilled s size), e .1 ∙ ap finishedBlocks (unfilled s size))
 
 -- absorbing one part and then another is absorbing both
 pub absorbed-append : (s : State) (a b : List ℕ) → absorbed (absorbed s a) b ≡ absorbed s (a ++ b)
@@ -261,7 +289,7 @@ module _ (s : Running) (part : List ℕ) (size : length (s .block) ≡ 64) (k : 
   times : length (rest s ++ part) / 64 ≡ 1 + more s part
   times = rw length-append (omega (arith, length-rest))
 
-  pub long : (n at : ℕ) (first last : Compressed) {next : List ℕ}
+  long : (n at : ℕ) (first last : Compressed) {next : List ℕ}
       → (first .value ≡ blocks 1 (s .chain) (full s part)) × (first .blocks ≡ s .blocks + 1)
       → (last .value ≡ blocks (more s part) (first .value) (take (length part - room s) (drop (room s) part))) × (last .blocks ≡ first .blocks + more s part)
       → next ≡ splice (full s part) 0 (take (length part - at) (drop at part)) → at ≡ room s + more s part * 64 → n ≡ s .count + length part
@@ -286,3 +314,21 @@ module _ (s : Running) (part : List ℕ) (size : length (s .block) ≡ 64) (k : 
       ∙ sym over ∙ ap (λ (i : ℕ). drop (i * 64) j) (sym times))
       ec
       (omega (arith, ef .1, el .1, times))
+
+  -- what comes after the block
+  abbrev over : List ℕ
+  over = take (length part - room s) (drop (room s) part)
+
+  -- `long` as `pressed` tells it: b the block, filled
+  pub fills : (n at : ℕ) (last : Compressed) {b next : List ℕ} → b ≡ full s part
+      → (last .value ≡ blocks (length over / 64) (blocks 1 (s .chain) b) over) × (last .blocks ≡ s .blocks + 1 + length over / 64)
+      → next ≡ splice b 0 (take (length part - at) (drop at part)) → at ≡ length part - (length part - room s) % 64 → n ≡ s .count + length part
+      → stateOf (record { chain = last .value; block = next; count = n; blocks = last .blocks }) ≡ absorbed (stateOf s) part
+  fills n at last eb el en ea ec =
+      let count : length over / 64 ≡ more s part = ap (λ (i : ℕ). i / 64) (simp (length-take, length-drop) (omega arith)) in
+      long n at (record { value = blocks 1 (s .chain) (full s part); blocks = s .blocks + 1 }) last
+      (refl, refl)
+      (el .0 ∙ ap₂ (λ (i : ℕ) (l : List ℕ). blocks i (blocks 1 (s .chain) l) over) count eb, el .1 ∙ ap (λ (i : ℕ). s .blocks + 1 + i) count)
+      (en ∙ ap (λ (l : List ℕ). splice l 0 (take (length part - at) (drop at part))) eb)
+      (omega arith)
+      ec

@@ -1,12 +1,12 @@
 // Digests by SHA-256 (FIPS 180-4): of a message at once, and of parts fed in turn.
 
 ghost use mathlib.Core.Path.{_≡_};
-ghost use Prim.Native.Nat.{_+_, _^_, _≤_, _<_, _%_};
+ghost use Prim.Native.Nat.{_+_, _/_, _^_, _≤_, _<_, _%_};
 ghost use mathlib.Core.List.{_++_};
 ghost use lib.ListN.{length};
 ghost use Rattle.refusal.specs.Order.{answerOf, afterwards};
 ghost use Rattle.refusal.specs.Work.{workedNumber, workedBlocks};
-ghost use Rattle.sha256.specs.Sha256.{K as Ks, H0, bytes as bytesOf, sha256, blockCount};
+ghost use Rattle.sha256.specs.Sha256.{K as Ks, H0, blocks as blocksAfter, bytes as bytesOf, sha256, blockCount};
 ghost use Rattle.sha256_digest.specs.Running.{stateOf, start, after, absorbed, finished, finishedBlocks};
 ghost use Rattle.sha256.specs.Hash.{hashRefusal};
 use bigendian::put_u32;
@@ -67,7 +67,8 @@ impl Running {
         }
     }
 
-    // The state after a part more. Whole blocks are compressed straight from the caller's slice.
+    // The state after a part more. Whole blocks are compressed straight from the caller's slice. What compresses stands in
+    // `pressed`: without it this is short enough for the compiler to put it where parts are fed, with their lengths in sight.
     pub fn absorb(self, part: &[u8]) -> Self
         requires { ⌜ (self .count + length (now part) < 2 ^ 64) × (self .blocks ≤ self .count) ⌝ }
         ensures { λ r. ⌜ stateOf r ≡ absorbed (stateOf self) (now (part .entry)) ⌝ }
@@ -87,16 +88,13 @@ impl Running {
                 blocks: self.blocks,
             };
         }
-        let k = constants();
         put(&mut block, fill, &part[..room]);
         let before = Compressed {
             value: chain,
             blocks: self.blocks,
         };
-        let first = compress_blocks(before, &block, 1, &k);
-        let whole = (n - room) / 64;
-        let last = compress_blocks(first, &part[room..], whole, &k);
-        let at = room + whole * 64;
+        let last = pressed(before, &block, &part[room..]);
+        let at = n - (n - room) % 64;
         put(&mut block, 0, &part[at..]);
         let next = last.value;
         Running {
@@ -107,7 +105,7 @@ impl Running {
         }
     }
 
-    // The digest of all that was absorbed.
+    // The digest of all that was absorbed. What is left in the block mostly leaves room for the padding.
     pub fn finish(self) -> Digest
         requires { ⌜ (self .count < 2 ^ 61) × (self .blocks ≤ self .count) ⌝ }
         ensures { λ r. ⌜ (r .bytes ≡ finished (stateOf self)) × (r .blocks ≡ finishedBlocks (stateOf self)) ⌝ }
@@ -115,13 +113,41 @@ impl Running {
         let chain = self.chain;
         let block = self.block;
         let fill = (self.count % 64) as usize;
-        let k = constants();
         let before = Compressed {
             value: chain,
             blocks: self.blocks,
         };
+        if fill < 56 {
+            let mut end = [0u8; 64];
+            put(&mut end, 0, &block[..fill]);
+            end[fill] = 128;
+            put_u64(&mut end, 56, self.count * 8);
+            let none = [0u8; 0];
+            let last = pressed(before, &end, &none);
+            let hash_value = last.value;
+            let bytes = digest(hash_value);
+            return Digest {
+                bytes,
+                blocks: last.blocks,
+            };
+        }
+        let k = constants();
         digest_from(before, self.count - wide(fill), &block[..fill], &k)
     }
+}
+
+// The hash value after a block and the whole blocks of what follows it.
+fn pressed(before: Compressed, block: &[u8; 64], rest: &[u8]) -> Compressed
+    requires { ⌜ (length (now block) ≡ 64) × (before .blocks + length (now rest) + 1 < 2 ^ 64) ⌝ }
+    ensures { λ r. ⌜ (r .value ≡ blocksAfter (length (now (rest .entry)) / 64) (blocksAfter 1 (before .value) (now (block .entry))) (now (rest .entry))) × (r .blocks ≡ before .blocks + 1 + length (now (rest .entry)) / 64) ⌝ }
+{
+    let k = constants();
+    let first = compress_blocks(before, block, 1, &k);
+    let n = rest.len();
+    if n < 64 {
+        return first;
+    }
+    compress_blocks(first, rest, n / 64, &k)
 }
 
 // The digest of a message of which whole blocks, before bytes of them, made the hash value h, and part is the rest. Its last

@@ -1,4 +1,4 @@
--- Document 01, "A table is whole if ..", and the clauses of requests [1] and [4], as a test on bytes.
+-- Document 01, "A table is whole if ..", and the clauses of requests [1], [4] and (in `wholeImage`) [5], as a test on bytes.
 use Prim.Native.Nat.{ℕ}
 use mathlib.Core.List.{List, [], _∷_}
 use mathlib.Core.Option.{Option}

@@ -1,4 +1,5 @@
-// Whole tables, the free slots, what format writes (document 01, "Table bytes") and what the status screen reads. No code.
+// Whole tables, the free slots, what format and the carry write (document 01, "Table bytes"; request [8]) and what the status
+// screen reads. No code.
 
 // What the check finds: a torn table; or a whole one, how many slots are free, the last of the free chain (0 if none), and
 // what the logs lack of their reserves, but for the log that is called.

@@ -4,8 +4,10 @@ use mathlib.Core.Path.{_≡_, refl, sym, ap, ap₂, subst, _∙_}
 use mathlib.Core.Logic.{_⊎_, inl, inr}
 use mathlib.Core.List.{List, [], _∷_, _++_, append-nil}
 use native.Mathlib.Omega.{arith}
+use native.Mathlib.Decide.{decLe}
 use lib.ListN.{length, take, length-append}
 use lib.Seq.{length-take-le}
+use Rattle.octets.specs.Octets.{splice}
 use Rattle.octets.proofs.Parts.{part-splice-same}
 use Rattle.refusal.specs.Number.{numberOf}
 use Rattle.decimal.specs.Decimal.{decimalOf}
@@ -51,6 +53,23 @@ fill-moves out out′ x k r f room some = go (f .full)
         absurd-or : (j : ℕ) → k - r .left ≡ j → r .left < k
         absurd-or zero e = let q : r .to ≡ 0 = f .place ∙ ap (λ (i : ℕ). length (linesText x i)) e in absurd (omega arith)
         absurd-or (suc j) e = omega arith
+
+-- of two answers to one buffer, state and number of lines neither puts a line more than the other
+fills-few : (out a b : List ℕ) (x k : ℕ) (r s : Course) → Fills out x k a r → Fills out x k b s → s .left ≤ r .left
+fills-few out a b x k r s f g = go (g .full) (decLe (s .left) (r .left))
+  where
+    go : (s .left ≡ 0) ⊎ (length out < s .to + 55) → Dec (s .left ≤ r .left) → s .left ≤ r .left
+    go full (yes h) = h
+    go (inl z) (no h) = omega arith
+    go (inr w) (no h) = absurd (omega (arith, f .each (k - s .left) (omega (arith, g .few)), g .place))
+
+-- so they are one, and so are the bytes that they leave
+pub fills-one : (out a b : List ℕ) (x k : ℕ) (r s : Course) → Fills out x k a r → Fills out x k b s → (r ≡ s) × (a ≡ b)
+fills-one out a b x k r s f g =
+    let e : r .left ≡ s .left = omega (arith, fills-few out a b x k r s f g, fills-few out b a x k s r g f) in
+    let state : r .state ≡ s .state = f .state ∙ ap (λ (n : ℕ). stateAfter x (k - n)) e ∙ sym (g .state) in
+    let to : r .to ≡ s .to = f .place ∙ ap (λ (n : ℕ). length (linesText x (k - n))) e ∙ sym (g .place) in
+    (λ i. record { state = state i; left = e i; to = to i }, f .text ∙ ap (λ (n : ℕ). splice out 0 (linesText x (k - n))) e ∙ sym (g .text))
 
 -- ---- the whole
 

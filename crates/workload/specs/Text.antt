@@ -49,13 +49,15 @@ scriptText seed n = (formatLine ++ (10 ∷ [])) ++ linesText seed n
 
 -- ---- in pieces
 
--- as many of the lines that are left as find room become r's piece: there is always room for one of 55 bytes
+-- as many of the lines that are left as find room become r's piece: a line is put while 55 bytes, the longest line's, are free. This says how many they are
+-- (`WholeRush: fills-one`)
 pub record Fills (out : List ℕ) (x k : ℕ) (out′ : List ℕ) (r : Course) : Type 0 where
   pub few : r .left ≤ k
   pub state : r .state ≡ stateAfter x (k - r .left)
   pub place : r .to ≡ length (linesText x (k - r .left))
   pub room : r .to ≤ length out
   pub text : out′ ≡ splice out 0 (linesText x (k - r .left))
+  pub each : (j : ℕ) → j < k - r .left → length (linesText x j) + 55 ≤ length out
   pub full : (r .left ≡ 0) ⊎ (length out < r .to + 55)
 
 -- pieces that follow each other from a state on, to the last of so many lines

@@ -5,6 +5,7 @@ use mathlib.Core.Logic.{_⊎_}
 use mathlib.Core.List.{List, [], _∷_, _++_}
 use native.Mathlib.Omega.{arith}
 use lib.ListN.{length, length-append}
+use borrow.Author.Count.{below-more}
 use Rattle.octets.specs.Octets.{splice}
 use Rattle.octets.proofs.Parts.{splice-append, splice-nil}
 use Rattle.workload.specs.declared.Drawn.{Drawn}
@@ -20,6 +21,7 @@ pub record Filling (out₀ : List ℕ) (x₀ k : ℕ) (out : List ℕ) (x n to :
   pub place : to ≡ length (linesText x₀ (k - n))
   pub room : to ≤ length out₀
   pub text : out ≡ splice out₀ 0 (linesText x₀ (k - n))
+  pub each : (j : ℕ) → j < k - n → length (linesText x₀ j) + 55 ≤ length out₀
 
 no-lines : (x : ℕ) → linesText x 0 ≡ []
 unfolding linesText
@@ -39,6 +41,7 @@ filling-none out₀ x₀ k =
       place = ap length e;
       room = omega arith;
       text = sym (splice-nil out₀ 0) ∙ ap (splice out₀ 0) e;
+      each = λ j h. absurd (omega arith);
     }
 
 module _ (out₀ : List ℕ) (x₀ k : ℕ) (out : List ℕ) (x n to : ℕ) (f : Filling out₀ x₀ k out x n to) where
@@ -71,7 +74,8 @@ module _ (out₀ : List ℕ) (x₀ k : ℕ) (out : List ℕ) (x n to : ℕ) (f :
               ∙ ap₂ (λ (y : List ℕ) (i : ℕ). splice y i l) (f .text) q
               ∙ splice-append out₀ 0 (linesText x₀ j) l (omega arith)
               ∙ ap (splice out₀ 0) t;
+          each = rw (sym z) (below-more _ _ (f .each) (omega (arith, f .place)));
         }
 
   pub filled : (n ≡ 0) ⊎ (length out₀ < to + 55) → Fills out₀ x₀ k out (record { state = x; left = n; to = to })
-  filled full = record { few = f .few; state = f .state; place = f .place; room = f .room; text = f .text; full = full }
+  filled full = record { few = f .few; state = f .state; place = f .place; room = f .room; text = f .text; each = f .each; full = full }

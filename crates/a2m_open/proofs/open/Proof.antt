@@ -18,24 +18,6 @@ found k = let a = k .before .before .before .args in k .check .ensures ∙ ap (�
     all-of : (l : List ℕ) → take (length l - 0) (drop 0 l) ≡ l
     all-of l = take-all (length l - 0) l (omega arith)
 
-sub-check : tie.Need-sub-check
-sub-check c = search needs
-
-part-check-start : tie.Need-part-check-start
-part-check-start c = search needs
-
-part-check-end : tie.Need-part-check-end
-part-check-end c = search needs
-
-check-requires : tie.Need-check-requires
-check-requires c κs = search needs
-
-enum-known-count : tie.Need-enum-known-count
-enum-known-count c = search needs
-
-enum-told : tie.Need-enum-told
-enum-told c = search needs
-
 returns : tie.Need-returns
 returns c = open-torn (c .before .before .before .before .before .args .table .now) (c .before .before .before .before .before .args .log) (sym (c .enum-told .given .1) ∙ found (c .before .before))
 
@@ -62,18 +44,5 @@ returns-3 c = let x = c .before .before .before .before .before .before .before 
 
 pub open-spec : {M : Type 1} → statement M
 open-spec =
-    tie.close
-    (tie.spec
-    sub-check
-    part-check-start
-    part-check-end
-    check-requires
-    enum-known-count
-    enum-told
-    returns
-    logs-of-requires
-    returns-2
-    slots-of-requires
-    row-at-requires
-    free-of-requires
-    returns-3)
+    tie.close (tie.spec (search needs) (search needs) (search needs) (λ c κs. search needs) (search needs) (search needs) returns logs-of-requires
+    returns-2 slots-of-requires row-at-requires free-of-requires returns-3)

@@ -31,12 +31,6 @@ link-at-requires : tie.Need-link-at-requires Inv-loop μ-loop
 link-at-requires c κs = let p8 = c .before .before .before .before .before .before .before .before in
     (holds-counted _ _ _ _ _ (c .before .loop .inv .1 (p8 .args .table .now) (begins (p8 .args .table .now) (p8 .args .view) (p8 .args .n) (c .before .before .before .before .join .last .0) (p8 .pre .0) (λ i. omega (arith, c .before .before .before .before .before .before .before .slice-known .given i)) (p8 .pre .1 .0) (p8 .pre .1 .1) (c .before .before .before .before .join .ensures)) .held), slot-within (p8 .args .table .now) (p8 .args .view) (p8 .args .n) (c .before .loop .table) (c .before .loop .last) (c .before .loop .count) (c .before .loop .s) (p8 .pre .0) (c .before .loop .inv .1 (p8 .args .table .now) (begins (p8 .args .table .now) (p8 .args .view) (p8 .args .n) (c .before .before .before .before .join .last .0) (p8 .pre .0) (λ i. omega (arith, c .before .before .before .before .before .before .before .slice-known .given i)) (p8 .pre .1 .0) (p8 .pre .1 .1) (c .before .before .before .before .join .ensures))))
 
-slice-aggregate-put-slot : tie.Need-slice-aggregate-put-slot Inv-loop μ-loop
-slice-aggregate-put-slot c = search needs
-
-slice-aggregate-put-slot-2 : tie.Need-slice-aggregate-put-slot-2 Inv-loop μ-loop
-slice-aggregate-put-slot-2 c = search needs
-
 put-slot-requires : tie.Need-put-slot-requires Inv-loop μ-loop
 unfolding zeros
 put-slot-requires c κs = let p10 = c .before .before .before .before .before .before .before .before .before .before in
@@ -73,9 +67,6 @@ join-requires-2 c κs = let p8 = c .before .before .before .before .before .befo
     let p11 = p8 .before .before .before in
     let p12 = p11 .before in
     (holds-counted _ _ _ _ _ (c .before .before .before .before .before .loop .inv .1 (p12 .args .table .now) (begins (p12 .args .table .now) (p12 .args .view) (p12 .args .n) (p8 .join .last .0) (p12 .pre .0) (λ i. omega (arith, p11 .slice-known .given i)) (p12 .pre .1 .0) (p12 .pre .1 .1) (p8 .join .ensures)) .held), (last-most-free (p12 .args .table .now) (p12 .args .view) (p12 .args .n) (c .before .before .before .before .before .loop .table) (c .before .before .before .before .before .loop .last) (c .before .before .before .before .before .loop .count) (c .before .before .before .before .before .loop .s) (p12 .pre .0) (c .before .before .before .before .before .loop .inv .1 (p12 .args .table .now) (begins (p12 .args .table .now) (p12 .args .view) (p12 .args .n) (p8 .join .last .0) (p12 .pre .0) (λ i. omega (arith, p11 .slice-known .given i)) (p12 .pre .1 .0) (p12 .pre .1 .1) (p8 .join .ensures))), omega arith))
-
-truncate-requires : tie.Need-truncate-requires Inv-loop μ-loop
-truncate-requires c κs = search needs
 
 put-row-requires : tie.Need-put-row-requires Inv-loop μ-loop
 put-row-requires c κs = let p10 = c .before .before .before .before .before .before .before .before .before .before in
@@ -147,23 +138,5 @@ returns c =
 
 pub strike-spec : {M : Type 1} → statement M
 strike-spec =
-    tie.close
-    (tie.spec
-    Inv-loop
-    μ-loop
-    join-requires
-    loop-holds
-    link-at-requires
-    slice-aggregate-put-slot
-    slice-aggregate-put-slot-2
-    put-slot-requires
-    add-count
-    loop-less
-    loop-again
-    join-requires-2
-    truncate-requires
-    put-row-requires
-    put-count-requires
-    put-last-requires
-    same-length
-    returns)
+    tie.close (tie.spec Inv-loop μ-loop join-requires loop-holds link-at-requires (search needs) (search needs) put-slot-requires add-count loop-less
+    loop-again join-requires-2 (λ c κs. search needs) put-row-requires put-count-requires put-last-requires same-length returns)

@@ -11,15 +11,9 @@ returns c = let a = c .before .before .before .before .args in truncate-low (a .
 returns-2 : tie.Need-returns-2
 returns-2 c = let a = c .before .before .before .before .before .before .args in truncate-high (a .table .now) (a .position) (a .view) (c .before .before .before .before .before .before .pre) (c .before .before .if1 .left) (c .if2 .taken)
 
-strike-requires : tie.Need-strike-requires
-strike-requires c κs = search needs
-
-same-length : tie.Need-same-length
-same-length c = search needs
-
 returns-3 : tie.Need-returns-3
 returns-3 c = let p10 = c .before .before .before .before .before .before .before .before .before .before in
     let a = p10 .args in let s = c .before .before .strike in truncate-done (a .table .now) (a .position) (a .view) (p10 .pre) (c .before .before .before .before .before .before .if1 .left) (c .before .before .before .before .if2 .left) (changeReply (s .result)) (changeBlocks (s .result)) (s .last .0) (s .ensures .0) (s .ensures .1 .0) (s .ensures .1 .1)
 
 pub truncate-open-spec : {M : Type 1} → statement M
-truncate-open-spec = tie.close (tie.spec returns returns-2 strike-requires same-length returns-3)
+truncate-open-spec = tie.close (tie.spec returns returns-2 (λ c κs. search needs) (search needs) returns-3)

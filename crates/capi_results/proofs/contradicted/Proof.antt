@@ -4,18 +4,6 @@ use borrow.Author.Needs.{needs}
 use Rattle.capi_results.proofs.contradicted.Statement.{statement}
 use Rattle.capi_results.proofs.contradicted.Tie as tie
 
-enum-known-contradiction : tie.Need-enum-known-contradiction
-enum-known-contradiction c = search needs
-
-enum-known-contradiction-2 : tie.Need-enum-known-contradiction-2
-enum-known-contradiction-2 c = search needs
-
-enum-known-contradiction-3 : tie.Need-enum-known-contradiction-3
-enum-known-contradiction-3 c = search needs
-
-refused-requires : tie.Need-refused-requires
-refused-requires c κs = search needs
-
 returns : tie.Need-returns
 returns c = let a = c .before .before .before .args in
     pair-found (a .contradiction) (a .found .now) (a .first .now) (a .second .now) _ _ _ (c .before .contradiction .given .1)
@@ -29,13 +17,4 @@ returns-3 c = let a = c .before .before .before .before .args in
     refused-search (a .contradiction) (a .found .now) (a .first .now) (a .second .now) _ _ (c .before .before .contradiction3 .given .1) (c .refused .ensures)
 
 pub contradicted-spec : {M : Type 1} → statement M
-contradicted-spec =
-    tie.close
-    (tie.spec
-    enum-known-contradiction
-    enum-known-contradiction-2
-    enum-known-contradiction-3
-    refused-requires
-    returns
-    returns-2
-    returns-3)
+contradicted-spec = tie.close (tie.spec (search needs) (search needs) (search needs) (λ c κs. search needs) returns returns-2 returns-3)

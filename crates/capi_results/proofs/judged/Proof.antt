@@ -4,21 +4,6 @@ use borrow.Author.Needs.{needs}
 use Rattle.capi_results.proofs.judged.Statement.{statement}
 use Rattle.capi_results.proofs.judged.Tie as tie
 
-enum-known-judgement : tie.Need-enum-known-judgement
-enum-known-judgement c = search needs
-
-wide-requires : tie.Need-wide-requires
-wide-requires c κs = search needs
-
-wide-requires-2 : tie.Need-wide-requires-2
-wide-requires-2 c κs = search needs
-
-enum-known-judgement-2 : tie.Need-enum-known-judgement-2
-enum-known-judgement-2 c = search needs
-
-refused-requires : tie.Need-refused-requires
-refused-requires c κs = search needs
-
 returns : tie.Need-returns
 returns c = let a = c .before .before .before .before .before .before .args in
     let j = c .before .before .before .before .judgement .given in
@@ -30,12 +15,4 @@ returns-2 c = let a = c .before .before .before .before .args in
 
 pub judged-spec : {M : Type 1} → statement M
 judged-spec =
-    tie.close
-    (tie.spec
-    enum-known-judgement
-    wide-requires
-    wide-requires-2
-    enum-known-judgement-2
-    refused-requires
-    returns
-    returns-2)
+    tie.close (tie.spec (search needs) (λ c κs. search needs) (λ c κs. search needs) (search needs) (λ c κs. search needs) returns returns-2)

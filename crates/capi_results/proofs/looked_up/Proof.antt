@@ -4,15 +4,6 @@ use borrow.Author.Needs.{needs}
 use Rattle.capi_results.proofs.looked_up.Statement.{statement}
 use Rattle.capi_results.proofs.looked_up.Tie as tie
 
-enum-known-finding : tie.Need-enum-known-finding
-enum-known-finding c = search needs
-
-enum-known-finding-2 : tie.Need-enum-known-finding-2
-enum-known-finding-2 c = search needs
-
-refused-requires : tie.Need-refused-requires
-refused-requires c κs = search needs
-
 returns : tie.Need-returns
 returns c = let a = c .before .before .before .args in
     found-looked (a .finding) (a .examined .now) _ _ (c .before .finding .given .1)
@@ -22,5 +13,4 @@ returns-2 c = let a = c .before .before .before .before .args in
     refused-looked (a .finding) (a .examined .now) _ _ (c .before .before .finding2 .given .1) (c .refused .ensures)
 
 pub looked-up-spec : {M : Type 1} → statement M
-looked-up-spec =
-    tie.close (tie.spec enum-known-finding enum-known-finding-2 refused-requires returns returns-2)
+looked-up-spec = tie.close (tie.spec (search needs) (search needs) (λ c κs. search needs) returns returns-2)

@@ -5,23 +5,10 @@ use borrow.Author.Needs.{needs}
 use Rattle.capi_results.proofs.worked.Statement.{statement}
 use Rattle.capi_results.proofs.worked.Tie as tie
 
-enum-known-answer : tie.Need-enum-known-answer
-enum-known-answer c = search needs
-
-enum-known-answer-2 : tie.Need-enum-known-answer-2
-enum-known-answer-2 c = search needs
-
-refused-requires : tie.Need-refused-requires
-refused-requires c κs = search needs
-
-returns : tie.Need-returns
-returns c = search needs
-
 returns-2 : tie.Need-returns-2
 returns-2 c =
     let e = c .before .before .answer2 .given .1 in
     (c .refused .ensures .0 ∙ sym (ap workedNumber e), c .refused .ensures .1 ∙ sym (ap workedBlocks e))
 
 pub worked-spec : {M : Type 1} → statement M
-worked-spec =
-    tie.close (tie.spec enum-known-answer enum-known-answer-2 refused-requires returns returns-2)
+worked-spec = tie.close (tie.spec (λ c. search needs) (λ c. search needs) (λ c κs. search needs) (λ c. search needs) returns-2)

@@ -8,14 +8,8 @@ use borrow.Author.Needs.{needs}
 use Rattle.entry.proofs.number.Statement.{statement}
 use Rattle.entry.proofs.number.Tie as tie
 
-slice-aggregate-put-u64 : tie.Need-slice-aggregate-put-u64
-slice-aggregate-put-u64 c = search needs
-
-put-u64-requires : tie.Need-put-u64-requires
-put-u64-requires c κs = search needs
-
 returns : tie.Need-returns
 returns c = c .before .put-u64 .ensures ∙ splice-whole (replicate 8 0) (be 8 _) (length-be 8 _)
 
 pub number-spec : {M : Type 1} → statement M
-number-spec = tie.close (tie.spec slice-aggregate-put-u64 put-u64-requires returns)
+number-spec = tie.close (tie.spec (search needs) (search needs) returns)

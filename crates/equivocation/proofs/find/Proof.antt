@@ -12,16 +12,10 @@ use borrow.Author.Needs.{needs}
 use Rattle.equivocation.proofs.find.Statement.{statement}
 use Rattle.equivocation.proofs.find.Tie as tie
 
-is-permitted-requires : tie.Need-is-permitted-requires
-is-permitted-requires c κs = search needs
-
 returns : tie.Need-returns
 returns c =
     let p4 = c .before .before .before .before in
     let a = p4 .args in no-profile (a .members) (a .needed) (a .roster .now) (a .pile .now) (sym (c .before .is-permitted .ensures) ∙ not-true _ (c .if1 .taken))
-
-is-roster-requires : tie.Need-is-roster-requires
-is-roster-requires c κs = search needs
 
 returns-2 : tie.Need-returns-2
 returns-2 c =
@@ -47,9 +41,6 @@ returns-4 c =
 marks-of-requires : tie.Need-marks-of-requires
 marks-of-requires c κs = (omega (arith, c .before .if3 .left), c .if4 .left)
 
-slice-aggregate-first-pair : tie.Need-slice-aggregate-first-pair
-slice-aggregate-first-pair c = search needs
-
 first-pair-requires : tie.Need-first-pair-requires
 first-pair-requires c κs =
     let p3 = c .before .before .before in
@@ -74,18 +65,8 @@ returns-5 c =
 
 pub find-spec : {M : Type 1} → statement M
 find-spec =
-    tie.close
-    (tie.spec
-    is-permitted-requires
-    returns
-    is-roster-requires
-    returns-2
-    returns-3
-    returns-4
-    marks-of-requires
-    slice-aggregate-first-pair
-    first-pair-requires
-    returns-5)
+    tie.close (tie.spec (λ c κs. search needs) returns (λ c κs. search needs) returns-2 returns-3 returns-4 marks-of-requires (search needs)
+    first-pair-requires returns-5)
 
 -- no literal of the body becomes the count
 pub counted : unwritten counts (function .body) ≡ true

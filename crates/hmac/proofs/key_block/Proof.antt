@@ -13,26 +13,11 @@ use Rattle.hmac.proofs.key_block.Tie as tie
 use Rattle.refusal.specs.Unwritten.{unwritten, counts}
 use Rattle.hmac.proofs.key_block.Code.Mir.{function}
 
-slice-aggregate-put : tie.Need-slice-aggregate-put
-slice-aggregate-put c = search needs
-
-put-requires : tie.Need-put-requires
-put-requires c κs = search needs
-
 returns : tie.Need-returns
 returns c =
     let k = c .before .before .before .before .before .args .key .now in
     let h = c .before .before .before .if1 .taken in
     (c .before .put .ensures ∙ padded-is k ∙ ap padded (short-key k h), no-key-blocks k h)
-
-digest-of-requires : tie.Need-digest-of-requires
-digest-of-requires c κs = search needs
-
-slice-aggregate-put-2 : tie.Need-slice-aggregate-put-2
-slice-aggregate-put-2 c = search needs
-
-slice-aggregate-put-3 : tie.Need-slice-aggregate-put-3
-slice-aggregate-put-3 c = search needs
 
 put-requires-2 : tie.Need-put-requires-2
 put-requires-2 c κs = omega (arith, ap length (c .before .before .before .digest-of .ensures .0) ∙ length-sha256 (c .before .before .before .before .before .before .args .key .now))
@@ -46,16 +31,8 @@ returns-2 c =
 
 pub key-block-spec : {M : Type 1} → statement M
 key-block-spec =
-    tie.close
-    (tie.spec
-    slice-aggregate-put
-    put-requires
-    returns
-    digest-of-requires
-    slice-aggregate-put-2
-    slice-aggregate-put-3
-    put-requires-2
-    returns-2)
+    tie.close (tie.spec (λ c. search needs) (λ c κs. search needs) returns (λ c κs. search needs) (λ c. search needs) (λ c. search needs)
+    put-requires-2 returns-2)
 
 -- no literal of the body becomes the count
 pub counted : unwritten counts (function .body) ≡ true

@@ -31,17 +31,8 @@ returns-3 c =
     refused-works 7 _ _ (x .out .now)
     (long-text-refused (x .key .now) (x .text .now) (x .out .now) (c .before .before .if1 .left) (c .before .if2 .left) (omega (arith, c .if3 .taken)))
 
-tag-of-requires : tie.Need-tag-of-requires
-tag-of-requires c κs = search needs
-
-slice-aggregate-put : tie.Need-slice-aggregate-put
-slice-aggregate-put c = search needs
-
 put-requires : tie.Need-put-requires
 put-requires c κs = omega (arith, c .before .before .before .before .before .before .if1 .left, ap length (c .before .before .before .tag-of .ensures .0) ∙ length-hmac (c .before .before .before .before .before .before .before .before .before .before .args .key .now) (c .before .before .before .before .before .before .before .before .before .before .args .text .now))
-
-same-length : tie.Need-same-length
-same-length c = search needs
 
 returns-4 : tie.Need-returns-4
 returns-4 c =
@@ -58,17 +49,7 @@ returns-4 c =
     )
 
 pub tag-spec : {M : Type 1} → statement M
-tag-spec =
-    tie.close
-    (tie.spec
-    returns
-    returns-2
-    returns-3
-    tag-of-requires
-    slice-aggregate-put
-    put-requires
-    same-length
-    returns-4)
+tag-spec = tie.close (tie.spec returns returns-2 returns-3 (λ c κs. search needs) (λ c. search needs) put-requires (λ c. search needs) returns-4)
 
 -- no literal of the body becomes the count
 pub counted : unwritten counts (function .body) ≡ true

@@ -13,27 +13,6 @@ use Rattle.hmac.proofs.tag_of.Tie as tie
 use Rattle.refusal.specs.Unwritten.{unwritten, counts}
 use Rattle.hmac.proofs.tag_of.Code.Mir.{function}
 
-key-block-requires : tie.Need-key-block-requires
-key-block-requires c κs = search needs
-
-mask-requires : tie.Need-mask-requires
-mask-requires c κs = search needs
-
-slice-aggregate-prefixed-digest : tie.Need-slice-aggregate-prefixed-digest
-slice-aggregate-prefixed-digest c = search needs
-
-prefixed-digest-requires : tie.Need-prefixed-digest-requires
-prefixed-digest-requires c κs = search needs
-
-mask-requires-2 : tie.Need-mask-requires-2
-mask-requires-2 c κs = search needs
-
-slice-aggregate-prefixed-digest-2 : tie.Need-slice-aggregate-prefixed-digest-2
-slice-aggregate-prefixed-digest-2 c = search needs
-
-slice-aggregate-prefixed-digest-3 : tie.Need-slice-aggregate-prefixed-digest-3
-slice-aggregate-prefixed-digest-3 c = search needs
-
 prefixed-digest-requires-2 : tie.Need-prefixed-digest-requires-2
 prefixed-digest-requires-2 c κs = let d = c .before .before .before .before .prefixed-digest in (search needs, omega (arith, ap length (d .ensures .0) ∙ length-sha256 _))
 
@@ -60,19 +39,8 @@ returns c = total (c .before)
 
 pub tag-of-spec : {M : Type 1} → statement M
 tag-of-spec =
-    tie.close
-    (tie.spec
-    key-block-requires
-    mask-requires
-    slice-aggregate-prefixed-digest
-    prefixed-digest-requires
-    mask-requires-2
-    slice-aggregate-prefixed-digest-2
-    slice-aggregate-prefixed-digest-3
-    prefixed-digest-requires-2
-    add-blocks
-    add-blocks-2
-    returns)
+    tie.close (tie.spec (λ c κs. search needs) (λ c κs. search needs) (λ c. search needs) (λ c κs. search needs) (λ c κs. search needs)
+    (λ c. search needs) (λ c. search needs) prefixed-digest-requires-2 add-blocks add-blocks-2 returns)
 
 -- no literal of the body becomes the count
 pub counted : unwritten counts (function .body) ≡ true

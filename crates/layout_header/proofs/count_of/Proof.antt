@@ -4,12 +4,9 @@ use borrow.Author.Needs.{needs}
 use Rattle.layout_header.proofs.count_of.Statement.{statement}
 use Rattle.layout_header.proofs.count_of.Tie as tie
 
-pair-at-requires : tie.Need-pair-at-requires
-pair-at-requires c κs = search needs
-
 returns : tie.Need-returns
 unfolding stockOf
 returns c = c .pair-at .ensures
 
 pub count-of-spec : {M : Type 1} → statement M
-count-of-spec = tie.close (tie.spec pair-at-requires returns)
+count-of-spec = tie.close (tie.spec (search needs) returns)

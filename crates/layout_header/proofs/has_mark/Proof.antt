@@ -9,11 +9,8 @@ use borrow.Author.Needs.{needs}
 use Rattle.layout_header.proofs.has_mark.Statement.{statement}
 use Rattle.layout_header.proofs.has_mark.Tie as tie
 
-get-u32-requires : tie.Need-get-u32-requires
-get-u32-requires c κs = search needs
-
 returns : tie.Need-returns
 returns c = let x = c .before .before in ap (λ (n : ℕ). eqb n markNumber) (c .get-u32 .ensures) ∙ mark-test (x .args .table .now) (λ i. omega (arith, c .before .shared-slice-known .given i)) (x .pre)
 
 pub has-mark-spec : {M : Type 1} → statement M
-has-mark-spec = tie.close (tie.spec get-u32-requires returns)
+has-mark-spec = tie.close (tie.spec (search needs) returns)

@@ -9,20 +9,8 @@ use Rattle.layout_header.proofs.header_fits.Tie as tie
 returns : tie.Need-returns
 returns c = too-short (c .before .before .args .table .now) (c .if1 .taken)
 
-constants-fit-requires : tie.Need-constants-fit-requires
-constants-fit-requires c κs = search needs
-
 returns-2 : tie.Need-returns-2
 returns-2 c = other-constants (c .before .before .before .before .args .table .now) (c .before .constants-fit .result) (c .before .constants-fit .ensures) (c .if2 .taken)
-
-logs-of-requires : tie.Need-logs-of-requires
-logs-of-requires c κs = search needs
-
-slots-of-requires : tie.Need-slots-of-requires
-slots-of-requires c κs = search needs
-
-in-range-requires : tie.Need-in-range-requires
-in-range-requires c κs = search needs
 
 returns-3 : tie.Need-returns-3
 returns-3 c = other-counts (c .before .before .before .before .before .before .before .before .args .table .now) (c .before .in-range .result) (c .before .before .before .logs-of .result) (c .before .before .slots-of .result) (c .before .before .before .logs-of .ensures .0) (c .before .before .slots-of .ensures .0) (c .before .in-range .ensures) (c .if3 .taken)
@@ -35,14 +23,4 @@ returns-4 c = by-length (c .before .before .before .before .before .before .befo
 
 pub header-fits-spec : {M : Type 1} → statement M
 header-fits-spec =
-    tie.close
-    (tie.spec
-    returns
-    constants-fit-requires
-    returns-2
-    logs-of-requires
-    slots-of-requires
-    in-range-requires
-    returns-3
-    table-size-requires
-    returns-4)
+    tie.close (tie.spec returns (search needs) returns-2 (search needs) (search needs) (search needs) returns-3 table-size-requires returns-4)

@@ -4,12 +4,9 @@ use borrow.Author.Needs.{needs}
 use Rattle.layout_header.proofs.last_of.Statement.{statement}
 use Rattle.layout_header.proofs.last_of.Tie as tie
 
-pair-at-requires : tie.Need-pair-at-requires
-pair-at-requires c κs = search needs
-
 returns : tie.Need-returns
 unfolding stockOf
 returns c = c .pair-at .ensures
 
 pub last-of-spec : {M : Type 1} → statement M
-last-of-spec = tie.close (tie.spec pair-at-requires returns)
+last-of-spec = tie.close (tie.spec (search needs) returns)

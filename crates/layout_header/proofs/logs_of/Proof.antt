@@ -4,12 +4,9 @@ use borrow.Author.Needs.{needs}
 use Rattle.layout_header.proofs.logs_of.Statement.{statement}
 use Rattle.layout_header.proofs.logs_of.Tie as tie
 
-byte-at-requires : tie.Need-byte-at-requires
-byte-at-requires c κs = search needs
-
 returns : tie.Need-returns
 unfolding logsOf
 returns c = c .byte-at .ensures
 
 pub logs-of-spec : {M : Type 1} → statement M
-logs-of-spec = tie.close (tie.spec byte-at-requires returns)
+logs-of-spec = tie.close (tie.spec (search needs) returns)

@@ -4,15 +4,9 @@ use borrow.Author.Needs.{needs}
 use Rattle.layout_header.proofs.put_last.Statement.{statement}
 use Rattle.layout_header.proofs.put_last.Tie as tie
 
-put-pair-requires : tie.Need-put-pair-requires
-put-pair-requires c κs = search needs
-
-same-length : tie.Need-same-length
-same-length c = search needs
-
 returns : tie.Need-returns
 unfolding putLast
 returns c = c .before .before .put-pair .ensures
 
 pub put-last-spec : {M : Type 1} → statement M
-put-last-spec = tie.close (tie.spec put-pair-requires same-length returns)
+put-last-spec = tie.close (tie.spec (search needs) (search needs) returns)

@@ -5,27 +5,6 @@ use borrow.Author.Needs.{needs}
 use Rattle.layout_header.proofs.write_header.Statement.{statement}
 use Rattle.layout_header.proofs.write_header.Tie as tie
 
-write-counts-requires : tie.Need-write-counts-requires
-write-counts-requires c κs = search needs
-
-put-u64-requires : tie.Need-put-u64-requires
-put-u64-requires c κs = search needs
-
-put-pair-requires : tie.Need-put-pair-requires
-put-pair-requires c κs = search needs
-
-put-pair-requires-2 : tie.Need-put-pair-requires-2
-put-pair-requires-2 c κs = search needs
-
-put-requires : tie.Need-put-requires
-put-requires c κs = search needs
-
-put-pair-requires-3 : tie.Need-put-pair-requires-3
-put-pair-requires-3 c κs = search needs
-
-same-length : tie.Need-same-length
-same-length c = search needs
-
 returns : tie.Need-returns
 returns c =
     let l = c .before .before in
@@ -39,13 +18,4 @@ returns c =
 
 pub write-header-spec : {M : Type 1} → statement M
 write-header-spec =
-    tie.close
-    (tie.spec
-    write-counts-requires
-    put-u64-requires
-    put-pair-requires
-    put-pair-requires-2
-    put-requires
-    put-pair-requires-3
-    same-length
-    returns)
+    tie.close (tie.spec (search needs) (search needs) (search needs) (search needs) (search needs) (search needs) (search needs) returns)

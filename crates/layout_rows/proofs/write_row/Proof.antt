@@ -4,35 +4,8 @@ use borrow.Author.Needs.{needs}
 use Rattle.layout_rows.proofs.write_row.Statement.{statement}
 use Rattle.layout_rows.proofs.write_row.Tie as tie
 
-put-u64-requires : tie.Need-put-u64-requires
-put-u64-requires c κs = search needs
-
-put-u64-requires-2 : tie.Need-put-u64-requires-2
-put-u64-requires-2 c κs = search needs
-
-put-pair-requires : tie.Need-put-pair-requires
-put-pair-requires c κs = search needs
-
-put-pair-requires-2 : tie.Need-put-pair-requires-2
-put-pair-requires-2 c κs = search needs
-
-put-pair-requires-3 : tie.Need-put-pair-requires-3
-put-pair-requires-3 c κs = search needs
-
-same-length : tie.Need-same-length
-same-length c = search needs
-
 returns : tie.Need-returns
 returns c = let x = c .before .before .before .before .before .before .before .before .before .before .before .before .before .before .before .before .before .before .before .before .before in row-fields (x .args .part .now) (x .args .row) (x .pre .0) (c .before .before .before .before .before .before .before .before .before .before .before .before .before .before .before .before .before .before .put-u64 .ensures) (c .before .before .before .before .before .before .before .before .before .before .before .before .before .before .put-u642 .ensures) (c .before .before .before .before .before .before .before .before .before .before .put-pair .ensures) (c .before .before .before .before .before .before .put-pair2 .ensures) (c .before .before .put-pair3 .ensures)
 
 pub write-row-spec : {M : Type 1} → statement M
-write-row-spec =
-    tie.close
-    (tie.spec
-    put-u64-requires
-    put-u64-requires-2
-    put-pair-requires
-    put-pair-requires-2
-    put-pair-requires-3
-    same-length
-    returns)
+write-row-spec = tie.close (tie.spec (search needs) (search needs) (search needs) (search needs) (search needs) (search needs) returns)

@@ -9,9 +9,6 @@ use borrow.Author.Needs.{needs}
 use Rattle.layout_slots.proofs.link_at.Statement.{statement}
 use Rattle.layout_slots.proofs.link_at.Tie as tie
 
-row-offset-requires : tie.Need-row-offset-requires
-row-offset-requires c κs = search needs
-
 link-from-requires : tie.Need-link-from-requires
 link-from-requires c κs = let x = c .before .before in (slotted plan (x .args .table .now) (x .args .logs) (x .args .slots) (c .row-offset .result) (x .pre .0) (c .row-offset .ensures), x .pre .1)
 
@@ -19,4 +16,4 @@ returns : tie.Need-returns
 returns c = let x = c .before .before .before in let a = x .args in c .link-from .ensures ∙ ap (λ (s : Slot). linkOf s) (slot-there (a .table .now) (a .logs) (a .slots) (x .pre .0) (c .before .row-offset .result) (a .s) (c .before .row-offset .ensures))
 
 pub link-at-spec : {M : Type 1} → statement M
-link-at-spec = tie.close (tie.spec row-offset-requires link-from-requires returns)
+link-at-spec = tie.close (tie.spec (search needs) link-from-requires returns)

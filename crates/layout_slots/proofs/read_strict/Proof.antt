@@ -6,24 +6,6 @@ use borrow.Author.Needs.{needs}
 use Rattle.layout_slots.proofs.read_strict.Statement.{statement}
 use Rattle.layout_slots.proofs.read_strict.Tie as tie
 
-byte-at-requires : tie.Need-byte-at-requires
-byte-at-requires c κs = search needs
-
-byte-at-requires-2 : tie.Need-byte-at-requires-2
-byte-at-requires-2 c κs = search needs
-
-mul-owner : tie.Need-mul-owner
-mul-owner c = search needs
-
-add-owner : tie.Need-add-owner
-add-owner c = search needs
-
-pair-at-requires : tie.Need-pair-at-requires
-pair-at-requires c κs = search needs
-
-get-u64-requires : tie.Need-get-u64-requires
-get-u64-requires c κs = search needs
-
 returns : tie.Need-returns
 unfolding strictSlot
 returns c =
@@ -34,13 +16,4 @@ returns c =
     }
 
 pub read-strict-spec : {M : Type 1} → statement M
-read-strict-spec =
-    tie.close
-    (tie.spec
-    byte-at-requires
-    byte-at-requires-2
-    mul-owner
-    add-owner
-    pair-at-requires
-    get-u64-requires
-    returns)
+read-strict-spec = tie.close (tie.spec (search needs) (search needs) (search needs) (search needs) (search needs) (search needs) returns)

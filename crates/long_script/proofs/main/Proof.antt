@@ -7,14 +7,8 @@ use Rattle.long_script.proofs.main.Tie as tie
 use Rattle.octets.specs.Undivided.{Undivided}
 use Rattle.long_script.proofs.main.Code.Mir.{function}
 
-run-requires : tie.Need-run-requires
-run-requires c κs = search needs
-
-returns : tie.Need-returns
-returns c = search needs
-
 pub main-spec : {M : Type 1} → statement M
-main-spec = tie.close (tie.spec run-requires returns)
+main-spec = tie.close (tie.spec (λ c κs. search needs) (λ c. search needs))
 
 pub undivided : Undivided ("script_run::run" ∷ []) function
 undivided = refl

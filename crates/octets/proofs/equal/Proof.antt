@@ -29,21 +29,9 @@ loop-holds : tie.Need-loop-holds Inv-loop μ-loop
 loop-holds c = (omega arith, (c .if1 .left, same-none (c .before .args .a .now) (c .before .args .b .now)))
 
 -- src/lib.rt:18:24
-shared-slice-read-diff : tie.Need-shared-slice-read-diff Inv-loop μ-loop
-shared-slice-read-diff c = omega arith
-
 -- src/lib.rt:18:31
-shared-slice-read-diff-2 : tie.Need-shared-slice-read-diff-2 Inv-loop μ-loop
-shared-slice-read-diff-2 c = omega arith
-
 -- src/lib.rt:19:9
-add-i : tie.Need-add-i Inv-loop μ-loop
-add-i c = omega arith
-
 -- src/lib.rt:17:5
-loop-less : tie.Need-loop-less Inv-loop μ-loop
-loop-less c = omega arith
-
 -- src/lib.rt:17:5
 loop-again : tie.Need-loop-again Inv-loop μ-loop
 loop-again c = (omega arith, (c .before .before .before .loop .inv .1 .0, rw add-one (same-more (c .before .before .before .before .before .args .a .now) (c .before .before .before .before .before .args .b .now) (c .before .before .before .loop .i) (c .before .before .before .loop .diff) (omega arith) (omega arith) (c .before .before .before .loop .inv .1 .1))))
@@ -54,17 +42,7 @@ returns-2 c = c .before .loop .inv .1 .1 ∙ same-all (c .before .before .before
 
 pub equal-spec : {M : Type 1} → statement M
 equal-spec =
-    tie.close
-    (tie.spec
-    Inv-loop
-    μ-loop
-    returns
-    loop-holds
-    shared-slice-read-diff
-    shared-slice-read-diff-2
-    add-i
-    loop-less
-    loop-again
+    tie.close (tie.spec Inv-loop μ-loop returns loop-holds (λ c. omega arith) (λ c. omega arith) (λ c. omega arith) (λ c. omega arith) loop-again
     returns-2)
 
 pub undivided : Undivided [] function

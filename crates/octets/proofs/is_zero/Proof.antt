@@ -20,15 +20,6 @@ abbrev μ-loop : tie.MeasureT-loop
 loop-holds : tie.Need-loop-holds Inv-loop μ-loop
 loop-holds c = (omega arith, same-none (c .args .s .now) (zeros (length (c .args .s .now))))
 
-shared-slice-read-any : tie.Need-shared-slice-read-any Inv-loop μ-loop
-shared-slice-read-any c = search needs
-
-add-i : tie.Need-add-i Inv-loop μ-loop
-add-i c = search needs
-
-loop-less : tie.Need-loop-less Inv-loop μ-loop
-loop-less c = omega arith
-
 loop-again : tie.Need-loop-again Inv-loop μ-loop
 loop-again c = let a = c .before .before .before .args in let l = c .before .before .loop in (omega arith, zero-more (a .s .now) (l .i) (l .any) (omega arith) (l .inv .1))
 
@@ -36,6 +27,4 @@ returns : tie.Need-returns Inv-loop μ-loop
 returns c = let a = c .before .before .args in let l = c .before .loop in l .inv .1 ∙ zero-all (a .s .now) (l .i) (omega arith)
 
 pub is-zero-spec : {M : Type 1} → statement M
-is-zero-spec =
-    tie.close
-    (tie.spec Inv-loop μ-loop loop-holds shared-slice-read-any add-i loop-less loop-again returns)
+is-zero-spec = tie.close (tie.spec Inv-loop μ-loop loop-holds (search needs) (search needs) (λ c. omega arith) loop-again returns)

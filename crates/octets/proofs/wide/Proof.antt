@@ -7,11 +7,8 @@ use Rattle.octets.proofs.wide.Tie as tie
 use Rattle.octets.specs.Undivided.{Undivided}
 use Rattle.octets.proofs.wide.Code.Mir.{function}
 
-returns : tie.Need-returns
-returns c = search needs
-
 pub wide-spec : {M : Type 1} → statement M
-wide-spec = tie.close (tie.spec returns)
+wide-spec = tie.close (tie.spec (search needs))
 
 pub undivided : Undivided [] function
 undivided = refl

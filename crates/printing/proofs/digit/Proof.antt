@@ -8,12 +8,6 @@ use Rattle.octets.specs.Undivided.{Undivided}
 use Rattle.printing.proofs.digit.Code.Mir.{function}
 use Rattle.printing.proofs.digit.Tie as tie
 
-add-result : tie.Need-add-result
-add-result c = search needs
-
-add-result-2 : tie.Need-add-result-2
-add-result-2 c = search needs
-
 returns : tie.Need-returns
 returns c = simp (lt-ltb _ _ (c .if1 .taken))
 
@@ -21,7 +15,7 @@ returns-2 : tie.Need-returns-2
 returns-2 c = simp (le-ltb _ _ (c .if1 .left))
 
 pub digit-spec : {M : Type 1} → statement M
-digit-spec = tie.close (tie.spec add-result add-result-2 returns returns-2)
+digit-spec = tie.close (tie.spec (search needs) (search needs) returns returns-2)
 
 pub undivided : Undivided [] function
 undivided = refl

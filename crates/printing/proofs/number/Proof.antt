@@ -10,9 +10,6 @@ use Rattle.octets.specs.Undivided.{Undivided}
 use Rattle.printing.proofs.number.Code.Mir.{function}
 use Rattle.printing.proofs.number.Tie as tie
 
-slice-aggregate-put : tie.Need-slice-aggregate-put
-slice-aggregate-put c = search needs
-
 put-requires : tie.Need-put-requires
 put-requires c κs = omega (arith, length-decimal (c .before .args .n))
 
@@ -27,22 +24,8 @@ slice-aggregate-text c =
     let q = put-within _ (p .last .0) (p .result) (c .before .before .before .before .args .n) refl (p .ensures .0) (p .ensures .1) in
     simp length-take (omega arith)
 
-text-requires : tie.Need-text-requires
-text-requires c κs = search needs
-
-returns : tie.Need-returns
-returns c = search needs
-
 pub number-spec : {M : Type 1} → statement M
-number-spec =
-    tie.close
-    (tie.spec
-    slice-aggregate-put
-    put-requires
-    array-share-prefix-digits
-    slice-aggregate-text
-    text-requires
-    returns)
+number-spec = tie.close (tie.spec (search needs) put-requires array-share-prefix-digits slice-aggregate-text (search needs) (search needs))
 
 pub undivided : Undivided ("decimal::write::put" ∷ "printing::text" ∷ []) function
 undivided = refl

@@ -11,9 +11,6 @@ use Rattle.octets.specs.Undivided.{Undivided}
 use Rattle.printing.proofs.pair.Code.Mir.{function}
 use Rattle.printing.proofs.pair.Tie as tie
 
-digit-requires : tie.Need-digit-requires
-digit-requires c κs = search needs
-
 digit-requires-2 : tie.Need-digit-requires-2
 digit-requires-2 c κs = omega (arith, and-mask (c .before .args .b) 4)
 
@@ -22,7 +19,7 @@ returns c =
     ap₂ {C = List ℕ} (λ (x y : ℕ). x ∷ y ∷ []) (c .before .digit .ensures) (c .digit2 .ensures ∙ ap hexDigit (and-mask (c .before .before .args .b) 4))
 
 pub pair-spec : {M : Type 1} → statement M
-pair-spec = tie.close (tie.spec digit-requires digit-requires-2 returns)
+pair-spec = tie.close (tie.spec (search needs) digit-requires-2 returns)
 
 pub undivided : Undivided ("printing::digit" ∷ []) function
 undivided = refl

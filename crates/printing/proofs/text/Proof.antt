@@ -7,14 +7,8 @@ use Rattle.octets.specs.Undivided.{Undivided}
 use Rattle.printing.proofs.text.Code.Mir.{function}
 use Rattle.printing.proofs.text.Tie as tie
 
-write-all-requires : tie.Need-write-all-requires
-write-all-requires c κs = search needs
-
-returns : tie.Need-returns
-returns c = search needs
-
 pub text-spec : {M : Type 1} → statement M
-text-spec = tie.close (tie.spec write-all-requires returns)
+text-spec = tie.close (tie.spec (search needs) (search needs))
 
 pub undivided : Undivided ("io::write_all" ∷ []) function
 undivided = refl

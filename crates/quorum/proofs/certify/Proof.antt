@@ -20,18 +20,12 @@ returns c =
     certificate-exactly (λ i. omega (arith, c .before .shared-slice-known3 .given i))
     (other-nonce (a .members) (a .needed) (a .roster .now) (a .nonce .now) (a .log) (a .position) (a .cert .now) (c .if1 .taken))
 
-is-permitted-requires : tie.Need-is-permitted-requires
-is-permitted-requires c κs = search needs
-
 returns-2 : tie.Need-returns-2
 returns-2 c =
     let p3 = c .before .before .before in
     let a = p3 .before .before .before .args in
     certificate-exactly (λ i. omega (arith, p3 .shared-slice-known3 .given i))
     (no-profile (a .members) (a .needed) (a .roster .now) (a .nonce .now) (a .log) (a .position) (a .cert .now) (c .before .before .if1 .left) (sym (c .before .is-permitted .ensures) ∙ not-true _ (c .if2 .taken)))
-
-is-roster-requires : tie.Need-is-roster-requires
-is-roster-requires c κs = search needs
 
 returns-3 : tie.Need-returns-3
 returns-3 c =
@@ -71,9 +65,6 @@ tally-of-requires c κs =
     let m = members-most (a .members) (a .needed) (a .roster .now) (a .nonce .now) (a .log) (a .position) (a .cert .now) (p4 .before .before .if1 .left) (sym (p4 .before .is-permitted .ensures) ∙ not-false _ (p4 .if2 .left)) (sym (c .before .before .before .is-roster .ensures) ∙ not-false _ (c .before .before .if3 .left)) in
     ((omega (arith, c .before .if4 .left), (c .if5 .left, m)), p4 .before .before .if1 .left)
 
-slice-aggregate-first-place : tie.Need-slice-aggregate-first-place
-slice-aggregate-first-place c = search needs
-
 first-place-requires : tie.Need-first-place-requires
 first-place-requires c κs =
     let p2 = c .before .before in
@@ -101,17 +92,5 @@ returns-6 c =
 
 pub certify-spec : {M : Type 1} → statement M
 certify-spec =
-    tie.close
-    (tie.spec
-    returns
-    is-permitted-requires
-    returns-2
-    is-roster-requires
-    returns-3
-    returns-4
-    returns-5
-    cast-need
-    tally-of-requires
-    slice-aggregate-first-place
-    first-place-requires
-    returns-6)
+    tie.close (tie.spec returns (λ c κs. search needs) returns-2 (λ c κs. search needs) returns-3 returns-4 returns-5 cast-need tally-of-requires
+    (search needs) first-place-requires returns-6)

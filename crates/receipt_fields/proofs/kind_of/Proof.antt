@@ -5,12 +5,9 @@ use borrow.Author.Needs.{needs}
 use Rattle.receipt_fields.proofs.kind_of.Statement.{statement}
 use Rattle.receipt_fields.proofs.kind_of.Tie as tie
 
-shared-slice-read-result : tie.Need-shared-slice-read-result
-shared-slice-read-result c = search needs
-
 returns : tie.Need-returns
 unfolding readAttestation
 returns c = refl
 
 pub kind-of-spec : {M : Type 1} → statement M
-kind-of-spec = tie.close (tie.spec shared-slice-read-result returns)
+kind-of-spec = tie.close (tie.spec (search needs) returns)

@@ -5,12 +5,9 @@ use borrow.Author.Needs.{needs}
 use Rattle.receipt_fields.proofs.log_of.Statement.{statement}
 use Rattle.receipt_fields.proofs.log_of.Tie as tie
 
-shared-slice-read-result : tie.Need-shared-slice-read-result
-shared-slice-read-result c = search needs
-
 returns : tie.Need-returns
 unfolding readAttestation
 returns c = refl
 
 pub log-of-spec : {M : Type 1} → statement M
-log-of-spec = tie.close (tie.spec shared-slice-read-result returns)
+log-of-spec = tie.close (tie.spec (search needs) returns)

@@ -8,35 +8,13 @@ use Rattle.receipt_verify.proofs.accepted.Tie as tie
 use Rattle.refusal.specs.Unwritten.{unwritten, counts}
 use Rattle.receipt_verify.proofs.accepted.Code.Mir.{function}
 
-keeper-of-requires : tie.Need-keeper-of-requires
-keeper-of-requires c κs = search needs
-
-position-of-requires : tie.Need-position-of-requires
-position-of-requires c κs = search needs
-
-reference-of-requires : tie.Need-reference-of-requires
-reference-of-requires c κs = search needs
-
-log-of-requires : tie.Need-log-of-requires
-log-of-requires c κs = search needs
-
-kind-of-requires : tie.Need-kind-of-requires
-kind-of-requires c κs = search needs
-
 returns : tie.Need-returns
 unfolding carried
 returns c = (cc (c .before .before .before .before .keeper-of .ensures, c .before .before .before .position-of .ensures, c .before .before .reference-of .ensures, c .before .log-of .ensures, c .kind-of .ensures), refl)
 
 pub accepted-spec : {M : Type 1} → statement M
 accepted-spec =
-    tie.close
-    (tie.spec
-    keeper-of-requires
-    position-of-requires
-    reference-of-requires
-    log-of-requires
-    kind-of-requires
-    returns)
+    tie.close (tie.spec (λ c κs. search needs) (λ c κs. search needs) (λ c κs. search needs) (λ c κs. search needs) (λ c κs. search needs) returns)
 
 -- no literal of the body becomes the count
 pub counted : unwritten counts (function .body) ≡ true

@@ -11,21 +11,6 @@ use Rattle.receipt_verify.proofs.is_tagged.Tie as tie
 use Rattle.refusal.specs.Unwritten.{unwritten, counts}
 use Rattle.receipt_verify.proofs.is_tagged.Code.Mir.{function}
 
-attested-of-requires : tie.Need-attested-of-requires
-attested-of-requires c κs = search needs
-
-tag-of-requires : tie.Need-tag-of-requires
-tag-of-requires c κs = search needs
-
-tag-of-requires-2 : tie.Need-tag-of-requires-2
-tag-of-requires-2 c κs = search needs
-
-slice-aggregate-equal : tie.Need-slice-aggregate-equal
-slice-aggregate-equal c = search needs
-
-equal-requires : tie.Need-equal-requires
-equal-requires c κs = search needs
-
 returns : tie.Need-returns
 unfolding isTagged
 returns c =
@@ -40,14 +25,7 @@ returns c =
 
 pub is-tagged-spec : {M : Type 1} → statement M
 is-tagged-spec =
-    tie.close
-    (tie.spec
-    attested-of-requires
-    tag-of-requires
-    tag-of-requires-2
-    slice-aggregate-equal
-    equal-requires
-    returns)
+    tie.close (tie.spec (λ c κs. search needs) (λ c κs. search needs) (λ c κs. search needs) (λ c. search needs) (λ c κs. search needs) returns)
 
 -- no literal of the body becomes the count
 pub counted : unwritten counts (function .body) ≡ true

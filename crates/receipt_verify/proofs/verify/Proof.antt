@@ -29,17 +29,11 @@ returns-3 c =
     verdict-exactly (λ i. omega (arith, c .before .before .before .before .shared-slice-known2 .given i))
     (receipt-length (a .key .now) (a .receipt .now) (a .nonce .now) (a .q) (c .before .before .if1 .left) (c .before .if2 .left) (c .if3 .taken))
 
-is-possible-requires : tie.Need-is-possible-requires
-is-possible-requires c κs = search needs
-
 returns-4 : tie.Need-returns-4
 returns-4 c =
     let a = c .before .before .before .before .before .before .before .before .args in
     verdict-exactly (λ i. omega (arith, c .before .before .before .before .before .before .shared-slice-known2 .given i))
     (impossible (a .key .now) (a .receipt .now) (a .nonce .now) (a .q) (c .before .before .before .before .if1 .left) (c .before .before .before .if2 .left) (c .before .before .if3 .left) (sym (c .before .is-possible .ensures) ∙ not-true _ (c .if4 .taken)))
-
-is-tagged-requires : tie.Need-is-tagged-requires
-is-tagged-requires c κs = search needs
 
 returns-5 : tie.Need-returns-5
 returns-5 c =
@@ -50,9 +44,6 @@ returns-5 c =
     let w = wrong-tag (a .key .now) (a .receipt .now) (a .nonce .now) (a .q) (p7 .if1 .left) (p3 .before .before .before .if2 .left) (p3 .before .before .if3 .left) (sym (p3 .before .is-possible .ensures) ∙ not-false _ (p3 .if4 .left)) (sym (tag .ensures .0) ∙ not-true _ (c .if5 .taken)) in
     verdict-exactly (λ i. omega (arith, p7 .before .before .shared-slice-known2 .given i)) (w .0, tag .ensures .1 ∙ w .1)
 
-is-answer-requires : tie.Need-is-answer-requires
-is-answer-requires c κs = search needs
-
 returns-6 : tie.Need-returns-6
 returns-6 c =
     let p5 = c .before .before .before .before .before in
@@ -61,9 +52,6 @@ returns-6 c =
     let tag = c .before .before .before .before .is-tagged in
     let w = other-question (a .key .now) (a .receipt .now) (a .nonce .now) (a .q) (p9 .if1 .left) (p5 .before .before .before .if2 .left) (p5 .before .before .if3 .left) (sym (p5 .before .is-possible .ensures) ∙ not-false _ (p5 .if4 .left)) (sym (tag .ensures .0) ∙ not-false _ (c .before .before .if5 .left)) (sym (c .before .is-answer .ensures) ∙ not-true _ (c .if6 .taken)) in
     verdict-exactly (λ i. omega (arith, p9 .before .before .shared-slice-known2 .given i)) (w .0, tag .ensures .1 ∙ w .1)
-
-accepted-requires : tie.Need-accepted-requires
-accepted-requires c κs = search needs
 
 returns-7 : tie.Need-returns-7
 returns-7 c =
@@ -76,19 +64,8 @@ returns-7 c =
 
 pub verify-spec : {M : Type 1} → statement M
 verify-spec =
-    tie.close
-    (tie.spec
-    returns
-    returns-2
-    returns-3
-    is-possible-requires
-    returns-4
-    is-tagged-requires
-    returns-5
-    is-answer-requires
-    returns-6
-    accepted-requires
-    returns-7)
+    tie.close (tie.spec returns returns-2 returns-3 (λ c κs. search needs) returns-4 (λ c κs. search needs) returns-5 (λ c κs. search needs) returns-6
+    (λ c κs. search needs) returns-7)
 
 -- no literal of the body becomes the count
 pub counted : unwritten counts (function .body) ≡ true

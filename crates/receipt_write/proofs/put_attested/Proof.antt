@@ -1,28 +1,28 @@
 -- `receipt_write::put_attested` meets its contract.
+use mathlib.Core.Path.{ap, _∙_}
+use Rattle.octets.specs.Octets.{splice}
 use Rattle.receipt.proofs.Writing.{attested-written}
 use borrow.Author.Needs.{needs}
 use Rattle.receipt_write.proofs.put_attested.Statement.{statement}
 use Rattle.receipt_write.proofs.put_attested.Tie as tie
 
-put-facts-requires : tie.Need-put-facts-requires
-put-facts-requires c κs = search needs
-
-put-requires : tie.Need-put-requires
-put-requires c κs = search needs
-
-put-requires-2 : tie.Need-put-requires-2
-put-requires-2 c κs = search needs
-
-put-requires-3 : tie.Need-put-requires-3
-put-requires-3 c κs = search needs
-
-same-length : tie.Need-same-length
-same-length c = search needs
-
 returns : tie.Need-returns
-returns c = attested-written (c .before .before .before .before .before .before .before .before .before .before .before .before .before .before .before .before .before .before .before .before .args .out .now) (c .before .before .before .before .before .before .before .before .before .before .before .before .before .before .before .before .before .before .before .before .args .f) (c .before .before .before .before .before .before .before .before .before .before .before .before .before .before .before .before .before .before .before .before .args .nonce .now) (c .before .before .before .before .before .before .before .before .before .before .before .before .before .before .before .before .before .before .before .before .args .value .now) (c .before .before .before .before .before .before .before .before .before .before .before .before .before .before .before .before .before .before .before .before .args .digest .now) (c .before .before .before .before .before .before .before .before .before .before .before .before .before .before .before .before .before .before .before .before .pre .0) (c .before .before .before .before .before .before .before .before .before .before .before .before .before .before .before .before .before .before .before .before .pre .1 .0) (c .before .before .before .before .before .before .before .before .before .before .before .before .before .before .before .before .before .before .before .before .pre .1 .1 .0) (c .before .before .before .before .before .before .before .before .before .before .before .before .before .before .before .before .before .before .before .before .pre .1 .1 .1) (c .before .before .before .before .before .before .before .before .before .before .before .before .before .before .put-facts .ensures) (c .before .before .before .before .before .before .before .before .before .before .put .ensures) (c .before .before .before .before .before .before .put2 .ensures) (c .before .before .put3 .ensures)
+returns c =
+    let p2 = c .before .before in
+    let p5 = p2 .before .before .before in
+    let p8 = p5 .before .before .before in
+    let p11 = p8 .before .before .before in
+    let p14 = p11 .before .before .before in
+    let p17 = p14 .before .before .before in
+    let p20 = p17 .before .before .before in
+    let p26 = p20 .before .before .before .before .before .before in
+    let a = p26 .args in
+    let h = p26 .pre in
+    attested-written (a .out .now) (a .f) (a .nonce .now) (a .value .now) (a .digest .now) (h .0) (h .1 .0) (h .1 .1 .0) (h .1 .1 .1)
+    (p20 .put-facts .ensures) (p14 .put .ensures ∙ ap (splice _ 32) (p17 .bytes32 .ensures))
+    (p8 .put2 .ensures ∙ ap (splice _ 64) (p11 .bytes322 .ensures)) (p2 .put3 .ensures ∙ ap (splice _ 96) (p5 .bytes323 .ensures))
 
 pub put-attested-spec : {M : Type 1} → statement M
 put-attested-spec =
-    tie.close
-    (tie.spec put-facts-requires put-requires put-requires-2 put-requires-3 same-length returns)
+    tie.close (tie.spec (λ c κs. search needs) (λ c κs. search needs) (λ c. search needs) (λ c κs. search needs) (λ c κs. search needs)
+    (λ c. search needs) (λ c κs. search needs) (λ c κs. search needs) (λ c. search needs) (λ c κs. search needs) (λ c. search needs) returns)

@@ -9,15 +9,6 @@ use Rattle.receipt_write.proofs.put_receipt.Tie as tie
 use Rattle.refusal.specs.Unwritten.{unwritten, counts}
 use Rattle.receipt_write.proofs.put_receipt.Code.Mir.{function}
 
-put-attested-requires : tie.Need-put-attested-requires
-put-attested-requires c κs = search needs
-
-put-tag-requires : tie.Need-put-tag-requires
-put-tag-requires c κs = search needs
-
-same-length : tie.Need-same-length
-same-length c = search needs
-
 returns : tie.Need-returns
 returns c =
     let p2 = c .before .before in
@@ -30,7 +21,7 @@ returns c =
     (p2 .put-tag .ensures .0, tag-behind (x .out .now) (x .key .now) a (start .pre .0 .0) size (p6 .put-attested .ensures) (p2 .put-tag .ensures .1))
 
 pub put-receipt-spec : {M : Type 1} → statement M
-put-receipt-spec = tie.close (tie.spec put-attested-requires put-tag-requires same-length returns)
+put-receipt-spec = tie.close (tie.spec (λ c κs. search needs) (λ c κs. search needs) (search needs) returns)
 
 -- no literal of the body becomes the count
 pub counted : unwritten counts (function .body) ≡ true

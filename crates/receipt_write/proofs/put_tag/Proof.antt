@@ -12,42 +12,6 @@ use Rattle.receipt_write.proofs.put_tag.Tie as tie
 use Rattle.refusal.specs.Unwritten.{unwritten, counts}
 use Rattle.receipt_write.proofs.put_tag.Code.Mir.{function}
 
-slice-aggregate-put : tie.Need-slice-aggregate-put
-slice-aggregate-put c = search needs
-
-sub-put : tie.Need-sub-put
-sub-put c = search needs
-
-part-put-start : tie.Need-part-put-start
-part-put-start c = search needs
-
-part-put-end : tie.Need-part-put-end
-part-put-end c = search needs
-
-put-requires : tie.Need-put-requires
-put-requires c κs = search needs
-
-slice-aggregate-tag : tie.Need-slice-aggregate-tag
-slice-aggregate-tag c = search needs
-
-sub-tag : tie.Need-sub-tag
-sub-tag c = search needs
-
-part-tag-start : tie.Need-part-tag-start
-part-tag-start c = search needs
-
-part-tag-end : tie.Need-part-tag-end
-part-tag-end c = search needs
-
-tag-requires : tie.Need-tag-requires
-tag-requires c κs = search needs
-
-blocks-requires : tie.Need-blocks-requires
-blocks-requires c κs = search needs
-
-same-length : tie.Need-same-length
-same-length c = search needs
-
 returns : tie.Need-returns
 returns c =
     let p3 = c .before .before .before in
@@ -59,21 +23,8 @@ returns c =
 
 pub put-tag-spec : {M : Type 1} → statement M
 put-tag-spec =
-    tie.close
-    (tie.spec
-    slice-aggregate-put
-    sub-put
-    part-put-start
-    part-put-end
-    put-requires
-    slice-aggregate-tag
-    sub-tag
-    part-tag-start
-    part-tag-end
-    tag-requires
-    blocks-requires
-    same-length
-    returns)
+    tie.close (tie.spec (search needs) (search needs) (search needs) (search needs) (λ c κs. search needs) (search needs) (search needs)
+    (search needs) (search needs) (λ c κs. search needs) (λ c κs. search needs) (search needs) returns)
 
 -- no literal of the body becomes the count
 pub counted : unwritten counts (function .body) ≡ true

@@ -36,12 +36,6 @@ returns-5 c =
     let x = c .before .before .before .before .before .before .before .before .before .before .args in
     refused-works 7 6 _ (x .out .now) (other-buffer (x .key .now) (x .nonce .now) (x .value .now) (x .digest .now) (x .out .now) (c .before .before .before .before .if1 .left) (c .before .before .before .if2 .left) (c .before .before .if3 .left) (c .before .if4 .left) (c .if5 .taken))
 
-put-receipt-requires : tie.Need-put-receipt-requires
-put-receipt-requires c κs = search needs
-
-same-length : tie.Need-same-length
-same-length c = search needs
-
 returns-6 : tie.Need-returns-6
 returns-6 c =
     let p2 = c .before .before in
@@ -53,17 +47,7 @@ returns-6 c =
     (d .0, (p2 .put-receipt .ensures .0 ∙ d .1 .0, p2 .put-receipt .ensures .1 ∙ d .1 .1))
 
 pub write-spec : {M : Type 1} → statement M
-write-spec =
-    tie.close
-    (tie.spec
-    returns
-    returns-2
-    returns-3
-    returns-4
-    returns-5
-    put-receipt-requires
-    same-length
-    returns-6)
+write-spec = tie.close (tie.spec returns returns-2 returns-3 returns-4 returns-5 (λ c κs. search needs) (search needs) returns-6)
 
 -- no literal of the body becomes the count
 pub counted : unwritten counts (function .body) ≡ true

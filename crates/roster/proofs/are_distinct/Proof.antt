@@ -17,17 +17,8 @@ abbrev μ-loop : tie.MeasureT-loop
 loop-holds : tie.Need-loop-holds Inv-loop μ-loop
 loop-holds c = (omega arith, refl)
 
-sub-i : tie.Need-sub-i Inv-loop μ-loop
-sub-i c = omega arith
-
-is-new-requires : tie.Need-is-new-requires Inv-loop μ-loop
-is-new-requires c κs = omega arith
-
 returns : tie.Need-returns Inv-loop μ-loop
 returns c = repeated (c .before .before .before .before .before .args .roster .now) (c .before .before .before .before .before .args .n) (c .before .before .before .loop .i) (c .before .before .loop-test .taken) (c .before .before .before .loop .inv .1) (sym (c .before .is-new .ensures) ∙ not-true _ (c .if1 .taken))
-
-loop-less : tie.Need-loop-less Inv-loop μ-loop
-loop-less c = omega arith
 
 loop-again : tie.Need-loop-again Inv-loop μ-loop
 loop-again c = (omega arith, c .before .before .before .loop .inv .1 ∙ new (c .before .before .before .before .before .args .roster .now) (c .before .before .before .loop .i) (c .before .before .loop-test .taken) (sym (c .before .is-new .ensures) ∙ not-false _ (c .if1 .left)))
@@ -37,14 +28,4 @@ returns-2 c = all (c .before .before .before .args .roster .now) (c .before .bef
 
 pub are-distinct-spec : {M : Type 1} → statement M
 are-distinct-spec =
-    tie.close
-    (tie.spec
-    Inv-loop
-    μ-loop
-    loop-holds
-    sub-i
-    is-new-requires
-    returns
-    loop-less
-    loop-again
-    returns-2)
+    tie.close (tie.spec Inv-loop μ-loop loop-holds (λ c. omega arith) (λ c κs. omega arith) returns (λ c. omega arith) loop-again returns-2)

@@ -16,21 +16,9 @@ abbrev μ-loop : tie.MeasureT-loop
 loop-holds : tie.Need-loop-holds Inv-loop μ-loop
 loop-holds c = (omega arith, refl)
 
-sub-i : tie.Need-sub-i Inv-loop μ-loop
-sub-i c = omega arith
-
-mul-get-u64 : tie.Need-mul-get-u64 Inv-loop μ-loop
-mul-get-u64 c = omega arith
-
-get-u64-requires : tie.Need-get-u64-requires Inv-loop μ-loop
-get-u64-requires c κs = omega arith
-
 returns : tie.Need-returns Inv-loop μ-loop
 unfolding keeperAt
 returns c = found (c .before .before .before .before .before .args .roster .now) (c .before .before .before .before .before .args .keeper) (c .before .before .before .before .before .args .n) (c .before .before .before .loop .i) (c .before .before .loop-test .taken) (c .before .before .before .loop .inv .1) (sym (c .before .get-u64 .ensures) ∙ c .if1 .taken)
-
-loop-less : tie.Need-loop-less Inv-loop μ-loop
-loop-less c = omega arith
 
 loop-again : tie.Need-loop-again Inv-loop μ-loop
 unfolding keeperAt
@@ -41,15 +29,5 @@ returns-2 c = none (c .before .before .before .args .roster .now) (c .before .be
 
 pub find-spec : {M : Type 1} → statement M
 find-spec =
-    tie.close
-    (tie.spec
-    Inv-loop
-    μ-loop
-    loop-holds
-    sub-i
-    mul-get-u64
-    get-u64-requires
-    returns
-    loop-less
-    loop-again
+    tie.close (tie.spec Inv-loop μ-loop loop-holds (λ c. omega arith) (λ c. omega arith) (λ c κs. omega arith) returns (λ c. omega arith) loop-again
     returns-2)

@@ -13,11 +13,8 @@ returns-2 c = refused-by _ _ (λ p. let m = p .most in omega (arith, c .if2 .tak
 returns-3 : tie.Need-returns-3
 returns-3 c = refused-by _ _ (λ p. let m = p .not-more in omega (arith, c .if3 .taken))
 
-mul-result : tie.Need-mul-result
-mul-result c = omega arith
-
 returns-4 : tie.Need-returns-4
 returns-4 c = by-half _ _ (omega arith) (c .before .if2 .left) (c .if3 .left)
 
 pub is-permitted-spec : {M : Type 1} → statement M
-is-permitted-spec = tie.close (tie.spec returns returns-2 returns-3 mul-result returns-4)
+is-permitted-spec = tie.close (tie.spec returns returns-2 returns-3 (λ c. omega arith) returns-4)

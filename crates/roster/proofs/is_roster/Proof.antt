@@ -11,11 +11,8 @@ returns c = let a = c .before .before .args in no-items (a .roster .now) (a .mem
 returns-2 : tie.Need-returns-2
 returns-2 c = let a = c .before .before .before .args in other-size (a .roster .now) (a .members) (c .before .if1 .left) (c .if2 .taken)
 
-are-distinct-requires : tie.Need-are-distinct-requires
-are-distinct-requires c κs = search needs
-
 returns-3 : tie.Need-returns-3
 returns-3 c = let a = c .before .before .before .before .args in c .are-distinct .ensures ∙ by-keepers (a .roster .now) (a .members) (c .before .before .if1 .left) (c .before .if2 .left)
 
 pub is-roster-spec : {M : Type 1} → statement M
-is-roster-spec = tie.close (tie.spec returns returns-2 are-distinct-requires returns-3)
+is-roster-spec = tie.close (tie.spec returns returns-2 (search needs) returns-3)

@@ -26,17 +26,11 @@ returns-3 c = let x = c .before .before .before .before .before .before .before 
     let b = run (x .start2 .now) (x .first2) (x .values2 .now) in
     other-buffer a b (x .out .now) (c .before .before .if1 .left) (c .before .if2 .left) (c .if3 .taken)
 
-no-run-requires : tie.Need-no-run-requires
-no-run-requires c κs = search needs
-
 returns-4 : tie.Need-returns-4
 returns-4 c = let x = c .before .before .before .before .before .before .before .before .before .before .args in
     let a = run (x .start1 .now) (x .first1) (x .values1 .now) in
     let b = run (x .start2 .now) (x .first2) (x .values2 .now) in
     no-run1 a b (x .out .now) (c .before .before .before .before .if1 .left) (c .before .before .before .if2 .left) (c .before .before .if3 .left) (sym (c .before .no-run .ensures) ∙ c .if4 .taken)
-
-no-run-requires-2 : tie.Need-no-run-requires-2
-no-run-requires-2 c κs = search needs
 
 returns-5 : tie.Need-returns-5
 returns-5 c = let x = c .before .before .before .before .before .before .before .before .before .before .before .before .args in
@@ -63,9 +57,6 @@ conclude-requires c κs =
     let w = kept-inside a b (r1 .0) (r2 .0) e in
     (p6 .if3 .left, (reaches-fewer (x .first1) (x .values1 .now) _ _ (w .0) (r1 .1), reaches-fewer (x .first2) (x .values2 .now) _ _ (w .1) (r2 .1)))
 
-same-length : tie.Need-same-length
-same-length c = search needs
-
 returns-6 : tie.Need-returns-6
 returns-6 c = let x = c .before .before .before .before .before .before .before .before .before .before .before .before .before .before .before .before .before .args in
     let a = run (x .start1 .now) (x .first1) (x .values1 .now) in
@@ -76,16 +67,5 @@ returns-6 c = let x = c .before .before .before .before .before .before .before 
 
 pub compare-spec : {M : Type 1} → statement M
 compare-spec =
-    tie.close
-    (tie.spec
-    returns
-    returns-2
-    returns-3
-    no-run-requires
-    returns-4
-    no-run-requires-2
-    returns-5
-    pass-requires
-    conclude-requires
-    same-length
-    returns-6)
+    tie.close (tie.spec returns returns-2 returns-3 (λ c κs. search needs) returns-4 (λ c κs. search needs) returns-5 pass-requires conclude-requires
+    (search needs) returns-6)

@@ -8,15 +8,6 @@ use borrow.Author.Needs.{needs}
 use Rattle.runs.proofs.conclude.Statement.{statement}
 use Rattle.runs.proofs.conclude.Tie as tie
 
-slice-aggregate-equal : tie.Need-slice-aggregate-equal
-slice-aggregate-equal c = search needs
-
-slice-aggregate-equal-2 : tie.Need-slice-aggregate-equal-2
-slice-aggregate-equal-2 c = search needs
-
-equal-requires : tie.Need-equal-requires
-equal-requires c κs = search needs
-
 returns : tie.Need-returns
 returns c = let x = c .before .before .before .before .before .before .before .before .before .args in
     differs (x .first1) (x .values1 .now) (x .first2) (x .values2 .now) (x .s) (x .out .now) (sym (c .before .equal .ensures) ∙ not-true _ (c .if1 .taken))
@@ -37,9 +28,6 @@ slice-aggregate-put-block-2 c = search needs
 put-block-requires-2 : tie.Need-put-block-requires-2
 put-block-requires-2 c κs = ((omega (arith, c .before .before .before .before .put-block .kept .0), sym (slice-aggregate-put-block-2 c)), c .before .before .before .before .before .before .before .before .before .before .before .before .before .before .before .before .before .before .before .pre .1 .1)
 
-same-length : tie.Need-same-length
-same-length c = search needs
-
 returns-3 : tie.Need-returns-3
 returns-3 c = let p12 = c .before .before .before .before .before .before .before .before .before .before .before .before in
     let p22 = p12 .before .before .before .before .before .before .before .before .before .before in
@@ -51,16 +39,5 @@ returns-3 c = let p12 = c .before .before .before .before .before .before .befor
 
 pub conclude-spec : {M : Type 1} → statement M
 conclude-spec =
-    tie.close
-    (tie.spec
-    slice-aggregate-equal
-    slice-aggregate-equal-2
-    equal-requires
-    returns
-    returns-2
-    slice-aggregate-put-block
-    put-block-requires
-    slice-aggregate-put-block-2
-    put-block-requires-2
-    same-length
-    returns-3)
+    tie.close (tie.spec (λ c. search needs) (λ c. search needs) (λ c κs. search needs) returns returns-2 slice-aggregate-put-block put-block-requires
+    slice-aggregate-put-block-2 put-block-requires-2 (λ c. search needs) returns-3)

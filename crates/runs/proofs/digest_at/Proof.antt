@@ -18,12 +18,6 @@ Inv-loop start first values n digest₀ blocks₀ k₀ digest blocks k = (k ≤ 
 abbrev μ-loop : tie.MeasureT-loop
 μ-loop start first values n digest₀ blocks₀ k₀ digest blocks k = n - k
 
-slice-aggregate-put : tie.Need-slice-aggregate-put Inv-loop μ-loop
-slice-aggregate-put c = search needs
-
-put-requires : tie.Need-put-requires Inv-loop μ-loop
-put-requires c κs = search needs
-
 loop-holds : tie.Need-loop-holds Inv-loop μ-loop
 loop-holds c = let x = c .before .before .before .before .before .args in (omega arith, (digest-start (run (x .start .now) (x .first) (x .values .now)) _ (c .before .put .ensures ∙ splice-whole (replicate 32 0) (x .start .now) (c .before .before .before .before .before .pre .0)), omega arith))
 
@@ -40,12 +34,6 @@ walked-requires c κs = let p8 = c .before .before .before .before .before .befo
 add-blocks : tie.Need-add-blocks Inv-loop μ-loop
 add-blocks c = omega (arith, c .before .before .walked .ensures .1, c .before .before .before .before .before .before .before .before .before .before .before .pre .1 .bytes)
 
-add-k : tie.Need-add-k Inv-loop μ-loop
-add-k c = search needs
-
-loop-less : tie.Need-loop-less Inv-loop μ-loop
-loop-less c = search needs
-
 loop-again : tie.Need-loop-again Inv-loop μ-loop
 loop-again c = let x = c .before .before .before .before .before .before .before .before .before .before .before .args in
     let l = c .before .before .before .before .before .loop in
@@ -59,17 +47,5 @@ returns c = let x = c .before .before .before .before .before .before .before .a
 
 pub digest-at-spec : {M : Type 1} → statement M
 digest-at-spec =
-    tie.close
-    (tie.spec
-    Inv-loop
-    μ-loop
-    slice-aggregate-put
-    put-requires
-    loop-holds
-    slice-aggregate-walked
-    walked-requires
-    add-blocks
-    add-k
-    loop-less
-    loop-again
-    returns)
+    tie.close (tie.spec Inv-loop μ-loop (search needs) (λ c κs. search needs) loop-holds slice-aggregate-walked walked-requires add-blocks
+    (search needs) (search needs) loop-again returns)

@@ -21,12 +21,6 @@ abbrev μ-loop : tie.MeasureT-loop
 μ-loop start1 first1 values1 i start2 first2 values2 j m blocks1 blocks2 digest1₀ digest2₀ blocks₀ found₀ at₀ before1₀ before2₀ k₀ digest1 digest2 blocks found at before1 before2 k =
     m - k
 
-digest-at-requires : tie.Need-digest-at-requires Inv-loop μ-loop
-digest-at-requires c κs = search needs
-
-digest-at-requires-2 : tie.Need-digest-at-requires-2 Inv-loop μ-loop
-digest-at-requires-2 c κs = search needs
-
 add-blocks : tie.Need-add-blocks Inv-loop μ-loop
 add-blocks c = let p = c .before .before .before .before .before .before .before .before in
     omega (arith, c .before .before .before .digest-at .ensures .1, c .before .before .digest-at2 .ensures .1, p .pre .0 .1 .bytes, p .pre .1 .1 .bytes, p .good .1 .1 .0 .0, p .good .1 .1 .1 .1 .1 .1 .0 .0)
@@ -107,9 +101,6 @@ add-blocks-3 c = let p = c .before .before .before .before .before .before .befo
 add-k : tie.Need-add-k Inv-loop μ-loop
 add-k c = omega (arith, c .before .before .before .before .before .before .before .before .before .before .before .before .before .before .before .before .before .before .before .before .before .before .fits .m .fits)
 
-loop-less : tie.Need-loop-less Inv-loop μ-loop
-loop-less c = omega arith
-
 loop-again : tie.Need-loop-again Inv-loop μ-loop
 loop-again c = let p = c .before .before .before .before .before .before .before .before .before .before .before .before .before .before .before .before .before .before .before .before .before .before in
     let x = p .args in
@@ -142,28 +133,6 @@ returns c = let p = c .before .before .before .before .before .before .before .b
 
 pub in-step-spec : {M : Type 1} → statement M
 in-step-spec =
-    tie.close
-    (tie.spec
-    Inv-loop
-    μ-loop
-    digest-at-requires
-    digest-at-requires-2
-    add-blocks
-    loop-holds
-    add-p
-    add-q
-    slice-aggregate-same-block
-    slice-aggregate-same-block-2
-    same-block-requires
-    slice-aggregate-walked
-    walked-requires
-    slice-aggregate-walked-2
-    walked-requires-2
-    add-blocks-2
-    add-blocks-3
-    add-k
-    loop-less
-    loop-again
-    add-at1
-    add-at2
-    returns)
+    tie.close (tie.spec Inv-loop μ-loop (λ c κs. search needs) (λ c κs. search needs) add-blocks loop-holds add-p add-q slice-aggregate-same-block
+    slice-aggregate-same-block-2 same-block-requires slice-aggregate-walked walked-requires slice-aggregate-walked-2 walked-requires-2 add-blocks-2
+    add-blocks-3 add-k (λ c. omega arith) loop-again add-at1 add-at2 returns)

@@ -13,14 +13,8 @@ returns-2 c = part-of-a-value (c .before .before .args .first) (c .before .befor
 returns-3 : tie.Need-returns-3
 returns-3 c = first-is-zero (c .before .before .before .args .first) (c .before .before .before .args .values .now) (c .before .before .if1 .left) (c .before .if2 .left) (c .if3 .taken)
 
-sub-more : tie.Need-sub-more
-sub-more c = search needs
-
-sub-result : tie.Need-sub-result
-sub-result c = search needs
-
 returns-4 : tie.Need-returns-4
 returns-4 c = by-last (c .before .before .before .args .first) (c .before .before .before .args .values .now) (c .before .before .if1 .left) (c .before .if2 .left) (c .if3 .left) (c .before .before .before .fits .first .fits)
 
 pub no-run-spec : {M : Type 1} → statement M
-no-run-spec = tie.close (tie.spec returns returns-2 returns-3 sub-more sub-result returns-4)
+no-run-spec = tie.close (tie.spec returns returns-2 returns-3 (search needs) (search needs) returns-4)

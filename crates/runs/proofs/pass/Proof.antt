@@ -5,18 +5,6 @@ use borrow.Author.Needs.{needs}
 use Rattle.runs.proofs.pass.Statement.{statement}
 use Rattle.runs.proofs.pass.Tie as tie
 
-smaller-requires : tie.Need-smaller-requires
-smaller-requires c κs = search needs
-
-sub-in-step : tie.Need-sub-in-step
-sub-in-step c = search needs
-
-sub-in-step-2 : tie.Need-sub-in-step-2
-sub-in-step-2 c = search needs
-
-in-step-requires : tie.Need-in-step-requires
-in-step-requires c κs = search needs
-
 returns : tie.Need-returns
 returns c = let x = c .before .before .before .before .before .before .args in
     let a = run (x .start1 .now) (x .first1) (x .values1 .now) in
@@ -24,5 +12,4 @@ returns c = let x = c .before .before .before .before .before .before .args in
     pass-is a b (c .before .smaller .result) (c .in-step .ensures) (c .before .smaller .ensures)
 
 pub pass-spec : {M : Type 1} → statement M
-pass-spec =
-    tie.close (tie.spec smaller-requires sub-in-step sub-in-step-2 in-step-requires returns)
+pass-spec = tie.close (tie.spec (λ c κs. search needs) (search needs) (search needs) (λ c κs. search needs) returns)

@@ -17,26 +17,11 @@ Inv-loop out₀ to state₀ left₀ out state left = length out ≡ 65536
 abbrev μ-loop : tie.MeasureT-loop
 μ-loop out₀ to state₀ left₀ out state left = left
 
-slice-reshare-prefix-write-all : tie.Need-slice-reshare-prefix-write-all Inv-loop μ-loop
-slice-reshare-prefix-write-all c = search needs
-
 slice-aggregate-write-all : tie.Need-slice-aggregate-write-all Inv-loop μ-loop
 slice-aggregate-write-all c = let a = c .before .before .args in sym (length-take-le (a .first .to) (a .out .now) (c .before .before .pre .0))
 
-write-all-requires : tie.Need-write-all-requires Inv-loop μ-loop
-write-all-requires c κs = search needs
-
-same-length : tie.Need-same-length Inv-loop μ-loop
-same-length c = search needs
-
-returns : tie.Need-returns Inv-loop μ-loop
-returns c = search needs
-
 loop-holds : tie.Need-loop-holds Inv-loop μ-loop
 loop-holds c = c .before .before .before .before .pre .1
-
-fill-requires : tie.Need-fill-requires Inv-loop μ-loop
-fill-requires c κs = search needs
 
 slice-reshare-prefix-write-all-2 : tie.Need-slice-reshare-prefix-write-all-2 Inv-loop μ-loop
 slice-reshare-prefix-write-all-2 c = let f = c .before .before .fill in omega (arith, f .ensures .room, f .kept .0)
@@ -44,14 +29,8 @@ slice-reshare-prefix-write-all-2 c = let f = c .before .before .fill in omega (a
 slice-aggregate-write-all-2 : tie.Need-slice-aggregate-write-all-2 Inv-loop μ-loop
 slice-aggregate-write-all-2 c = let f = c .before .before .before .fill in sym (length-take-le (f .result .to) (f .last .0) (omega (arith, f .ensures .room, f .kept .0)))
 
-write-all-requires-2 : tie.Need-write-all-requires-2 Inv-loop μ-loop
-write-all-requires-2 c κs = search needs
-
 same-length-2 : tie.Need-same-length-2 Inv-loop μ-loop
 same-length-2 c = omega (arith, c .before .before .before .before .before .fill .kept .0, c .before .before .before .before .before .before .before .before .loop .inv, c .before .before .before .before .before .before .before .before .before .before .before .before .before .pre .1)
-
-returns-2 : tie.Need-returns-2 Inv-loop μ-loop
-returns-2 c = search needs
 
 loop-less : tie.Need-loop-less Inv-loop μ-loop
 loop-less c = let f = c .before .before .before .before .before .fill in let l = c .before .before .before .before .before .before .before .before .loop in fill-moves (l .out) (f .last .0) (l .state) (l .left) (f .result) (f .ensures) (omega (arith, l .inv)) (omega arith)
@@ -62,31 +41,11 @@ loop-again c = c .before .before .before .before .before .fill .kept .0 ∙ c .b
 same-length-3 : tie.Need-same-length-3 Inv-loop μ-loop
 same-length-3 c = c .before .loop .inv ∙ sym (c .before .before .before .before .before .before .pre .1)
 
-returns-3 : tie.Need-returns-3 Inv-loop μ-loop
-returns-3 c = search needs
-
 pub send-spec : {M : Type 1} → statement M
 send-spec =
-    tie.close
-    (tie.spec
-    Inv-loop
-    μ-loop
-    slice-reshare-prefix-write-all
-    slice-aggregate-write-all
-    write-all-requires
-    same-length
-    returns
-    loop-holds
-    fill-requires
-    slice-reshare-prefix-write-all-2
-    slice-aggregate-write-all-2
-    write-all-requires-2
-    same-length-2
-    returns-2
-    loop-less
-    loop-again
-    same-length-3
-    returns-3)
+    tie.close (tie.spec Inv-loop μ-loop (search needs) slice-aggregate-write-all (search needs) (search needs) (search needs) loop-holds
+    (search needs) slice-reshare-prefix-write-all-2 slice-aggregate-write-all-2 (search needs) same-length-2 (search needs) loop-less loop-again
+    same-length-3 (search needs))
 
 pub undivided : Undivided ("io::write_all" ∷ "workload_write::fill" ∷ []) function
 undivided = refl

@@ -11,15 +11,6 @@ use Rattle.rush_cases.proofs.answer.Tie as tie
 use Rattle.octets.specs.Undivided.{Undivided}
 use Rattle.rush_cases.proofs.answer.Code.Mir.{function}
 
-buffer-requires : tie.Need-buffer-requires
-buffer-requires c κs = search needs
-
-slice-aggregate-begin : tie.Need-slice-aggregate-begin
-slice-aggregate-begin c = search needs
-
-begin-requires : tie.Need-begin-requires
-begin-requires c κs = search needs
-
 array-share-prefix-out : tie.Need-array-share-prefix-out
 array-share-prefix-out c =
     let b = c .before .begin in
@@ -32,43 +23,13 @@ slice-aggregate-write-all c =
     let k : b .result .to ≤ 22 = begun-room _ (b .result) (b .ensures .0) in
     sym (length-take-le (b .result .to) (b .last .1 .0) (omega (arith, b .kept .1 .0, c .before .before .before .before .buffer .ensures)))
 
-write-all-requires : tie.Need-write-all-requires
-write-all-requires c κs = search needs
-
-slice-aggregate-fill : tie.Need-slice-aggregate-fill
-slice-aggregate-fill c = search needs
-
-fill-requires : tie.Need-fill-requires
-fill-requires c κs = search needs
-
-array-share-prefix-out-2 : tie.Need-array-share-prefix-out-2
-array-share-prefix-out-2 c = search needs
-
 slice-aggregate-write-all-2 : tie.Need-slice-aggregate-write-all-2
 slice-aggregate-write-all-2 c = let f = c .before .before .fill in sym (length-take-le (f .result .to) (f .last .0) (omega (arith, f .ensures .room, f .kept .0)))
 
-write-all-requires-2 : tie.Need-write-all-requires-2
-write-all-requires-2 c κs = search needs
-
-returns : tie.Need-returns
-returns c = search needs
-
 pub answer-spec : {M : Type 1} → statement M
 answer-spec =
-    tie.close
-    (tie.spec
-    buffer-requires
-    slice-aggregate-begin
-    begin-requires
-    array-share-prefix-out
-    slice-aggregate-write-all
-    write-all-requires
-    slice-aggregate-fill
-    fill-requires
-    array-share-prefix-out-2
-    slice-aggregate-write-all-2
-    write-all-requires-2
-    returns)
+    tie.close (tie.spec (search needs) (search needs) (search needs) array-share-prefix-out slice-aggregate-write-all (search needs) (search needs)
+    (search needs) (search needs) slice-aggregate-write-all-2 (search needs) (search needs))
 
 pub undivided : Undivided ("io::buffer" ∷ "io::write_all" ∷ "workload_write::begin" ∷ "workload_write::fill" ∷ []) function
 undivided = refl

@@ -7,17 +7,8 @@ use Rattle.rush_cases.proofs.show.Tie as tie
 use Rattle.octets.specs.Undivided.{Undivided}
 use Rattle.rush_cases.proofs.show.Code.Mir.{function}
 
-write-all-requires : tie.Need-write-all-requires
-write-all-requires c κs = search needs
-
-answer-requires : tie.Need-answer-requires
-answer-requires c κs = search needs
-
-returns : tie.Need-returns
-returns c = search needs
-
 pub show-spec : {M : Type 1} → statement M
-show-spec = tie.close (tie.spec write-all-requires answer-requires returns)
+show-spec = tie.close (tie.spec (search needs) (search needs) (search needs))
 
 pub undivided : Undivided ("io::write_all" ∷ "rush_cases::answer" ∷ []) function
 undivided = refl

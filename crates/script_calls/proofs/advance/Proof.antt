@@ -14,21 +14,6 @@ use Rattle.script_calls.proofs.advance.Tie as tie
 use Rattle.octets.specs.Undivided.{Undivided}
 use Rattle.script_calls.proofs.advance.Code.Mir.{function}
 
-placed-requires : tie.Need-placed-requires
-placed-requires c κs = search needs
-
-placed-requires-2 : tie.Need-placed-requires-2
-placed-requires-2 c κs = search needs
-
-slice-aggregate-advance : tie.Need-slice-aggregate-advance
-slice-aggregate-advance c = search needs
-
-slice-aggregate-advance-2 : tie.Need-slice-aggregate-advance-2
-slice-aggregate-advance-2 c = search needs
-
-advance-requires : tie.Need-advance-requires
-advance-requires c κs = search needs
-
 changed-requires : tie.Need-changed-requires
 changed-requires c κs = let a = c .before .before .before .before .before .before .before .before .before .before .args in
     let r = c .before .before .before .advance in
@@ -38,9 +23,6 @@ changed-requires c κs = let a = c .before .before .before .before .before .befo
     change-named b (r .last .0) (advance (a .log) (a .position) (placed (a .digest)) (placed (a .value))) (r .result) (advance-sized (a .log) (a .position) (a .digest) (a .value))
     (r .ensures .0 ∙ ap₂ (λ (d x : List ℕ). tableStep b (advance (a .log) (a .position) d x) .reply) p q)
     (r .ensures .1 .1 ∙ ap₂ (λ (d x : List ℕ). tableStep b (advance (a .log) (a .position) d x) .state) p q)
-
-same-length : tie.Need-same-length
-same-length c = search needs
 
 returns : tie.Need-returns
 returns c = let a = c .before .before .before .before .before .before .before .before .before .before .before .args in
@@ -57,16 +39,8 @@ returns c = let a = c .before .before .before .before .before .before .before .b
 
 pub advance-spec : {M : Type 1} → statement M
 advance-spec =
-    tie.close
-    (tie.spec
-    placed-requires
-    placed-requires-2
-    slice-aggregate-advance
-    slice-aggregate-advance-2
-    advance-requires
-    changed-requires
-    same-length
-    returns)
+    tie.close (tie.spec (λ c κs. search needs) (λ c κs. search needs) (search needs) (search needs) (λ c κs. search needs) changed-requires
+    (search needs) returns)
 
 pub undivided : Undivided ("a2m_put::advance::advance" ∷ "script_calls::changed" ∷ "script_calls::placed" ∷ []) function
 undivided = refl

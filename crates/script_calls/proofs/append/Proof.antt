@@ -14,15 +14,6 @@ use Rattle.script_calls.proofs.append.Tie as tie
 use Rattle.octets.specs.Undivided.{Undivided}
 use Rattle.script_calls.proofs.append.Code.Mir.{function}
 
-placed-requires : tie.Need-placed-requires
-placed-requires c κs = search needs
-
-slice-aggregate-append : tie.Need-slice-aggregate-append
-slice-aggregate-append c = search needs
-
-append-requires : tie.Need-append-requires
-append-requires c κs = search needs
-
 changed-requires : tie.Need-changed-requires
 changed-requires c κs = let a = c .before .before .before .before .before .before .before .before .args in
     let r = c .before .before .before .append in
@@ -31,9 +22,6 @@ changed-requires c κs = let a = c .before .before .before .before .before .befo
     change-named b (r .last .0) (append (a .log) (placed (a .value))) (r .result) (append-sized (a .log) (a .value))
     (r .ensures .0 ∙ ap (λ (x : List ℕ). tableStep b (append (a .log) x) .reply) p)
     (r .ensures .1 .1 ∙ ap (λ (x : List ℕ). tableStep b (append (a .log) x) .state) p)
-
-same-length : tie.Need-same-length
-same-length c = search needs
 
 returns : tie.Need-returns
 returns c = let a = c .before .before .before .before .before .before .before .before .before .args in
@@ -48,15 +36,7 @@ returns c = let a = c .before .before .before .before .before .before .before .b
     )
 
 pub append-spec : {M : Type 1} → statement M
-append-spec =
-    tie.close
-    (tie.spec
-    placed-requires
-    slice-aggregate-append
-    append-requires
-    changed-requires
-    same-length
-    returns)
+append-spec = tie.close (tie.spec (λ c κs. search needs) (search needs) (λ c κs. search needs) changed-requires (search needs) returns)
 
 pub undivided : Undivided ("a2m_put::append::append" ∷ "script_calls::changed" ∷ "script_calls::placed" ∷ []) function
 undivided = refl

@@ -11,12 +11,6 @@ use Rattle.script_calls.proofs.changed.Tie as tie
 use Rattle.octets.specs.Undivided.{Undivided}
 use Rattle.script_calls.proofs.changed.Code.Mir.{function}
 
-enum-known-change : tie.Need-enum-known-change
-enum-known-change c = search needs
-
-enum-known-change-2 : tie.Need-enum-known-change-2
-enum-known-change-2 c = search needs
-
 refused-requires : tie.Need-refused-requires
 refused-requires c κs = subst (λ (x : Change). ChangeNamed (c .before .before .before .before .args .table .now) (c .before .before .before .before .args .log) x) (c .before .change2 .given .1) (c .before .before .before .before .pre)
 
@@ -27,8 +21,7 @@ returns-2 : tie.Need-returns-2
 returns-2 c = c .refused .ensures ∙ ap (λ (x : Change). changeAnswer x (rowIn (readTable (c .before .before .before .before .before .args .table .now)) (c .before .before .before .before .before .args .log))) (sym (c .before .before .change2 .given .1))
 
 pub changed-spec : {M : Type 1} → statement M
-changed-spec =
-    tie.close (tie.spec enum-known-change enum-known-change-2 refused-requires returns returns-2)
+changed-spec = tie.close (tie.spec (search needs) (search needs) refused-requires returns returns-2)
 
 pub undivided : Undivided ("script_calls::refused" ∷ []) function
 undivided = refl

@@ -15,30 +15,12 @@ use Rattle.script_calls.proofs.end.Tie as tie
 use Rattle.octets.specs.Undivided.{Undivided}
 use Rattle.script_calls.proofs.end.Code.Mir.{function}
 
-slice-aggregate-end : tie.Need-slice-aggregate-end
-slice-aggregate-end c = search needs
-
-slice-aggregate-end-2 : tie.Need-slice-aggregate-end-2
-slice-aggregate-end-2 c = search needs
-
-end-requires : tie.Need-end-requires
-end-requires c κs = search needs
-
-enum-told : tie.Need-enum-told
-enum-told c = search needs
-
-slice-aggregate-attested : tie.Need-slice-aggregate-attested
-slice-aggregate-attested c = search needs
-
 attested-requires : tie.Need-attested-requires
 unfolding zeros
 attested-requires c κs = let a = c .before .before .before .before .before .before .before .before .args in
     let l = c .before .before .before .before .end in
     let e = ap (λ (x : Worked). endReply x (l .last .1 .1 .1 .0)) (sym (c .before .enum-told .given .1)) ∙ l .ensures .0 in
     (reply-accepted (a .table .now) (end (a .log) (zeros 32) 160) (λ k h. ended-not (l .last .1 .1 .1 .0) k (e ∙ h)), search needs)
-
-enum-known-worked : tie.Need-enum-known-worked
-enum-known-worked c = search needs
 
 refused-requires : tie.Need-refused-requires
 unfolding zeros wrongLength
@@ -63,18 +45,8 @@ returns-2 c = let a = c .before .before .before .before .before .before .before 
 
 pub end-spec : {M : Type 1} → statement M
 end-spec =
-    tie.close
-    (tie.spec
-    slice-aggregate-end
-    slice-aggregate-end-2
-    end-requires
-    enum-told
-    slice-aggregate-attested
-    attested-requires
-    enum-known-worked
-    refused-requires
-    returns
-    returns-2)
+    tie.close (tie.spec (search needs) (search needs) (λ c κs. search needs) (search needs) (search needs) attested-requires (search needs)
+    refused-requires returns returns-2)
 
 pub undivided : Undivided ("a2m_read::end::end" ∷ "script_calls::attested" ∷ "script_calls::refused" ∷ []) function
 undivided = refl

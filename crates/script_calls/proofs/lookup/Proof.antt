@@ -15,30 +15,12 @@ use Rattle.script_calls.proofs.lookup.Tie as tie
 use Rattle.octets.specs.Undivided.{Undivided}
 use Rattle.script_calls.proofs.lookup.Code.Mir.{function}
 
-slice-aggregate-lookup : tie.Need-slice-aggregate-lookup
-slice-aggregate-lookup c = search needs
-
-slice-aggregate-lookup-2 : tie.Need-slice-aggregate-lookup-2
-slice-aggregate-lookup-2 c = search needs
-
-lookup-requires : tie.Need-lookup-requires
-lookup-requires c κs = search needs
-
-enum-told : tie.Need-enum-told
-enum-told c = search needs
-
-slice-aggregate-attested : tie.Need-slice-aggregate-attested
-slice-aggregate-attested c = search needs
-
 attested-requires : tie.Need-attested-requires
 unfolding zeros
 attested-requires c κs = let a = c .before .before .before .before .before .before .before .before .args in
     let l = c .before .before .before .before .lookup in
     let e = ap (λ (x : Finding). findingReply x (l .last .1 .1 .1 .1 .0)) (sym (c .before .enum-told .given .1)) ∙ l .ensures .0 in
     (reply-accepted (a .table .now) (lookup (a .log) (a .position) (zeros 32) 160) (λ k h. found-not (l .last .1 .1 .1 .1 .0) _ k (e ∙ h)), search needs)
-
-enum-known-finding : tie.Need-enum-known-finding
-enum-known-finding c = search needs
 
 refused-requires : tie.Need-refused-requires
 unfolding zeros wrongLength
@@ -63,18 +45,8 @@ returns-2 c = let a = c .before .before .before .before .before .before .before 
 
 pub lookup-spec : {M : Type 1} → statement M
 lookup-spec =
-    tie.close
-    (tie.spec
-    slice-aggregate-lookup
-    slice-aggregate-lookup-2
-    lookup-requires
-    enum-told
-    slice-aggregate-attested
-    attested-requires
-    enum-known-finding
-    refused-requires
-    returns
-    returns-2)
+    tie.close (tie.spec (search needs) (search needs) (λ c κs. search needs) (search needs) (search needs) attested-requires (search needs)
+    refused-requires returns returns-2)
 
 pub undivided : Undivided ("a2m_read::lookup::lookup" ∷ "script_calls::attested" ∷ "script_calls::refused" ∷ []) function
 undivided = refl

@@ -16,12 +16,6 @@ use Rattle.script_calls.proofs.refused.Tie as tie
 use Rattle.octets.specs.Undivided.{Undivided}
 use Rattle.script_calls.proofs.refused.Code.Mir.{function}
 
-number-requires : tie.Need-number-requires
-number-requires c κs = search needs
-
-wide-requires : tie.Need-wide-requires
-wide-requires c κs = search needs
-
 returns : tie.Need-returns
 returns c = let e : c .before .wide .result ≡ numberOf (c .before .before .before .before .args .why) = c .before .wide .ensures .0 ∙ c .before .before .number .ensures in
     let row = rowIn (readTable (c .before .before .before .before .args .table .now)) (c .before .before .before .before .args .log) in
@@ -42,8 +36,7 @@ returns-3 c = let e : c .before .before .before .wide .result ≡ numberOf (c .b
     ap (λ (r : Row). Bounded (c .before .before .before .wide .result) (r .low) (r .high)) (c .row-of .ensures) ∙ bounded (c .before .before .before .wide .result) row (c .before .before .if1 .left) (c .before .if2 .left) ∙ ap (λ (k : ℕ). replyAnswer (refused k) row) e
 
 pub refused-spec : {M : Type 1} → statement M
-refused-spec =
-    tie.close (tie.spec number-requires wide-requires returns returns-2 row-of-requires returns-3)
+refused-spec = tie.close (tie.spec (λ c κs. search needs) (λ c κs. search needs) returns returns-2 row-of-requires returns-3)
 
 pub undivided : Undivided ("octets::wide" ∷ "refusal::Refusal::number" ∷ "script_calls::row_of" ∷ []) function
 undivided = refl

@@ -18,11 +18,8 @@ slots-of-requires c κs = whole-long (c .before .before .args .table .now) (c .b
 row-at-requires : tie.Need-row-at-requires
 row-at-requires c κs = (whole-counted (c .before .before .before .args .table .now) (c .before .logs-of .result) (c .slots-of .result) (c .before .before .before .pre .0) (c .before .logs-of .ensures .0) (c .slots-of .ensures .0), omega (arith, c .before .before .before .pre .1, c .before .logs-of .ensures .0))
 
-returns : tie.Need-returns
-returns c = search needs
-
 pub row-of-spec : {M : Type 1} → statement M
-row-of-spec = tie.close (tie.spec logs-of-requires slots-of-requires row-at-requires returns)
+row-of-spec = tie.close (tie.spec logs-of-requires slots-of-requires row-at-requires (λ c. search needs))
 
 pub undivided : Undivided ("layout_header::logs_of" ∷ "layout_header::slots_of" ∷ "layout_rows::row_at" ∷ []) function
 undivided = refl

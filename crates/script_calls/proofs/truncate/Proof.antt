@@ -12,17 +12,11 @@ use Rattle.script_calls.proofs.truncate.Tie as tie
 use Rattle.octets.specs.Undivided.{Undivided}
 use Rattle.script_calls.proofs.truncate.Code.Mir.{function}
 
-truncate-requires : tie.Need-truncate-requires
-truncate-requires c κs = search needs
-
 changed-requires : tie.Need-changed-requires
 unfolding wrongLength
 changed-requires c κs = let a = c .before .before .before .before .before .before .args in
     let r = c .before .before .before .truncate in
     change-named (a .table .now) (r .last .0) (truncate (a .log) (a .position)) (r .result) refl (r .ensures .0) (r .ensures .1 .1)
-
-same-length : tie.Need-same-length
-same-length c = search needs
 
 returns : tie.Need-returns
 unfolding wrongLength
@@ -31,7 +25,7 @@ returns c = let a = c .before .before .before .before .before .before .before .a
     (c .changed .ensures ∙ change-answers (a .table .now) (r .last .0) (truncate (a .log) (a .position)) (r .result) refl (r .ensures .0) (r .ensures .1 .1) (λ i. omega (arith, c .before .before .before .before .before .before .slice-known .given i)) (omega arith) (truncate-changes (a .log) (a .position)), r .ensures .1 .1)
 
 pub truncate-spec : {M : Type 1} → statement M
-truncate-spec = tie.close (tie.spec truncate-requires changed-requires same-length returns)
+truncate-spec = tie.close (tie.spec (λ c κs. search needs) changed-requires (search needs) returns)
 
 pub undivided : Undivided ("a2m_truncate::truncate" ∷ "script_calls::changed" ∷ []) function
 undivided = refl

@@ -7,11 +7,8 @@ use Rattle.script_cases.proofs.room.Tie as tie
 use Rattle.octets.specs.Undivided.{Undivided}
 use Rattle.script_cases.proofs.room.Code.Mir.{function}
 
-returns : tie.Need-returns
-returns c = search needs
-
 pub room-spec : {M : Type 1} → statement M
-room-spec = tie.close (tie.spec returns)
+room-spec = tie.close (tie.spec (λ c. search needs))
 
 pub undivided : Undivided [] function
 undivided = refl

@@ -10,15 +10,6 @@ use Rattle.script_run.proofs.gap.Tie as tie
 use Rattle.octets.specs.Undivided.{Undivided}
 use Rattle.script_run.proofs.gap.Code.Mir.{function}
 
-slice-aggregate-write-all : tie.Need-slice-aggregate-write-all
-slice-aggregate-write-all c = search needs
-
-write-all-requires : tie.Need-write-all-requires
-write-all-requires c κs = search needs
-
-slice-aggregate-put : tie.Need-slice-aggregate-put
-slice-aggregate-put c = search needs
-
 put-requires : tie.Need-put-requires
 put-requires c κs = omega (arith, length-decimal (c .before .before .before .args .number))
 
@@ -33,32 +24,10 @@ slice-aggregate-write-all-2 c =
     let q = put-within _ (p .last .0) (p .result) (c .before .before .before .before .before .before .args .number) refl (p .ensures .0) (p .ensures .1) in
     simp length-take (omega arith)
 
-write-all-requires-2 : tie.Need-write-all-requires-2
-write-all-requires-2 c κs = search needs
-
-slice-aggregate-fail : tie.Need-slice-aggregate-fail
-slice-aggregate-fail c = search needs
-
-fail-requires : tie.Need-fail-requires
-fail-requires c κs = search needs
-
-returns : tie.Need-returns
-returns c = search needs
-
 pub gap-spec : {M : Type 1} → statement M
 gap-spec =
-    tie.close
-    (tie.spec
-    slice-aggregate-write-all
-    write-all-requires
-    slice-aggregate-put
-    put-requires
-    array-share-prefix-digits
-    slice-aggregate-write-all-2
-    write-all-requires-2
-    slice-aggregate-fail
-    fail-requires
-    returns)
+    tie.close (tie.spec (λ c. search needs) (λ c κs. search needs) (λ c. search needs) put-requires array-share-prefix-digits
+    slice-aggregate-write-all-2 (λ c κs. search needs) (λ c. search needs) (λ c κs. search needs) (λ c. search needs))
 
 pub undivided : Undivided ("decimal::write::put" ∷ "io::write_all" ∷ "os::fail" ∷ []) function
 undivided = refl

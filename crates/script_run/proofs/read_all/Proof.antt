@@ -26,31 +26,10 @@ loop-holds c = (c .before .before .before .pre .1, ([], c .before .before .befor
 turn-requires : tie.Need-turn-requires Inv-loop μ-loop
 turn-requires c κs = ready (c .before .before .before .before .loop .turns) (omega arith) (c .before .before .before .before .loop .inv .1 .1) (c .before .before .before .before .loop .inv .1 .2) (c .before .before .before .before .loop .inv .0)
 
-enum-known-next : tie.Need-enum-known-next Inv-loop μ-loop
-enum-known-next c = search needs
-
-enum-known-ending : tie.Need-enum-known-ending Inv-loop μ-loop
-enum-known-ending c = search needs
-
-same-length : tie.Need-same-length Inv-loop μ-loop
-same-length c = search needs
-
-same-length-2 : tie.Need-same-length-2 Inv-loop μ-loop
-same-length-2 c = search needs
-
-same-length-3 : tie.Need-same-length-3 Inv-loop μ-loop
-same-length-3 c = search needs
-
 returns : tie.Need-returns Inv-loop μ-loop
 returns c = let i = c .before .before .before .before .before .before .before .before .before .before .before .before .before .before .loop .inv .1 in
     let t = c .before .before .before .before .before .before .before .before .before .turn in
     (i .0, subst (λ (x : Step). Stepped x (i .0) (t .last .0) (t .last .1 .0) (t .last .1 .1 .0)) (c .before .ending .given .1) (t .ensures (i .0) (i .1)))
-
-sub-turns : tie.Need-sub-turns Inv-loop μ-loop
-sub-turns c = search needs
-
-loop-less : tie.Need-loop-less Inv-loop μ-loop
-loop-less c = search needs
 
 loop-again : tie.Need-loop-again Inv-loop μ-loop
 loop-again c = let i = c .before .before .before .before .before .before .before .before .before .before .before .before .before .before .loop .inv .1 in
@@ -58,38 +37,13 @@ loop-again c = let i = c .before .before .before .before .before .before .before
     let s = subst (λ (x : Step). Stepped x (i .0) (t .last .0) (t .last .1 .0) (t .last .1 .1 .0)) (c .before .next .given .1) (t .ensures (i .0) (i .1)) in
     (t .kept .1 .1 .0 ∙ c .before .before .before .before .before .before .before .before .before .before .before .before .before .before .loop .inv .0, (i .0 ++ s .0, s .2, counted (i .0) (s .0) (c .before .before .before .before .before .before .before .before .before .before .before .before .before .before .loop .turns) (omega arith) (s .1) (i .2)))
 
-same-length-4 : tie.Need-same-length-4 Inv-loop μ-loop
-same-length-4 c = search needs
-
-same-length-5 : tie.Need-same-length-5 Inv-loop μ-loop
-same-length-5 c = search needs
-
-same-length-6 : tie.Need-same-length-6 Inv-loop μ-loop
-same-length-6 c = search needs
-
 returns-2 : tie.Need-returns-2 Inv-loop μ-loop
 returns-2 c = ([], tt)
 
 pub read-all-spec : {M : Type 1} → statement M
 read-all-spec =
-    tie.close
-    (tie.spec
-    Inv-loop
-    μ-loop
-    loop-holds
-    turn-requires
-    enum-known-next
-    enum-known-ending
-    same-length
-    same-length-2
-    same-length-3
-    returns
-    sub-turns
-    loop-less
-    loop-again
-    same-length-4
-    same-length-5
-    same-length-6
+    tie.close (tie.spec Inv-loop μ-loop loop-holds turn-requires (λ c. search needs) (λ c. search needs) (λ c. search needs) (λ c. search needs)
+    (λ c. search needs) returns (λ c. search needs) (λ c. search needs) loop-again (λ c. search needs) (λ c. search needs) (λ c. search needs)
     returns-2)
 
 pub undivided : Undivided ("script_run::turn" ∷ []) function

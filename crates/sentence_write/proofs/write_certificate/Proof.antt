@@ -11,46 +11,16 @@ use Rattle.sentence_write.proofs.write_certificate.Tie as tie
 use Rattle.octets.specs.Undivided.{Undivided}
 use Rattle.sentence_write.proofs.write_certificate.Code.Mir.{function}
 
-enum-known-station : tie.Need-enum-known-station
-enum-known-station c = search needs
-
-write-certificate-values-requires : tie.Need-write-certificate-values-requires
-write-certificate-values-requires c κs = search needs
-
-enum-known-station-2 : tie.Need-enum-known-station-2
-enum-known-station-2 c = search needs
-
-number-requires : tie.Need-number-requires
-number-requires c κs = search needs
-
-write-certificate-values-requires-2 : tie.Need-write-certificate-values-requires-2
-write-certificate-values-requires-2 c κs = search needs
-
-same-length : tie.Need-same-length
-same-length c = search needs
-
 returns : tie.Need-returns
 returns c = let v = c .before .before .before .before .before .station .given in said-as (c .before .before .before .before .before .before .before .before .args .out .now) (stationSaid (answer 0 (v .0 .0 ∷ v .0 .1 .0 ∷ []))) (stationSaid (stationAnswer (c .before .before .before .before .before .before .before .before .args .station))) (certified-said (c .before .before .before .before .before .before .before .before .args .station) (v .0 .0) (v .0 .1 .0) (v .0 .1 .1 .0) (v .1)) (c .before .before .write-certificate-values .ensures)
-
-same-length-2 : tie.Need-same-length-2
-same-length-2 c = search needs
 
 returns-2 : tie.Need-returns-2
 returns-2 c = let v = c .before .before .before .before .before .before .station2 .given in said-as (c .before .before .before .before .before .before .before .before .before .args .out .now) (stationSaid (answer (c .before .before .before .number .result) (0 ∷ 0 ∷ []))) (stationSaid (stationAnswer (c .before .before .before .before .before .before .before .before .before .args .station))) (uncertified-said (c .before .before .before .before .before .before .before .before .before .args .station) (v .0 .0) (v .0 .1 .0) (c .before .before .before .number .result) (0 ∷ 0 ∷ []) (v .1) (c .before .before .before .number .ensures)) (c .before .before .write-certificate-values2 .ensures)
 
 pub write-certificate-spec : {M : Type 1} → statement M
 write-certificate-spec =
-    tie.close
-    (tie.spec
-    enum-known-station
-    write-certificate-values-requires
-    enum-known-station-2
-    number-requires
-    write-certificate-values-requires-2
-    same-length
-    returns
-    same-length-2
-    returns-2)
+    tie.close (tie.spec (λ c. search needs) (λ c κs. search needs) (λ c. search needs) (λ c κs. search needs) (λ c κs. search needs)
+    (λ c. search needs) returns (λ c. search needs) returns-2)
 
 pub undivided : Undivided ("refusal::Refusal::number" ∷ "sentence_write::write_certificate_values" ∷ []) function
 undivided = refl

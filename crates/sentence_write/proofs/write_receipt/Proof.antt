@@ -11,54 +11,16 @@ use Rattle.sentence_write.proofs.write_receipt.Tie as tie
 use Rattle.octets.specs.Undivided.{Undivided}
 use Rattle.sentence_write.proofs.write_receipt.Code.Mir.{function}
 
-enum-known-verdict : tie.Need-enum-known-verdict
-enum-known-verdict c = search needs
-
-wide-requires : tie.Need-wide-requires
-wide-requires c κs = search needs
-
-wide-requires-2 : tie.Need-wide-requires-2
-wide-requires-2 c κs = search needs
-
-write-receipt-values-requires : tie.Need-write-receipt-values-requires
-write-receipt-values-requires c κs = search needs
-
-enum-known-verdict-2 : tie.Need-enum-known-verdict-2
-enum-known-verdict-2 c = search needs
-
-number-requires : tie.Need-number-requires
-number-requires c κs = search needs
-
-write-receipt-values-requires-2 : tie.Need-write-receipt-values-requires-2
-write-receipt-values-requires-2 c κs = search needs
-
-same-length : tie.Need-same-length
-same-length c = search needs
-
 returns : tie.Need-returns
 returns c = let v = c .before .before .before .before .before .before .before .verdict .given in said-as (c .before .before .before .before .before .before .before .before .before .before .args .out .now) (receiptSaid (answer 0 (v .0 .0 ∷ c .before .before .before .before .wide .result ∷ v .0 .1 .1 .0 ∷ c .before .before .before .wide2 .result ∷ v .0 .1 .1 .1 .1 .0 ∷ []))) (receiptSaid (verdictAnswer (c .before .before .before .before .before .before .before .before .before .before .args .verdict))) (accepted-said (c .before .before .before .before .before .before .before .before .before .before .args .verdict) (v .0 .0) (v .0 .1 .0) (v .0 .1 .1 .0) (v .0 .1 .1 .1 .0) (v .0 .1 .1 .1 .1 .0) (v .0 .1 .1 .1 .1 .1 .0) (c .before .before .before .before .wide .result) (c .before .before .before .wide2 .result) (v .1) (c .before .before .before .before .wide .ensures .0) (c .before .before .before .wide2 .ensures .0)) (c .before .before .write-receipt-values .ensures)
-
-same-length-2 : tie.Need-same-length-2
-same-length-2 c = search needs
 
 returns-2 : tie.Need-returns-2
 returns-2 c = let v = c .before .before .before .before .before .before .verdict2 .given in said-as (c .before .before .before .before .before .before .before .before .before .args .out .now) (receiptSaid (answer (c .before .before .before .number .result) (0 ∷ 0 ∷ 0 ∷ 0 ∷ 0 ∷ []))) (receiptSaid (verdictAnswer (c .before .before .before .before .before .before .before .before .before .args .verdict))) (refused-said (c .before .before .before .before .before .before .before .before .before .args .verdict) (v .0 .0) (v .0 .1 .0) (c .before .before .before .number .result) (0 ∷ 0 ∷ 0 ∷ 0 ∷ 0 ∷ []) (v .1) (c .before .before .before .number .ensures)) (c .before .before .write-receipt-values2 .ensures)
 
 pub write-receipt-spec : {M : Type 1} → statement M
 write-receipt-spec =
-    tie.close
-    (tie.spec
-    enum-known-verdict
-    wide-requires
-    wide-requires-2
-    write-receipt-values-requires
-    enum-known-verdict-2
-    number-requires
-    write-receipt-values-requires-2
-    same-length
-    returns
-    same-length-2
-    returns-2)
+    tie.close (tie.spec (λ c. search needs) (λ c κs. search needs) (λ c κs. search needs) (λ c κs. search needs) (λ c. search needs)
+    (λ c κs. search needs) (λ c κs. search needs) (λ c. search needs) returns (λ c. search needs) returns-2)
 
 pub undivided : Undivided ("octets::wide" ∷ "refusal::Refusal::number" ∷ "sentence_write::write_receipt_values" ∷ []) function
 undivided = refl

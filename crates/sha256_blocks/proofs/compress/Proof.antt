@@ -10,18 +10,6 @@ use borrow.Author.Needs.{needs}
 use Rattle.sha256_blocks.proofs.compress.Statement.{statement}
 use Rattle.sha256_blocks.proofs.compress.Tie as tie
 
-load-requires : tie.Need-load-requires
-load-requires c κs = search needs
-
-turns48-requires : tie.Need-turns48-requires
-turns48-requires c κs = search needs
-
-rounds16-requires : tie.Need-rounds16-requires
-rounds16-requires c κs = search needs
-
-sum-requires : tie.Need-sum-requires
-sum-requires c κs = search needs
-
 returns : tie.Need-returns
 unfolding compress
 returns c =
@@ -34,5 +22,4 @@ returns c =
     ∙ all-rounds (words 16 (x .block .now)) (length-words 16 (x .block .now)) (x .h))
 
 pub compress-spec : {M : Type 1} → statement M
-compress-spec =
-    tie.close (tie.spec load-requires turns48-requires rounds16-requires sum-requires returns)
+compress-spec = tie.close (tie.spec (λ c κs. search needs) (λ c κs. search needs) (λ c κs. search needs) (λ c κs. search needs) returns)

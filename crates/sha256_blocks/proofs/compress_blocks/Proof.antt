@@ -19,32 +19,8 @@ loop-holds : tie.Need-loop-holds Inv-loop μ-loop
 unfolding blocksAfter
 loop-holds c = (omega arith, (refl, omega arith))
 
-mul-from : tie.Need-mul-from Inv-loop μ-loop
-mul-from c = omega arith
-
-add-to : tie.Need-add-to Inv-loop μ-loop
-add-to c = omega arith
-
-sub-compress : tie.Need-sub-compress Inv-loop μ-loop
-sub-compress c = omega arith
-
-part-compress-start : tie.Need-part-compress-start Inv-loop μ-loop
-part-compress-start c = omega arith
-
-part-compress-end : tie.Need-part-compress-end Inv-loop μ-loop
-part-compress-end c = omega arith
-
 compress-requires : tie.Need-compress-requires Inv-loop μ-loop
 compress-requires c κs = (c .before .before .before .before .before .pre .0, simp (length-take, length-drop) (omega arith))
-
-add-blocks : tie.Need-add-blocks Inv-loop μ-loop
-add-blocks c = omega arith
-
-add-i : tie.Need-add-i Inv-loop μ-loop
-add-i c = omega arith
-
-loop-less : tie.Need-loop-less Inv-loop μ-loop
-loop-less c = omega arith
 
 loop-again : tie.Need-loop-again Inv-loop μ-loop
 unfolding blocksAfter
@@ -65,19 +41,5 @@ returns c =
 
 pub compress-blocks-spec : {M : Type 1} → statement M
 compress-blocks-spec =
-    tie.close
-    (tie.spec
-    Inv-loop
-    μ-loop
-    loop-holds
-    mul-from
-    add-to
-    sub-compress
-    part-compress-start
-    part-compress-end
-    compress-requires
-    add-blocks
-    add-i
-    loop-less
-    loop-again
-    returns)
+    tie.close (tie.spec Inv-loop μ-loop loop-holds (λ c. omega arith) (λ c. omega arith) (λ c. omega arith) (λ c. omega arith) (λ c. omega arith)
+    compress-requires (λ c. omega arith) (λ c. omega arith) (λ c. omega arith) loop-again returns)

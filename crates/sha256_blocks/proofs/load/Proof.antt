@@ -20,24 +20,6 @@ loop-holds : tie.Need-loop-holds Inv-loop μ-loop
 unfolding words
 loop-holds c = (omega arith, refl, refl)
 
-mul-get-u32 : tie.Need-mul-get-u32 Inv-loop μ-loop
-mul-get-u32 c = omega arith
-
-get-u32-requires : tie.Need-get-u32-requires Inv-loop μ-loop
-get-u32-requires c κs = omega arith
-
-mul-w : tie.Need-mul-w Inv-loop μ-loop
-mul-w c = omega arith
-
-array-write-w : tie.Need-array-write-w Inv-loop μ-loop
-array-write-w c = omega arith
-
-add-t : tie.Need-add-t Inv-loop μ-loop
-add-t c = omega arith
-
-loop-less : tie.Need-loop-less Inv-loop μ-loop
-loop-less c = omega arith
-
 loop-again : tie.Need-loop-again Inv-loop μ-loop
 unfolding words
 loop-again c =
@@ -55,16 +37,5 @@ returns c =
 
 pub load-spec : {M : Type 1} → statement M
 load-spec =
-    tie.close
-    (tie.spec
-    Inv-loop
-    μ-loop
-    loop-holds
-    mul-get-u32
-    get-u32-requires
-    mul-w
-    array-write-w
-    add-t
-    loop-less
-    loop-again
-    returns)
+    tie.close (tie.spec Inv-loop μ-loop loop-holds (λ c. omega arith) (λ c κs. omega arith) (λ c. omega arith) (λ c. omega arith) (λ c. omega arith)
+    (λ c. omega arith) loop-again returns)

@@ -4,30 +4,6 @@ use borrow.Author.Needs.{needs}
 use Rattle.sha256_blocks.proofs.rounds16.Statement.{statement}
 use Rattle.sha256_blocks.proofs.rounds16.Tie as tie
 
-rounds2-requires : tie.Need-rounds2-requires
-rounds2-requires c κs = search needs
-
-rounds2-requires-2 : tie.Need-rounds2-requires-2
-rounds2-requires-2 c κs = search needs
-
-rounds2-requires-3 : tie.Need-rounds2-requires-3
-rounds2-requires-3 c κs = search needs
-
-rounds2-requires-4 : tie.Need-rounds2-requires-4
-rounds2-requires-4 c κs = search needs
-
-rounds2-requires-5 : tie.Need-rounds2-requires-5
-rounds2-requires-5 c κs = search needs
-
-rounds2-requires-6 : tie.Need-rounds2-requires-6
-rounds2-requires-6 c κs = search needs
-
-rounds2-requires-7 : tie.Need-rounds2-requires-7
-rounds2-requires-7 c κs = search needs
-
-rounds2-requires-8 : tie.Need-rounds2-requires-8
-rounds2-requires-8 c κs = search needs
-
 returns : tie.Need-returns
 returns c =
     let x = c .before .before .before .before .before .before .before .before .args in
@@ -42,14 +18,5 @@ returns c =
 
 pub rounds16-spec : {M : Type 1} → statement M
 rounds16-spec =
-    tie.close
-    (tie.spec
-    rounds2-requires
-    rounds2-requires-2
-    rounds2-requires-3
-    rounds2-requires-4
-    rounds2-requires-5
-    rounds2-requires-6
-    rounds2-requires-7
-    rounds2-requires-8
-    returns)
+    tie.close (tie.spec (λ c κs. search needs) (λ c κs. search needs) (λ c κs. search needs) (λ c κs. search needs) (λ c κs. search needs)
+    (λ c κs. search needs) (λ c κs. search needs) (λ c κs. search needs) returns)

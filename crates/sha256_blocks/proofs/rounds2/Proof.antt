@@ -11,45 +11,6 @@ use borrow.Author.Needs.{needs}
 use Rattle.sha256_blocks.proofs.rounds2.Statement.{statement}
 use Rattle.sha256_blocks.proofs.rounds2.Tie as tie
 
-add-round : tie.Need-add-round
-add-round c = search needs
-
-mul-round : tie.Need-mul-round
-mul-round c = search needs
-
-element-copy-out-round : tie.Need-element-copy-out-round
-element-copy-out-round c = search needs
-
-mul-round-2 : tie.Need-mul-round-2
-mul-round-2 c = search needs
-
-element-copy-out-round-2 : tie.Need-element-copy-out-round-2
-element-copy-out-round-2 c = search needs
-
-round-requires : tie.Need-round-requires
-round-requires c κs = search needs
-
-add-round-2 : tie.Need-add-round-2
-add-round-2 c = search needs
-
-mul-round-3 : tie.Need-mul-round-3
-mul-round-3 c = search needs
-
-element-copy-out-round-3 : tie.Need-element-copy-out-round-3
-element-copy-out-round-3 c = search needs
-
-add-round-3 : tie.Need-add-round-3
-add-round-3 c = search needs
-
-mul-round-4 : tie.Need-mul-round-4
-mul-round-4 c = search needs
-
-element-copy-out-round-4 : tie.Need-element-copy-out-round-4
-element-copy-out-round-4 c = search needs
-
-round-requires-2 : tie.Need-round-requires-2
-round-requires-2 c κs = search needs
-
 two : (v w : List ℕ) (t : ℕ) (ks : List ℕ) {q r : List ℕ} → ks ≡ K → q ≡ round v (getD ks (48 + t) 0) (getD w t 0) → r ≡ round q (getD ks (49 + t) 0) (getD w (t + 1) 0)
     → r ≡ lastRounds 2 v w t
 unfolding lastRounds
@@ -65,19 +26,5 @@ returns c = let x = c .before .before .before .before .before .before in two (x 
 
 pub rounds2-spec : {M : Type 1} → statement M
 rounds2-spec =
-    tie.close
-    (tie.spec
-    add-round
-    mul-round
-    element-copy-out-round
-    mul-round-2
-    element-copy-out-round-2
-    round-requires
-    add-round-2
-    mul-round-3
-    element-copy-out-round-3
-    add-round-3
-    mul-round-4
-    element-copy-out-round-4
-    round-requires-2
-    returns)
+    tie.close (tie.spec (search needs) (search needs) (search needs) (search needs) (search needs) (search needs) (search needs) (search needs)
+    (search needs) (search needs) (search needs) (search needs) (search needs) returns)

@@ -4,51 +4,6 @@ use borrow.Author.Needs.{needs}
 use Rattle.sha256_blocks.proofs.turns16.Statement.{statement}
 use Rattle.sha256_blocks.proofs.turns16.Tie as tie
 
-turns2-requires : tie.Need-turns2-requires
-turns2-requires c κs = search needs
-
-add-turns2 : tie.Need-add-turns2
-add-turns2 c = search needs
-
-turns2-requires-2 : tie.Need-turns2-requires-2
-turns2-requires-2 c κs = search needs
-
-add-turns2-2 : tie.Need-add-turns2-2
-add-turns2-2 c = search needs
-
-turns2-requires-3 : tie.Need-turns2-requires-3
-turns2-requires-3 c κs = search needs
-
-add-turns2-3 : tie.Need-add-turns2-3
-add-turns2-3 c = search needs
-
-turns2-requires-4 : tie.Need-turns2-requires-4
-turns2-requires-4 c κs = search needs
-
-add-turns2-4 : tie.Need-add-turns2-4
-add-turns2-4 c = search needs
-
-turns2-requires-5 : tie.Need-turns2-requires-5
-turns2-requires-5 c κs = search needs
-
-add-turns2-5 : tie.Need-add-turns2-5
-add-turns2-5 c = search needs
-
-turns2-requires-6 : tie.Need-turns2-requires-6
-turns2-requires-6 c κs = search needs
-
-add-turns2-6 : tie.Need-add-turns2-6
-add-turns2-6 c = search needs
-
-turns2-requires-7 : tie.Need-turns2-requires-7
-turns2-requires-7 c κs = search needs
-
-add-turns2-7 : tie.Need-add-turns2-7
-add-turns2-7 c = search needs
-
-turns2-requires-8 : tie.Need-turns2-requires-8
-turns2-requires-8 c κs = search needs
-
 returns : tie.Need-returns
 returns c =
     let x = c .before .before .before .before .before .before .before .before .args in
@@ -63,21 +18,6 @@ returns c =
 
 pub turns16-spec : {M : Type 1} → statement M
 turns16-spec =
-    tie.close
-    (tie.spec
-    turns2-requires
-    add-turns2
-    turns2-requires-2
-    add-turns2-2
-    turns2-requires-3
-    add-turns2-3
-    turns2-requires-4
-    add-turns2-4
-    turns2-requires-5
-    add-turns2-5
-    turns2-requires-6
-    add-turns2-6
-    turns2-requires-7
-    add-turns2-7
-    turns2-requires-8
-    returns)
+    tie.close (tie.spec (λ c κs. search needs) (search needs) (λ c κs. search needs) (search needs) (λ c κs. search needs) (search needs)
+    (λ c κs. search needs) (search needs) (λ c κs. search needs) (search needs) (λ c κs. search needs) (search needs) (λ c κs. search needs)
+    (search needs) (λ c κs. search needs) returns)

@@ -23,27 +23,6 @@ loop-holds : tie.Need-loop-holds Inv-loop μ-loop
 unfolding bytes
 loop-holds c = (omega arith, refl, refl)
 
-slice-aggregate-put-u32 : tie.Need-slice-aggregate-put-u32 Inv-loop μ-loop
-slice-aggregate-put-u32 c = omega arith
-
-mul-put-u32 : tie.Need-mul-put-u32 Inv-loop μ-loop
-mul-put-u32 c = omega arith
-
-mul-put-u32-2 : tie.Need-mul-put-u32-2 Inv-loop μ-loop
-mul-put-u32-2 c = omega arith
-
-array-read-put-u32 : tie.Need-array-read-put-u32 Inv-loop μ-loop
-array-read-put-u32 c = omega arith
-
-put-u32-requires : tie.Need-put-u32-requires Inv-loop μ-loop
-put-u32-requires c κs = omega arith
-
-add-i : tie.Need-add-i Inv-loop μ-loop
-add-i c = omega arith
-
-loop-less : tie.Need-loop-less Inv-loop μ-loop
-loop-less c = omega arith
-
 loop-again : tie.Need-loop-again Inv-loop μ-loop
 loop-again c =
     let l = c .before .before .before .before .loop in
@@ -65,17 +44,5 @@ returns c =
 
 pub digest-spec : {M : Type 1} → statement M
 digest-spec =
-    tie.close
-    (tie.spec
-    Inv-loop
-    μ-loop
-    loop-holds
-    slice-aggregate-put-u32
-    mul-put-u32
-    mul-put-u32-2
-    array-read-put-u32
-    put-u32-requires
-    add-i
-    loop-less
-    loop-again
-    returns)
+    tie.close (tie.spec Inv-loop μ-loop loop-holds (λ c. omega arith) (λ c. omega arith) (λ c. omega arith) (λ c. omega arith) (λ c κs. omega arith)
+    (λ c. omega arith) (λ c. omega arith) loop-again returns)

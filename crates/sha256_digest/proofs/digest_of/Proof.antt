@@ -4,15 +4,6 @@ use borrow.Author.Needs.{needs}
 use Rattle.sha256_digest.proofs.digest_of.Statement.{statement}
 use Rattle.sha256_digest.proofs.digest_of.Tie as tie
 
-constants-requires : tie.Need-constants-requires
-constants-requires c κs = search needs
-
-initial-requires : tie.Need-initial-requires
-initial-requires c κs = search needs
-
-digest-from-requires : tie.Need-digest-from-requires
-digest-from-requires c κs = search needs
-
 returns : tie.Need-returns
 returns c =
     let m = c .before .before .before .before .before .args .message .now in
@@ -20,4 +11,4 @@ returns c =
     digest-is m _ (c .digest-from .result) (from-initial (i .result) m (i .ensures)) (c .digest-from .ensures)
 
 pub digest-of-spec : {M : Type 1} → statement M
-digest-of-spec = tie.close (tie.spec constants-requires initial-requires digest-from-requires returns)
+digest-of-spec = tie.close (tie.spec (λ c κs. search needs) (λ c κs. search needs) (λ c κs. search needs) returns)

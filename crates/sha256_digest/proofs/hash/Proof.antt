@@ -22,17 +22,8 @@ returns-2 c =
     let x = c .before .before .before .before .args in
     refused-works 7 _ _ (x .out .now) (too-long (x .message .now) (x .out .now) (c .before .if1 .left) (c .if2 .taken))
 
-digest-of-requires : tie.Need-digest-of-requires
-digest-of-requires c κs = search needs
-
-slice-aggregate-put : tie.Need-slice-aggregate-put
-slice-aggregate-put c = search needs
-
 put-requires : tie.Need-put-requires
 put-requires c κs = let d = c .before .before .before .digest-of in omega (arith, c .before .before .before .before .before .if1 .left, ap length (d .ensures .0) ∙ length-sha256 (c .before .before .before .before .before .before .before .before .args .message .now))
-
-same-length : tie.Need-same-length
-same-length c = search needs
 
 returns-3 : tie.Need-returns-3
 returns-3 c =
@@ -50,13 +41,4 @@ returns-3 c =
     )
 
 pub hash-spec : {M : Type 1} → statement M
-hash-spec =
-    tie.close
-    (tie.spec
-    returns
-    returns-2
-    digest-of-requires
-    slice-aggregate-put
-    put-requires
-    same-length
-    returns-3)
+hash-spec = tie.close (tie.spec returns returns-2 (λ c κs. search needs) (λ c. search needs) put-requires (λ c. search needs) returns-3)

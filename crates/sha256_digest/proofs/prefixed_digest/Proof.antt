@@ -5,18 +5,6 @@ use borrow.Author.Needs.{needs}
 use Rattle.sha256_digest.proofs.prefixed_digest.Statement.{statement}
 use Rattle.sha256_digest.proofs.prefixed_digest.Tie as tie
 
-constants-requires : tie.Need-constants-requires
-constants-requires c κs = search needs
-
-initial-requires : tie.Need-initial-requires
-initial-requires c κs = search needs
-
-compress-blocks-requires : tie.Need-compress-blocks-requires
-compress-blocks-requires c κs = search needs
-
-digest-from-requires : tie.Need-digest-from-requires
-digest-from-requires c κs = search needs
-
 returns : tie.Need-returns
 returns c =
     let x = c .before .before .before .before .before .before .before .before in
@@ -27,11 +15,4 @@ returns c =
     digest-is (b ++ m) _ (c .digest-from .result) (after-block (i .result) (h .result) b m (x .pre .0) (i .ensures) (h .ensures)) (c .digest-from .ensures)
 
 pub prefixed-digest-spec : {M : Type 1} → statement M
-prefixed-digest-spec =
-    tie.close
-    (tie.spec
-    constants-requires
-    initial-requires
-    compress-blocks-requires
-    digest-from-requires
-    returns)
+prefixed-digest-spec = tie.close (tie.spec (λ c κs. search needs) (λ c κs. search needs) (λ c κs. search needs) (λ c κs. search needs) returns)

@@ -9,15 +9,6 @@ use borrow.Author.Needs.{needs}
 use Rattle.sha256_words.proofs.big0.Statement.{statement}
 use Rattle.sha256_words.proofs.big0.Tie as tie
 
-rotated-requires : tie.Need-rotated-requires
-rotated-requires c κs = search needs
-
-rotated-requires-2 : tie.Need-rotated-requires-2
-rotated-requires-2 c κs = search needs
-
-rotated-requires-3 : tie.Need-rotated-requires-3
-rotated-requires-3 c κs = search needs
-
 returns : tie.Need-returns
 unfolding Σ0
 returns c =
@@ -28,4 +19,4 @@ returns c =
     ∙ chained 2 11 9 x (omega arith) (start .fits .x .fits)
 
 pub big0-spec : {M : Type 1} → statement M
-big0-spec = tie.close (tie.spec rotated-requires rotated-requires-2 rotated-requires-3 returns)
+big0-spec = tie.close (tie.spec (search needs) (search needs) (search needs) returns)

@@ -5,18 +5,9 @@ use borrow.Author.Needs.{needs}
 use Rattle.sha256_words.proofs.rotated.Statement.{statement}
 use Rattle.sha256_words.proofs.rotated.Tie as tie
 
-shr-result : tie.Need-shr-result
-shr-result c = search needs
-
-sub-result : tie.Need-sub-result
-sub-result c = search needs
-
-shl-result : tie.Need-shl-result
-shl-result c = search needs
-
 returns : tie.Need-returns
 unfolding rotr
 returns c = refl
 
 pub rotated-spec : {M : Type 1} → statement M
-rotated-spec = tie.close (tie.spec shr-result sub-result shl-result returns)
+rotated-spec = tie.close (tie.spec (search needs) (search needs) (search needs) returns)

@@ -5,12 +5,9 @@ use Rattle.survey.specs.Packing.{lastReading}
 use Rattle.survey.proofs.last_reading.Statement.{statement}
 use Rattle.survey.proofs.last_reading.Tie as tie
 
-sub-t1 : tie.Need-sub-t1
-sub-t1 c = search needs
-
 returns : tie.Need-returns
 unfolding lastReading
 returns c = refl
 
 pub last-reading-spec : {M : Type 1} → statement M
-last-reading-spec = tie.close (tie.spec sub-t1 returns)
+last-reading-spec = tie.close (tie.spec (search needs) returns)

@@ -11,15 +11,9 @@ returns c = let a = c .before .args in packing-away (a .survey .0) (a .reading .
 returns-2 : tie.Need-returns-2
 returns-2 c = let a = c .before .before .args in packing-away (a .survey .0) (a .reading .0) (wide-reading (a .survey .0) (a .reading .0) (c .before .if1 .left) (c .if2 .taken))
 
-mul-t8 : tie.Need-mul-t8
-mul-t8 c = search needs
-
-add-t9 : tie.Need-add-t9
-add-t9 c = search needs
-
 returns-3 : tie.Need-returns-3
 unfolding packed
 returns-3 c = let a = c .before .before .args in packing-at (a .survey .0) (a .reading .0) (narrow (a .survey .0) (a .reading .0) (c .before .if1 .left) (c .if2 .left))
 
 pub pack-spec : {M : Type 1} → statement M
-pack-spec = tie.close (tie.spec returns returns-2 mul-t8 add-t9 returns-3)
+pack-spec = tie.close (tie.spec returns returns-2 (search needs) (search needs) returns-3)

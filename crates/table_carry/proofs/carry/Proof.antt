@@ -25,15 +25,6 @@ counts s = whole01-counted (s .before .before .before .before .before .before .b
 size : (z : tie.After-table-size) → z .table-size .result ≡ tableSize (logsOf (z .before .before .before .before .before .before .before .before .before .args .old .now)) (slotsOf (z .before .before .before .before .before .before .before .before .before .args .old .now))
 size z = z .table-size .ensures ∙ ap₂ tableSize (z .before .before .logs-of .ensures .0) (z .before .slots-of .ensures .0)
 
-check01-requires : tie.Need-check01-requires
-check01-requires c κs = search needs
-
-enum-known-count : tie.Need-enum-known-count
-enum-known-count c = search needs
-
-enum-told : tie.Need-enum-told
-enum-told c = search needs
-
 returns : tie.Need-returns
 returns c = let a = c .before .before .before .before .before .args in let e = refused-torn (a .old .now) (a .table .now) (walk-broken (whole01 (a .old .now)) (freeChain (read01 (a .old .now))) (sym (c .enum-told .given .1) ∙ c .before .before .check01 .ensures)) in (e .0, (refl, e .1))
 
@@ -52,24 +43,10 @@ returns-2 c = let a = c .before .before .before .before .before .before .before 
 fill-requires : tie.Need-fill-requires
 fill-requires c κs = let m = met (c .before .before .before .before .before .before) in (counts (c .before .before .before), (m .0, (c .before .if1 .left ∙ c .before .before .table-size .ensures, (m .1, m .2))))
 
-same-length : tie.Need-same-length
-same-length c = search needs
-
 returns-3 : tie.Need-returns-3
 returns-3 c = let a = c .before .before .before .before .before .before .before .before .before .before .before .before .before .before .args in let e = accepted (a .old .now) (a .table .now) (c .before .before .fill .last .0) (met (c .before .before .before .before .before .before .before .before .before) .0) (c .before .before .before .before .if1 .left ∙ size (c .before .before .before .before .before)) (c .before .before .fill .ensures) in (e .0, (refl, e .1))
 
 pub carry-spec : {M : Type 1} → statement M
 carry-spec =
-    tie.close
-    (tie.spec
-    check01-requires
-    enum-known-count
-    enum-told
-    returns
-    logs-of-requires
-    slots-of-requires
-    table-size-requires
-    returns-2
-    fill-requires
-    same-length
-    returns-3)
+    tie.close (tie.spec (search needs) (search needs) (search needs) returns logs-of-requires slots-of-requires table-size-requires returns-2
+    fill-requires (search needs) returns-3)

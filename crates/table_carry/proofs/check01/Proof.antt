@@ -36,9 +36,6 @@ counts s = counted01 (table-of s) (logs-in s) (slots-in s) (s .before .logs-of .
 slots-there : (s : tie.After-slots-of) → Slotted (table-of s) (rowOffsetIn plan01 (logs-in s)) (slots-in s)
 slots-there s = slotted plan01 (table-of s) (logs-in s) (slots-in s) (rowOffsetIn plan01 (logs-in s)) (counts s) refl
 
-header01-fits-requires : tie.Need-header01-fits-requires
-header01-fits-requires c κs = search needs
-
 returns : tie.Need-returns
 returns c = torn-header01 (c .before .before .before .args .old .now) (c .before .header01-fits .result) (c .before .header01-fits .ensures) (c .if1 .taken)
 
@@ -51,32 +48,17 @@ slots-of-requires c κs = long (c .before)
 mul-start : tie.Need-mul-start
 mul-start c = let f = counts c in search needs
 
-add-start : tie.Need-add-start
-add-start c = search needs
-
 free-of-requires : tie.Need-free-of-requires
 free-of-requires c κs = long (c .before .before)
 
 free01-walk-requires : tie.Need-free01-walk-requires
 free01-walk-requires c κs = slots-there (c .before)
 
-enum-known-count : tie.Need-enum-known-count
-enum-known-count c = search needs
-
-enum-told : tie.Need-enum-told
-enum-told c = search needs
-
 returns-2 : tie.Need-returns-2
 returns-2 c = let s = c .before .before .before .before in torn-free01 (table-of s) (logs-in s) (slots-in s) (counts s) (c .before .before .before .free-of .result) (c .before .before .before .free-of .ensures .0) (sym (c .enum-told .given .1) ∙ c .before .before .free01-walk .ensures)
 
 held01-walk-requires : tie.Need-held01-walk-requires
 held01-walk-requires c κs = counts (c .before .before .before .before .before)
-
-enum-known-held : tie.Need-enum-known-held
-enum-known-held c = search needs
-
-enum-told-2 : tie.Need-enum-told-2
-enum-told-2 c = search needs
 
 returns-3 : tie.Need-returns-3
 returns-3 c = let s = c .before .before .before .before .before .before .before .before in torn-held01 (table-of s) (logs-in s) (slots-in s) (counts s) (c .before .before .before .before .before .before .before .free-of .result) (c .before .before .before .before .before .before .before .free-of .ensures .0) 0 (sym (c .enum-told2 .given .1) ∙ c .before .before .held01-walk .ensures)
@@ -99,23 +81,5 @@ returns-6 c = let k = c .before .before .before in let s = c .before .before .be
 
 pub check01-spec : {M : Type 1} → statement M
 check01-spec =
-    tie.close
-    (tie.spec
-    header01-fits-requires
-    returns
-    logs-of-requires
-    slots-of-requires
-    mul-start
-    add-start
-    free-of-requires
-    free01-walk-requires
-    enum-known-count
-    enum-told
-    returns-2
-    held01-walk-requires
-    enum-known-held
-    enum-told-2
-    returns-3
-    returns-4
-    returns-5
-    returns-6)
+    tie.close (tie.spec (search needs) returns logs-of-requires slots-of-requires mul-start (search needs) free-of-requires free01-walk-requires
+    (search needs) (search needs) returns-2 held01-walk-requires (search needs) (search needs) returns-3 returns-4 returns-5 returns-6)

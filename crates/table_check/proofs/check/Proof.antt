@@ -40,9 +40,6 @@ counts r = counted (table-of r) (logs-in r) (slots-in r) (r .before .before .bef
 slots-there : (r : tie.After-row-offset) → Slotted (table-of r) (r .row-offset .result) (slots-in r)
 slots-there r = slotted plan (table-of r) (logs-in r) (slots-in r) (r .row-offset .result) (counts r) (r .row-offset .ensures)
 
-header-fits-requires : tie.Need-header-fits-requires
-header-fits-requires c κs = search needs
-
 returns : tie.Need-returns
 returns c = torn-header (c .before .before .before .args .table .now) (c .before .header-fits .result) (c .before .header-fits .ensures) (c .if1 .taken) (c .before .before .before .args .log)
 
@@ -61,23 +58,11 @@ free-of-requires c κs = long (c .before .before .before)
 free-walk-requires : tie.Need-free-walk-requires
 free-walk-requires c κs = slots-there (c .before)
 
-enum-known-count : tie.Need-enum-known-count
-enum-known-count c = search needs
-
-enum-told : tie.Need-enum-told
-enum-told c = search needs
-
 returns-2 : tie.Need-returns-2
 returns-2 c = let r = c .before .before .before .before in torn-free (table-of r) (logs-in r) (slots-in r) (counts r) (r .row-offset .result) (r .row-offset .ensures) (c .before .before .before .free-of .result) (c .before .before .before .free-of .ensures .0) (sym (c .enum-told .given .1) ∙ c .before .before .free-walk .ensures) (log-of r)
 
 held-walk-requires : tie.Need-held-walk-requires
 held-walk-requires c κs = counts (c .before .before .before .before .before)
-
-enum-known-held : tie.Need-enum-known-held
-enum-known-held c = search needs
-
-enum-told-2 : tie.Need-enum-told-2
-enum-told-2 c = search needs
 
 returns-3 : tie.Need-returns-3
 returns-3 c = let r = c .before .before .before .before .before .before .before .before in torn-held (table-of r) (logs-in r) (slots-in r) (counts r) (r .row-offset .result) (r .row-offset .ensures) (log-of r) (sym (c .enum-told2 .given .1) ∙ c .before .before .held-walk .ensures)
@@ -121,27 +106,6 @@ returns-9 c = let k = c .before .before .before .before .before .before .before 
 
 pub check-spec : {M : Type 1} → statement M
 check-spec =
-    tie.close
-    (tie.spec
-    header-fits-requires
-    returns
-    logs-of-requires
-    slots-of-requires
-    row-offset-requires
-    free-of-requires
-    free-walk-requires
-    enum-known-count
-    enum-told
-    returns-2
-    held-walk-requires
-    enum-known-held
-    enum-told-2
-    returns-3
-    returns-4
-    returns-5
-    returns-6
-    count-of-requires
-    returns-7
-    last-of-requires
-    returns-8
-    returns-9)
+    tie.close (tie.spec (search needs) returns logs-of-requires slots-of-requires row-offset-requires free-of-requires free-walk-requires
+    (search needs) (search needs) returns-2 held-walk-requires (search needs) (search needs) returns-3 returns-4 returns-5 returns-6 count-of-requires
+    returns-7 last-of-requires returns-8 returns-9)

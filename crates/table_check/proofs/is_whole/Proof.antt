@@ -5,15 +5,6 @@ use borrow.Author.Needs.{needs}
 use Rattle.table_check.proofs.is_whole.Statement.{statement}
 use Rattle.table_check.proofs.is_whole.Tie as tie
 
-check-requires : tie.Need-check-requires
-check-requires c κs = search needs
-
-enum-told : tie.Need-enum-told
-enum-told c = search needs
-
-enum-told-2 : tie.Need-enum-told-2
-enum-told-2 c = search needs
-
 returns : tie.Need-returns
 returns c = ap checkNumber (sym (c .enum-told .given .1) ∙ c .before .before .check .ensures) ∙ check-number (c .before .before .before .before .args .table .now) 0
 
@@ -21,4 +12,4 @@ returns-2 : tie.Need-returns-2
 returns-2 c = ap checkNumber (sym (c .enum-told2 .given .1) ∙ c .before .before .check .ensures) ∙ check-number (c .before .before .before .before .args .table .now) 0
 
 pub is-whole-spec : {M : Type 1} → statement M
-is-whole-spec = tie.close (tie.spec check-requires enum-told enum-told-2 returns returns-2)
+is-whole-spec = tie.close (tie.spec (search needs) (search needs) (search needs) returns returns-2)

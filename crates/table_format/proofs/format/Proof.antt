@@ -12,9 +12,6 @@ use borrow.Author.Needs.{needs}
 use Rattle.table_format.proofs.format.Statement.{statement}
 use Rattle.table_format.proofs.format.Tie as tie
 
-in-range-requires : tie.Need-in-range-requires
-in-range-requires c κs = search needs
-
 returns : tie.Need-returns
 returns c =
     let a = c .before .before .before .before .before .args in
@@ -45,9 +42,6 @@ returns-4 c =
     let e = refused-reserved (a .table .now) (a .logs) (a .slots) (a .keeper) (a .key .now) (a .reserves .now) (sym (c .before .before .before .before .before .in-range .ensures) ∙ not-false _ (c .before .before .before .before .if1 .left)) (c .if4 .taken) in
     (e .0, (refl, e .1))
 
-reserves-fit-requires : tie.Need-reserves-fit-requires
-reserves-fit-requires c κs = search needs
-
 returns-5 : tie.Need-returns-5
 returns-5 c =
     let a = c .before .before .before .before .before .before .before .before .before .before .before .args in
@@ -65,9 +59,6 @@ fill-requires c κs =
     let together : sum (a .reserves .now) ≤ a .slots = leb-true (sum (a .reserves .now)) (a .slots) (sym (c .before .before .reserves-fit .ensures) ∙ not-false _ (c .before .if5 .left)) in
     ((omega (arith, r .logs-most), r .slots-most, omega (arith, r .slots-most)), (c .before .before .before .before .if3 .left ∙ c .before .before .before .before .before .table-size .ensures ∙ ap (λ (g : ℕ). tableSize g (a .slots)) (sym count), c .before .before .before .before .before .before .if2 .left))
 
-same-length : tie.Need-same-length
-same-length c = search needs
-
 returns-6 : tie.Need-returns-6
 returns-6 c =
     let a = c .before .before .before .before .before .before .before .before .before .before .before .before .before .before .before .args in
@@ -84,16 +75,5 @@ returns-6 c =
 
 pub format-spec : {M : Type 1} → statement M
 format-spec =
-    tie.close
-    (tie.spec
-    in-range-requires
-    returns
-    returns-2
-    table-size-requires
-    returns-3
-    returns-4
-    reserves-fit-requires
-    returns-5
-    fill-requires
-    same-length
+    tie.close (tie.spec (search needs) returns returns-2 table-size-requires returns-3 returns-4 (search needs) returns-5 fill-requires (search needs)
     returns-6)

@@ -18,22 +18,10 @@ abbrev μ-loop : tie.MeasureT-loop
 loop-holds : tie.Need-loop-holds Inv-loop μ-loop
 loop-holds c = refl
 
-mul-reserve : tie.Need-mul-reserve Inv-loop μ-loop
-mul-reserve c = search needs
-
-shared-slice-read-reserve : tie.Need-shared-slice-read-reserve Inv-loop μ-loop
-shared-slice-read-reserve c = search needs
-
 returns : tie.Need-returns Inv-loop μ-loop
 returns c =
     let l = c .before .before .before .loop in
     too-much (c .before .before .before .before .args .reserves .now) (l .i) (l .left) (c .before .before .loop-test .taken) (c .if1 .taken) ∙ sym (l .inv)
-
-add-i : tie.Need-add-i Inv-loop μ-loop
-add-i c = search needs
-
-loop-less : tie.Need-loop-less Inv-loop μ-loop
-loop-less c = search needs
 
 loop-again : tie.Need-loop-again Inv-loop μ-loop
 loop-again c =
@@ -47,15 +35,4 @@ returns-2 c =
 
 pub reserves-fit-spec : {M : Type 1} → statement M
 reserves-fit-spec =
-    tie.close
-    (tie.spec
-    Inv-loop
-    μ-loop
-    loop-holds
-    mul-reserve
-    shared-slice-read-reserve
-    returns
-    add-i
-    loop-less
-    loop-again
-    returns-2)
+    tie.close (tie.spec Inv-loop μ-loop loop-holds (search needs) (search needs) returns (search needs) (search needs) loop-again returns-2)

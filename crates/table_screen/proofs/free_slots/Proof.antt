@@ -12,14 +12,8 @@ use Rattle.table_screen.proofs.free_slots.Tie as tie
 returns : tie.Need-returns
 returns c = sym (screen-short (c .before .before .args .table .now) (c .if1 .taken))
 
-has-mark-requires : tie.Need-has-mark-requires
-has-mark-requires c κs = search needs
-
 returns-2 : tie.Need-returns-2
 returns-2 c = sym (screen-unmarked (c .before .before .before .before .args .table .now) (c .before .before .if1 .left) (ap not (sym (c .before .has-mark .ensures)) ∙ c .if2 .taken))
-
-count-of-requires : tie.Need-count-of-requires
-count-of-requires c κs = search needs
 
 returns-3 : tie.Need-returns-3
 returns-3 c =
@@ -28,4 +22,4 @@ returns-3 c =
     ∙ sym (screen-marked b (c .before .before .before .if1 .left) (ap not (sym (c .before .before .has-mark .ensures)) ∙ c .before .if2 .left))
 
 pub free-slots-spec : {M : Type 1} → statement M
-free-slots-spec = tie.close (tie.spec returns has-mark-requires returns-2 count-of-requires returns-3)
+free-slots-spec = tie.close (tie.spec returns (search needs) returns-2 (search needs) returns-3)

@@ -5,12 +5,6 @@ use borrow.Author.Needs.{needs}
 use Rattle.vectors.proofs.digest_in_parts.Statement.{statement}
 use Rattle.vectors.proofs.digest_in_parts.Tie as tie
 
-returns : tie.Need-returns
-returns c = search needs
-
-new-requires : tie.Need-new-requires
-new-requires c κs = search needs
-
 fed-requires : tie.Need-fed-requires
 fed-requires c κs = let h = holds-new _ (c .new .ensures) in
     (omega (arith, holds-count _ _ h), holds-within _ _ h)
@@ -19,9 +13,5 @@ finish-requires : tie.Need-finish-requires
 finish-requires c κs = let h = holds-new _ (c .before .new .ensures) in
     (omega (arith, holds-count _ _ h, absorb-counts _ _ _ (c .fed .ensures)), absorb-within _ _ _ (c .fed .ensures) (holds-within _ _ h))
 
-returns-2 : tie.Need-returns-2
-returns-2 c = search needs
-
 pub digest-in-parts-spec : {M : Type 1} → statement M
-digest-in-parts-spec =
-    tie.close (tie.spec returns new-requires fed-requires finish-requires returns-2)
+digest-in-parts-spec = tie.close (tie.spec (search needs) (λ c κs. search needs) fed-requires finish-requires (search needs))

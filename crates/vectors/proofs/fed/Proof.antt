@@ -31,29 +31,8 @@ abbrev μ-loop : tie.MeasureT-loop
 loop-holds : tie.Need-loop-holds Inv-loop μ-loop
 loop-holds c = (omega arith, (omega arith, (omega arith, (omega arith, λ x. refl))))
 
-sub-loop : tie.Need-sub-loop Inv-loop μ-loop
-sub-loop c = omega arith
-
-add-end : tie.Need-add-end Inv-loop μ-loop
-add-end c = omega arith
-
-sub-absorb : tie.Need-sub-absorb Inv-loop μ-loop
-sub-absorb c = omega arith
-
-part-absorb-start : tie.Need-part-absorb-start Inv-loop μ-loop
-part-absorb-start c = omega arith
-
-part-absorb-end : tie.Need-part-absorb-end Inv-loop μ-loop
-part-absorb-end c = omega arith
-
 absorb-requires : tie.Need-absorb-requires Inv-loop μ-loop
 absorb-requires c κs = (simp (length-take, length-drop) (omega arith), omega arith)
-
-add-n : tie.Need-add-n Inv-loop μ-loop
-add-n c = omega arith
-
-loop-less : tie.Need-loop-less Inv-loop μ-loop
-loop-less c = omega arith
 
 loop-again : tie.Need-loop-again Inv-loop μ-loop
 loop-again c =
@@ -63,15 +42,6 @@ loop-again c =
     let z : length (take (l .at + l .n - l .at) (drop (l .at) m)) ≡ l .n = simp (length-take, length-drop) (omega arith) in
     let w = absorb-within (l .s) (c .absorb .result) (take (l .at + l .n - l .at) (drop (l .at) m)) (c .absorb .ensures) (l .inv .1 .1 .1 .0) in
     (omega arith, (omega arith, (omega arith, (w, more m (l .at) (l .n) _ _ _ (c .absorb .ensures) (l .inv .1 .1 .1 .1)))))
-
-sub-absorb-2 : tie.Need-sub-absorb-2 Inv-loop μ-loop
-sub-absorb-2 c = omega arith
-
-part-absorb-start-2 : tie.Need-part-absorb-start-2 Inv-loop μ-loop
-part-absorb-start-2 c = omega arith
-
-part-absorb-end-2 : tie.Need-part-absorb-end-2 Inv-loop μ-loop
-part-absorb-end-2 c = omega arith
 
 absorb-requires-2 : tie.Need-absorb-requires-2 Inv-loop μ-loop
 absorb-requires-2 c κs = (simp (length-take, length-drop) (omega arith), omega arith)
@@ -87,22 +57,6 @@ returns c =
 
 pub fed-spec : {M : Type 1} → statement M
 fed-spec =
-    tie.close
-    (tie.spec
-    Inv-loop
-    μ-loop
-    loop-holds
-    sub-loop
-    add-end
-    sub-absorb
-    part-absorb-start
-    part-absorb-end
-    absorb-requires
-    add-n
-    loop-less
-    loop-again
-    sub-absorb-2
-    part-absorb-start-2
-    part-absorb-end-2
-    absorb-requires-2
+    tie.close (tie.spec Inv-loop μ-loop loop-holds (λ c. omega arith) (λ c. omega arith) (λ c. omega arith) (λ c. omega arith) (λ c. omega arith)
+    absorb-requires (λ c. omega arith) (λ c. omega arith) loop-again (λ c. omega arith) (λ c. omega arith) (λ c. omega arith) absorb-requires-2
     returns)

@@ -7,42 +7,10 @@ use Rattle.vectors.proofs.field.Tie as tie
 use Rattle.octets.specs.Undivided.{Undivided}
 use Rattle.vectors.proofs.field.Code.Mir.{function}
 
-text-requires : tie.Need-text-requires
-text-requires c κs = search needs
-
-hex-requires : tie.Need-hex-requires
-hex-requires c κs = search needs
-
-slice-aggregate-text : tie.Need-slice-aggregate-text
-slice-aggregate-text c = search needs
-
-text-requires-2 : tie.Need-text-requires-2
-text-requires-2 c κs = search needs
-
-number-requires : tie.Need-number-requires
-number-requires c κs = search needs
-
-slice-aggregate-text-2 : tie.Need-slice-aggregate-text-2
-slice-aggregate-text-2 c = search needs
-
-text-requires-3 : tie.Need-text-requires-3
-text-requires-3 c κs = search needs
-
-returns : tie.Need-returns
-returns c = search needs
-
 pub field-spec : {M : Type 1} → statement M
 field-spec =
-    tie.close
-    (tie.spec
-    text-requires
-    hex-requires
-    slice-aggregate-text
-    text-requires-2
-    number-requires
-    slice-aggregate-text-2
-    text-requires-3
-    returns)
+    tie.close (tie.spec (λ c κs. search needs) (λ c κs. search needs) (search needs) (λ c κs. search needs) (λ c κs. search needs) (search needs)
+    (λ c κs. search needs) (search needs))
 
 pub undivided : Undivided ("printing::hex" ∷ "printing::number" ∷ "printing::text" ∷ []) function
 undivided = refl

@@ -10,27 +10,6 @@ use Rattle.workload_write.proofs.begin.Tie as tie
 use Rattle.octets.specs.Undivided.{Undivided}
 use Rattle.workload_write.proofs.begin.Code.Mir.{function}
 
-ask-requires : tie.Need-ask-requires
-ask-requires c κs = search needs
-
-enum-known-seed : tie.Need-enum-known-seed
-enum-known-seed c = search needs
-
-slice-aggregate-put : tie.Need-slice-aggregate-put
-slice-aggregate-put c = search needs
-
-put-requires : tie.Need-put-requires
-put-requires c κs = search needs
-
-enum-known-why : tie.Need-enum-known-why
-enum-known-why c = search needs
-
-number-requires : tie.Need-number-requires
-number-requires c κs = search needs
-
-wide-requires : tie.Need-wide-requires
-wide-requires c κs = search needs
-
 put-requires-2 : tie.Need-put-requires-2
 put-requires-2 c κs = omega (arith, length-decimal (c .wide .result))
 
@@ -40,17 +19,11 @@ slice-write-out c = let p = c .before .before .put2 in omega (arith, p .ensures 
 add-t20 : tie.Need-add-t20
 add-t20 c = let p = c .before .before .put2 in omega (arith, p .ensures .0, length-decimal (c .before .before .before .wide .result))
 
-same-length : tie.Need-same-length
-same-length c = search needs
-
 returns : tie.Need-returns
 returns c =
     let a = c .before .before .before .before .before .before .before .before .before .before .before .args in
     let s = c .before .before .before .before .before .before .seed .given in
     script-first _ (s .0 .0) (s .0 .1 .0) (a .out .now) (c .before .before .put .last .0) (sym (c .before .before .before .before .before .before .before .before .ask .ensures) ∙ s .1) (c .before .before .put .ensures)
-
-same-length-2 : tie.Need-same-length-2
-same-length-2 c = search needs
 
 returns-2 : tie.Need-returns-2
 returns-2 c =
@@ -62,22 +35,8 @@ returns-2 c =
 
 pub begin-spec : {M : Type 1} → statement M
 begin-spec =
-    tie.close
-    (tie.spec
-    ask-requires
-    enum-known-seed
-    slice-aggregate-put
-    put-requires
-    enum-known-why
-    number-requires
-    wide-requires
-    put-requires-2
-    slice-write-out
-    add-t20
-    same-length
-    returns
-    same-length-2
-    returns-2)
+    tie.close (tie.spec (search needs) (search needs) (search needs) (search needs) (search needs) (search needs) (search needs) put-requires-2
+    slice-write-out add-t20 (search needs) returns (λ c. search needs) returns-2)
 
 pub undivided : Undivided ("decimal::write::put" ∷ "octets::put" ∷ "octets::wide" ∷ "refusal::Refusal::number" ∷ "workload::input::ask" ∷ []) function
 undivided = refl

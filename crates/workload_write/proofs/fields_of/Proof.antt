@@ -9,21 +9,6 @@ use Rattle.workload_write.proofs.fields_of.Tie as tie
 use Rattle.octets.specs.Undivided.{Undivided}
 use Rattle.workload_write.proofs.fields_of.Code.Mir.{function}
 
-enum-known-draw : tie.Need-enum-known-draw
-enum-known-draw c = search needs
-
-enum-known-draw-2 : tie.Need-enum-known-draw-2
-enum-known-draw-2 c = search needs
-
-enum-known-draw-3 : tie.Need-enum-known-draw-3
-enum-known-draw-3 c = search needs
-
-enum-known-draw-4 : tie.Need-enum-known-draw-4
-enum-known-draw-4 c = search needs
-
-enum-known-draw-5 : tie.Need-enum-known-draw-5
-enum-known-draw-5 c = search needs
-
 returns : tie.Need-returns
 returns c = (sym (ap fieldsIn (c .before .draw .given .1)), omega arith)
 
@@ -41,18 +26,7 @@ returns-5 c = (sym (ap fieldsIn (c .before .draw5 .given .1)), omega arith)
 
 pub fields-of-spec : {M : Type 1} → statement M
 fields-of-spec =
-    tie.close
-    (tie.spec
-    enum-known-draw
-    enum-known-draw-2
-    enum-known-draw-3
-    enum-known-draw-4
-    enum-known-draw-5
-    returns
-    returns-2
-    returns-3
-    returns-4
-    returns-5)
+    tie.close (tie.spec (search needs) (search needs) (search needs) (search needs) (search needs) returns returns-2 returns-3 returns-4 returns-5)
 
 pub undivided : Undivided [] function
 undivided = refl

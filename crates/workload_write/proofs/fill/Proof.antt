@@ -32,21 +32,12 @@ returns c =
     let l = c .before .before .loop in
     filled (a .out .now) (a .state) (a .left) (l .out) (l .x) (l .n) (l .to) (l .inv .0) (inr (omega (arith, l .inv .1)))
 
-pick-requires : tie.Need-pick-requires Inv-loop μ-loop
-pick-requires c κs = search needs
-
 put-line-requires : tie.Need-put-line-requires Inv-loop μ-loop
 put-line-requires c κs =
     let a = c .before .before .before .before .before .before .args in
     let l = c .before .before .before .before .loop in
     let d = c .before .pick in
     omega (arith, l .inv .1, next-fits (a .out .now) (a .state) (a .left) (l .out) (l .x) (l .n) (l .to) (l .inv .0) (omega arith) (d .result) (d .ensures))
-
-sub-n : tie.Need-sub-n Inv-loop μ-loop
-sub-n c = search needs
-
-loop-less : tie.Need-loop-less Inv-loop μ-loop
-loop-less c = search needs
 
 loop-again : tie.Need-loop-again Inv-loop μ-loop
 loop-again c =
@@ -67,21 +58,8 @@ returns-2 c =
 
 pub fill-spec : {M : Type 1} → statement M
 fill-spec =
-    tie.close
-    (tie.spec
-    Inv-loop
-    μ-loop
-    loop-holds
-    sub-if1
-    same-length
-    returns
-    pick-requires
-    put-line-requires
-    sub-n
-    loop-less
-    loop-again
-    same-length-2
-    returns-2)
+    tie.close (tie.spec Inv-loop μ-loop loop-holds sub-if1 same-length returns (search needs) put-line-requires (search needs) (search needs)
+    loop-again same-length-2 returns-2)
 
 pub undivided : Undivided ("workload::generator::pick" ∷ "workload_write::put_line" ∷ []) function
 undivided = refl

@@ -16,9 +16,6 @@ use Rattle.workload_write.proofs.put_line.Code.Mir.{function}
 put-word-requires : tie.Need-put-word-requires
 put-word-requires c κs = omega (arith, c .before .before .pre, call-length (c .before .before .args .draw))
 
-fields-of-requires : tie.Need-fields-of-requires
-fields-of-requires c κs = search needs
-
 put-numbers-requires : tie.Need-put-numbers-requires
 put-numbers-requires c κs =
     let a = c .before .before .before .before .before .before .before .before .args in
@@ -54,16 +51,7 @@ returns c =
     call-put (a .draw) (a .out .now) (listed (f .result)) (a .at) (w .result) (p .result) (f .ensures .0) (c .before .before .before .before .before .before .before .before .before .before .before .pre) (w .ensures .0) (w .ensures .1) (p .ensures .0) (p .ensures .1)
 
 pub put-line-spec : {M : Type 1} → statement M
-put-line-spec =
-    tie.close
-    (tie.spec
-    put-word-requires
-    fields-of-requires
-    put-numbers-requires
-    slice-write-out
-    add-result
-    same-length
-    returns)
+put-line-spec = tie.close (tie.spec put-word-requires (search needs) put-numbers-requires slice-write-out add-result same-length returns)
 
 pub undivided : Undivided ("workload_write::fields_of" ∷ "workload_write::put_numbers" ∷ "workload_write::put_word" ∷ []) function
 undivided = refl

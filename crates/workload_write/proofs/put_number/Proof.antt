@@ -11,12 +11,6 @@ use Rattle.workload_write.proofs.put_number.Tie as tie
 use Rattle.octets.specs.Undivided.{Undivided}
 use Rattle.workload_write.proofs.put_number.Code.Mir.{function}
 
-slice-write-out : tie.Need-slice-write-out
-slice-write-out c = search needs
-
-add-put : tie.Need-add-put
-add-put c = search needs
-
 put-requires : tie.Need-put-requires
 put-requires c κs = let a = c .before .before .args in omega (arith, length-set (a .out .now) (a .at) 44)
 
@@ -27,14 +21,7 @@ returns : tie.Need-returns
 returns c = let a = c .before .before .before .before .before .args in (omega (arith, c .before .before .put .ensures .0), c .before .before .put .ensures .1 ∙ byte-before (a .out .now) (decimalOf (a .n)) (a .at) 44 (c .before .before .before .before .before .pre))
 
 pub put-number-spec : {M : Type 1} → statement M
-put-number-spec =
-    tie.close
-    (tie.spec
-    slice-write-out
-    add-put
-    put-requires
-    same-length
-    returns)
+put-number-spec = tie.close (tie.spec (search needs) (search needs) put-requires same-length returns)
 
 pub undivided : Undivided ("decimal::write::put" ∷ []) function
 undivided = refl

@@ -26,12 +26,6 @@ loop-holds c =
     let a = c .before .args in
     (omega arith, omega (arith, ap length (numbers-start (a .t4))), sym (splice-nil (a .out .now) (a .at)) ∙ ap (splice (a .out .now) (a .at)) (sym (numbers-start (a .t4))), refl)
 
-mul-n : tie.Need-mul-n Inv-loop μ-loop
-mul-n c = search needs
-
-array-read-n : tie.Need-array-read-n Inv-loop μ-loop
-array-read-n c = search needs
-
 put-number-requires : tie.Need-put-number-requires Inv-loop μ-loop
 put-number-requires c κs =
     let a = c .before .before .before .before .args in
@@ -39,12 +33,6 @@ put-number-requires c κs =
     let y : List ℕ = 44 ∷ decimalOf (getD (a .t4) (l .i) 0) in
     let m : numbersText (take (l .i + 1) (a .t4)) ≡ numbersText (take (l .i) (a .t4)) ++ y = numbers-more (a .t4) (l .i) (omega arith) in
     omega (arith, l .inv .1, l .inv .3, ap length m, length-append (numbersText (take (l .i) (a .t4))) y, numbers-part (a .t4) (l .i + 1) (a .count) (omega arith))
-
-add-i : tie.Need-add-i Inv-loop μ-loop
-add-i c = search needs
-
-loop-less : tie.Need-loop-less Inv-loop μ-loop
-loop-less c = search needs
 
 loop-again : tie.Need-loop-again Inv-loop μ-loop
 loop-again c =
@@ -71,19 +59,8 @@ returns c =
 
 pub put-numbers-spec : {M : Type 1} → statement M
 put-numbers-spec =
-    tie.close
-    (tie.spec
-    Inv-loop
-    μ-loop
-    loop-holds
-    mul-n
-    array-read-n
-    put-number-requires
-    add-i
-    loop-less
-    loop-again
-    same-length
-    returns)
+    tie.close (tie.spec Inv-loop μ-loop loop-holds (search needs) (search needs) put-number-requires (search needs) (search needs) loop-again
+    same-length returns)
 
 pub undivided : Undivided ("workload_write::put_number" ∷ []) function
 undivided = refl

@@ -18,45 +18,20 @@ returns c = let a = c .before .before .before .before .args in advance-digest (a
 returns-2 : tie.Need-returns-2
 returns-2 c = let a = c .before .before .before .before .before .args in advance-value (a .table .now) (a .position) (a .digest .now) (a .value .now) (a .log) (c .before .if1 .left) (c .if2 .taken)
 
-open-requires : tie.Need-open-requires
-open-requires c κs = search needs
-
-enum-known-view : tie.Need-enum-known-view
-enum-known-view c = search needs
-
 advance-open-requires : tie.Need-advance-open-requires
 advance-open-requires c κs = let p11 = c .before .before .before .before .before .before .before .before .before .before .before in
     (opened (p11 .args .table .now) (p11 .args .log) (c .before .before .view .given .0 .0) (sym (c .before .before .view .given .1) ∙ c .before .before .before .before .«open» .ensures) .0, (c .before .before .before .before .before .before .before .if1 .left, c .before .before .before .before .before .before .if2 .left))
 
-enum-known-why : tie.Need-enum-known-why
-enum-known-why c = search needs
-
-same-length : tie.Need-same-length
-same-length c = search needs
-
 returns-3 : tie.Need-returns-3
 returns-3 c = let a = c .before .before .before .before .before .before .before .before .before .before .before .before .before .before .args in at-log (a .table .now) (λ (g : ℕ). advance g (a .position) (a .digest .now) (a .value .now)) (changeReply (c .before .before .advance-open .result)) (changeBlocks (c .before .before .advance-open .result)) (c .before .before .advance-open .last .0) (opened (a .table .now) (a .log) (c .before .before .before .before .before .view .given .0 .0) (sym (c .before .before .before .before .before .view .given .1) ∙ c .before .before .before .before .before .before .before .«open» .ensures) .1) (c .before .before .advance-open .ensures)
-
-same-length-2 : tie.Need-same-length-2
-same-length-2 c = search needs
 
 returns-4 : tie.Need-returns-4
 returns-4 c = let a = c .before .before .before .before .before .before .before .before .before .before .args in unopened (a .table .now) (a .log) (c .before .why .given .0 .0) (advance (a .log) (a .position) (a .digest .now) (a .value .now)) (sym (c .before .why .given .1) ∙ c .before .before .before .«open» .ensures) refl (advance-sized (a .table .now) (a .position) (a .digest .now) (a .value .now) (a .log) (c .before .before .before .before .before .before .if1 .left) (c .before .before .before .before .before .if2 .left))
 
 pub advance-spec : {M : Type 1} → statement M
 advance-spec =
-    tie.close
-    (tie.spec
-    returns
-    returns-2
-    open-requires
-    enum-known-view
-    advance-open-requires
-    enum-known-why
-    same-length
-    returns-3
-    same-length-2
-    returns-4)
+    tie.close (tie.spec returns returns-2 (λ c κs. search needs) (search needs) advance-open-requires (search needs) (search needs) returns-3
+    (search needs) returns-4)
 
 -- no literal of the body becomes the count
 pub counted : unwritten counts (function .body) ≡ true

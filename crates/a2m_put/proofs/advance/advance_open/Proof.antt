@@ -23,15 +23,6 @@ returns-2 c = let p8 = c .before .before .before .before .before .before .before
 returns-3 : tie.Need-returns-3
 returns-3 c = let q = c .before .before .before .before .before .before .before .before .before .before in let a = q .args in let p = q .pre in advance-promised (a .table .now) (a .position) (a .digest .now) (a .value .now) (a .view) (p .0) (p .1 .0) (p .1 .1) (c .before .before .before .before .if1 .left) (c .before .before .if2 .left) (c .if3 .taken)
 
-advance-requires : tie.Need-advance-requires
-advance-requires c κs = search needs
-
-entry-digest-requires : tie.Need-entry-digest-requires
-entry-digest-requires c κs = search needs
-
-slice-aggregate-enter : tie.Need-slice-aggregate-enter
-slice-aggregate-enter c = search needs
-
 enter-requires : tie.Need-enter-requires
 enter-requires c κs =
     let d = c .before .before .before in
@@ -42,9 +33,6 @@ enter-requires c κs =
     let f : a .view .free ≢ 0 = r .before .before .before .if2 .left in
     let h = advance-high (a .view .row) (r .advance .result) (a .position) (a .view .free) (r .advance .ensures) in
     (p .0, (omega arith, (h .0, (omega (arith, h .1, q .fits .position), (p .1 .1, ap length (d .entry-digest .ensures .0) ∙ length-entryDigest _ _ _)))))
-
-same-length : tie.Need-same-length
-same-length c = search needs
 
 returns-4 : tie.Need-returns-4
 returns-4 c =
@@ -58,17 +46,8 @@ returns-4 c =
 
 pub advance-open-spec : {M : Type 1} → statement M
 advance-open-spec =
-    tie.close
-    (tie.spec
-    returns
-    returns-2
-    returns-3
-    advance-requires
-    entry-digest-requires
-    slice-aggregate-enter
-    enter-requires
-    same-length
-    returns-4)
+    tie.close (tie.spec returns returns-2 returns-3 (λ c κs. search needs) (λ c κs. search needs) (λ c. search needs) enter-requires
+    (λ c. search needs) returns-4)
 
 -- no literal of the body becomes the count
 pub counted : unwritten counts (function .body) ≡ true

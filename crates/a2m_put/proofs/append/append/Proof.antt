@@ -15,28 +15,13 @@ use Rattle.a2m_put.proofs.append.append.Code.Mir.{function}
 returns : tie.Need-returns
 returns c = append-length (c .before .before .before .args .table .now) (c .before .before .before .args .value .now) (c .before .before .before .args .log) (c .if1 .taken)
 
-open-requires : tie.Need-open-requires
-open-requires c κs = search needs
-
-enum-known-view : tie.Need-enum-known-view
-enum-known-view c = search needs
-
 append-open-requires : tie.Need-append-open-requires
 append-open-requires c κs = let p9 = c .before .before .before .before .before .before .before .before .before in
     (opened (p9 .args .table .now) (p9 .args .log) (c .before .before .view .given .0 .0) (sym (c .before .before .view .given .1) ∙ c .before .before .before .before .«open» .ensures) .0, c .before .before .before .before .before .before .if1 .left)
 
-enum-known-why : tie.Need-enum-known-why
-enum-known-why c = search needs
-
-same-length : tie.Need-same-length
-same-length c = search needs
-
 returns-2 : tie.Need-returns-2
 returns-2 c = let p12 = c .before .before .before .before .before .before .before .before .before .before .before .before in
     at-log (p12 .args .table .now) (λ (g : ℕ). append g (p12 .args .value .now)) (changeReply (c .before .before .append-open .result)) (changeBlocks (c .before .before .append-open .result)) (c .before .before .append-open .last .0) (opened (p12 .args .table .now) (p12 .args .log) (c .before .before .before .before .before .view .given .0 .0) (sym (c .before .before .before .before .before .view .given .1) ∙ c .before .before .before .before .before .before .before .«open» .ensures) .1) (c .before .before .append-open .ensures)
-
-same-length-2 : tie.Need-same-length-2
-same-length-2 c = search needs
 
 returns-3 : tie.Need-returns-3
 returns-3 c = let p8 = c .before .before .before .before .before .before .before .before in
@@ -44,16 +29,7 @@ returns-3 c = let p8 = c .before .before .before .before .before .before .before
 
 pub append-spec : {M : Type 1} → statement M
 append-spec =
-    tie.close
-    (tie.spec
-    returns
-    open-requires
-    enum-known-view
-    append-open-requires
-    enum-known-why
-    same-length
-    returns-2
-    same-length-2
+    tie.close (tie.spec returns (λ c κs. search needs) (search needs) append-open-requires (search needs) (search needs) returns-2 (search needs)
     returns-3)
 
 -- no literal of the body becomes the count

@@ -23,15 +23,9 @@ returns-2 c = let a = c .before .before .before .before .before .before .before 
 returns-3 : tie.Need-returns-3
 returns-3 c = let p = c .before .before .before .before .before .before .before .before .before in let a = p .args in append-promised (a .table .now) (a .value .now) (a .view) (p .pre .0) (p .pre .1) (c .before .before .before .before .if1 .left) (c .before .before .if2 .left) (c .if3 .taken)
 
-append-requires : tie.Need-append-requires
-append-requires c κs = search needs
-
 digest-after-requires : tie.Need-digest-after-requires
 digest-after-requires c κs = let p9 = c .before .before .before .before .before .before .before .before .before .before .before in
     let a = p9 .args in (opened-counted (a .table .now) (a .view) (p9 .pre .0), (last-most (a .table .now) (a .view) (p9 .pre .0), p9 .pre .1))
-
-slice-aggregate-enter : tie.Need-slice-aggregate-enter
-slice-aggregate-enter c = search needs
 
 enter-requires : tie.Need-enter-requires
 enter-requires c κs =
@@ -41,9 +35,6 @@ enter-requires c κs =
     let a = p .args in
     let f : a .view .free ≢ 0 = r .before .before .before .if2 .left in
     (p .pre .0, (omega arith, (append-high (a .view .row) (r .append .result) (a .view .free) (r .append .ensures), (append-fits (a .view .row) (r .append .result) (a .view .free) (r .append .ensures) (omega (arith, r .before .before .before .before .before .before .struct-known .given)) (r .before .before .before .before .before .if1 .left), (p .pre .1, ap length (d .digest-after .ensures .0) ∙ length-entryDigest _ _ _)))))
-
-same-length : tie.Need-same-length
-same-length c = search needs
 
 returns-4 : tie.Need-returns-4
 returns-4 c =
@@ -56,17 +47,8 @@ returns-4 c =
 
 pub append-open-spec : {M : Type 1} → statement M
 append-open-spec =
-    tie.close
-    (tie.spec
-    returns
-    returns-2
-    returns-3
-    append-requires
-    digest-after-requires
-    slice-aggregate-enter
-    enter-requires
-    same-length
-    returns-4)
+    tie.close (tie.spec returns returns-2 returns-3 (λ c κs. search needs) digest-after-requires (λ c. search needs) enter-requires
+    (λ c. search needs) returns-4)
 
 -- no literal of the body becomes the count
 pub counted : unwritten counts (function .body) ≡ true

@@ -62,9 +62,6 @@ put-count-requires c κs =
     let n = opened-counted (a .table .now) (a .view) (p .0) .slots-most in
     (held-long _ _ _ _ _ (held-4 (a .table .now) (a .view) (a .after) (a .value .now) (a .digest .now) (p .0) (λ i. omega (arith, y .slice-known .given i)) (p .1 .0) (p .1 .1 .0) (p .1 .1 .1 .0) (p .1 .1 .1 .1 .0) (p .1 .1 .1 .1 .1) (s .put-slot .last .0) (h .hook .last .0) (r .put-row .last .0) (f .put-free .last .0) (k .link-at .result) (k .link-at .ensures) (s .put-slot .ensures) (h .hook .ensures) (r .put-row .ensures) (f .put-free .ensures)), omega arith)
 
-last-after-requires : tie.Need-last-after-requires
-last-after-requires c κs = search needs
-
 put-last-requires : tie.Need-put-last-requires
 put-last-requires c κs =
     let n = c .before .before .before .before in
@@ -79,9 +76,6 @@ put-last-requires c κs =
     let m = last-most-after (a .table .now) (a .view) (a .after) (a .value .now) (a .digest .now) (p .0) (λ i. omega (arith, y .slice-known .given i)) (p .1 .0) (p .1 .1 .0) (p .1 .1 .1 .0) (p .1 .1 .1 .1 .0) (p .1 .1 .1 .1 .1) (k .link-at .result .next) in
     let z = opened-counted (a .table .now) (a .view) (p .0) .slots-most in
     (held-long _ _ _ _ _ (held-5 (a .table .now) (a .view) (a .after) (a .value .now) (a .digest .now) (p .0) (λ i. omega (arith, y .slice-known .given i)) (p .1 .0) (p .1 .1 .0) (p .1 .1 .1 .0) (p .1 .1 .1 .1 .0) (p .1 .1 .1 .1 .1) (s .put-slot .last .0) (h .hook .last .0) (r .put-row .last .0) (f .put-free .last .0) (n .put-count .last .0) (k .link-at .result) (k .link-at .ensures) (s .put-slot .ensures) (h .hook .ensures) (r .put-row .ensures) (f .put-free .ensures) (n .put-count .ensures)), omega (arith, c .last-after .ensures))
-
-same-length : tie.Need-same-length
-same-length c = search needs
 
 returns : tie.Need-returns
 returns c =
@@ -98,20 +92,8 @@ returns c =
 
 pub enter-spec : {M : Type 1} → statement M
 enter-spec =
-    tie.close
-    (tie.spec
-    link-at-requires
-    add-put-slot
-    put-slot-requires
-    hook-requires
-    put-row-requires
-    put-free-requires
-    sub-put-count
-    put-count-requires
-    last-after-requires
-    put-last-requires
-    same-length
-    returns)
+    tie.close (tie.spec link-at-requires add-put-slot put-slot-requires hook-requires put-row-requires put-free-requires sub-put-count
+    put-count-requires (λ c κs. search needs) put-last-requires (search needs) returns)
 
 -- no literal of the body becomes the count
 pub counted : unwritten counts (function .body) ≡ true

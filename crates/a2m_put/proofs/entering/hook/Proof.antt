@@ -4,12 +4,6 @@ use borrow.Author.Needs.{needs}
 use Rattle.a2m_put.proofs.entering.hook.Statement.{statement}
 use Rattle.a2m_put.proofs.entering.hook.Tie as tie
 
-put-next-requires : tie.Need-put-next-requires
-put-next-requires c κs = search needs
-
-same-length : tie.Need-same-length
-same-length c = search needs
-
 returns : tie.Need-returns
 returns c = let a = c .before .before .before .before .before .before .args in hooks (a .table .now) (c .before .before .put-next .last .0) (a .last) (a .t) (c .before .before .before .before .if1 .taken) (c .before .before .put-next .ensures)
 
@@ -17,4 +11,4 @@ returns-2 : tie.Need-returns-2
 returns-2 c = let a = c .before .before .args in no-hook (a .table .now) (a .last) (a .t) (c .if1 .left)
 
 pub hook-spec : {M : Type 1} → statement M
-hook-spec = tie.close (tie.spec put-next-requires same-length returns returns-2)
+hook-spec = tie.close (tie.spec (λ c κs. search needs) (search needs) returns returns-2)

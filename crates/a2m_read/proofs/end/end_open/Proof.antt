@@ -14,9 +14,6 @@ keeper-of-requires : tie.Need-keeper-of-requires
 keeper-of-requires c κs = let p4 = c .before .before .before .before in
     opened-long (p4 .args .table .now) (p4 .args .view) (p4 .pre .0)
 
-kind-at-requires : tie.Need-kind-at-requires
-kind-at-requires c κs = search needs
-
 cast-t11 : tie.Need-cast-t11
 cast-t11 c = let p7 = c .before .before .before .before .before .before .before in
     let a = p7 .args in let l = opened-log (a .table .now) (a .view) (p7 .pre .0) in let k = opened-counted (a .table .now) (a .view) (p7 .pre .0) .logs-most in omega arith
@@ -25,9 +22,6 @@ attest-requires : tie.Need-attest-requires
 attest-requires c κs = let p8 = c .before .before .before .before .before .before .before .before in
     let a = p8 .args in let p = p8 .pre in (opened-counted (a .table .now) (a .view) (p .0), (last-most (a .table .now) (a .view) (p .0), (p .1 .0, p .1 .1)))
 
-same-length : tie.Need-same-length
-same-length c = search needs
-
 returns : tie.Need-returns
 returns c = let p5 = c .before .before .before .before .before in
     let p11 = p5 .before .before .before .before .before .before in
@@ -35,8 +29,7 @@ returns c = let p5 = c .before .before .before .before .before in
     end-done (a .table .now) (a .nonce .now) (a .receipt .now) (a .view) (p .0) (p .1 .0) (p .1 .1) (p5 .kind-at .result) (p5 .before .keeper-of .result) (t .result) (t .last .1 .1 .1 .1 .1 .1 .0) (p5 .kind-at .ensures) (p5 .before .keeper-of .ensures) (t .ensures .0) (t .ensures .1)
 
 pub end-open-spec : {M : Type 1} → statement M
-end-open-spec =
-    tie.close (tie.spec keeper-of-requires kind-at-requires cast-t11 attest-requires same-length returns)
+end-open-spec = tie.close (tie.spec keeper-of-requires (λ c κs. search needs) cast-t11 attest-requires (search needs) returns)
 
 -- no literal of the body becomes the count
 pub counted : unwritten counts (function .body) ≡ true

@@ -13,9 +13,6 @@ use Rattle.a2m_read.proofs.lookup.lookup_open.Code.Mir.{function}
 returns : tie.Need-returns
 returns c = let a = c .before .before .before .before .args in let p = c .before .before .before .before .pre in lookup-zero (a .table .now) (a .nonce .now) (a .receipt .now) (a .position) (a .view) (p .0) (p .1 .0) (p .1 .1) (c .if1 .taken)
 
-find-requires : tie.Need-find-requires
-find-requires c κs = search needs
-
 keeper-of-requires : tie.Need-keeper-of-requires
 keeper-of-requires c κs = opened-long (c .before .before .before .before .before .args .table .now) (c .before .before .before .before .before .args .view) (c .before .before .before .before .before .pre .0)
 
@@ -26,24 +23,12 @@ attest-requires : tie.Need-attest-requires
 attest-requires c κs = let p8 = c .before .before .before .before .before .before .before .before in
     let a = p8 .args in let p = p8 .pre in (opened-counted (a .table .now) (a .view) (p .0), (c .before .before .before .find .ensures .0, (p .1 .0, p .1 .1)))
 
-same-length : tie.Need-same-length
-same-length c = search needs
-
 returns-2 : tie.Need-returns-2
 returns-2 c = let p11 = c .before .before .before .before .before .before .before .before .before .before .before in
     let a = p11 .args in let p = p11 .pre in let t = c .before .before .attest in lookup-done (a .table .now) (a .nonce .now) (a .receipt .now) (a .position) (a .view) (p .0) (p .1 .0) (p .1 .1) (c .before .before .before .before .before .before .before .if1 .left) (c .before .before .before .before .before .before .find .result) (c .before .before .before .before .before .keeper-of .result) (t .result) (t .last .1 .1 .1 .1 .1 .1 .0) (c .before .before .before .before .before .before .find .ensures .1) (c .before .before .before .before .before .keeper-of .ensures) (t .ensures .0) (t .ensures .1)
 
 pub lookup-open-spec : {M : Type 1} → statement M
-lookup-open-spec =
-    tie.close
-    (tie.spec
-    returns
-    find-requires
-    keeper-of-requires
-    cast-t13
-    attest-requires
-    same-length
-    returns-2)
+lookup-open-spec = tie.close (tie.spec returns (λ c κs. search needs) keeper-of-requires cast-t13 attest-requires (search needs) returns-2)
 
 -- no literal of the body becomes the count
 pub counted : unwritten counts (function .body) ≡ true

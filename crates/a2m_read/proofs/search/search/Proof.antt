@@ -40,16 +40,4 @@ returns-3 : tie.Need-returns-3 Inv-loop μ-loop
 returns-3 c = let a = c .before .before .before .args in let l = c .before .loop in (omega arith, chain-over (readTable (a .table .now) .slots) (suc (a .log)) (a .n) (a .first) (l .s) (l .k) (l .inv) (c .loop-test .left))
 
 pub search-spec : {M : Type 1} → statement M
-search-spec =
-    tie.close
-    (tie.spec
-    Inv-loop
-    μ-loop
-    loop-holds
-    link-at-requires
-    add-k
-    returns
-    returns-2
-    loop-less
-    loop-again
-    returns-3)
+search-spec = tie.close (tie.spec Inv-loop μ-loop loop-holds link-at-requires add-k returns returns-2 loop-less loop-again returns-3)

@@ -8,22 +8,13 @@ use Rattle.capi.proofs.calls.keeper_lookup.Tie as tie
 use Rattle.refusal.specs.Unwritten.{unwritten, counts}
 use Rattle.capi.proofs.calls.keeper_lookup.Code.Mir.{function}
 
-lookup-requires : tie.Need-lookup-requires
-lookup-requires c κs = search needs
-
-looked-up-requires : tie.Need-looked-up-requires
-looked-up-requires c κs = search needs
-
-same-length : tie.Need-same-length
-same-length c = search needs
-
 returns : tie.Need-returns
 returns c =
     let r = c .before .before .before .before .lookup in
     handed-on (r .result) (r .last .1 .1 .1 .1 .0) (c .before .before .before .before .before .before .before .before .before .args .examined .now) (c .looked-up .ensures) (r .ensures)
 
 pub keeper-lookup-spec : {M : Type 1} → statement M
-keeper-lookup-spec = tie.close (tie.spec lookup-requires looked-up-requires same-length returns)
+keeper-lookup-spec = tie.close (tie.spec (λ c κs. search needs) (λ c κs. search needs) (λ c. search needs) returns)
 
 -- no literal of the body becomes the count
 pub counted : unwritten counts (function .body) ≡ true

@@ -4,15 +4,9 @@ use borrow.Author.Needs.{needs}
 use Rattle.capi.proofs.contradictions.keeper_contradiction.Statement.{statement}
 use Rattle.capi.proofs.contradictions.keeper_contradiction.Tie as tie
 
-find-requires : tie.Need-find-requires
-find-requires c κs = search needs
-
-contradicted-requires : tie.Need-contradicted-requires
-contradicted-requires c κs = search needs
-
 returns : tie.Need-returns
 returns c = let a = c .before .before .before .before .before .before .before .args in
     searched (a .found .now) (a .first .now) (a .second .now) (c .contradicted .ensures) (c .before .before .before .before .find .ensures)
 
 pub keeper-contradiction-spec : {M : Type 1} → statement M
-keeper-contradiction-spec = tie.close (tie.spec find-requires contradicted-requires returns)
+keeper-contradiction-spec = tie.close (tie.spec (λ c κs. search needs) (λ c κs. search needs) returns)

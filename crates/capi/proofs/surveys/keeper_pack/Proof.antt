@@ -7,18 +7,6 @@ use borrow.Author.Needs.{needs}
 use Rattle.capi.proofs.surveys.keeper_pack.Statement.{statement}
 use Rattle.capi.proofs.surveys.keeper_pack.Tie as tie
 
-pack-requires : tie.Need-pack-requires
-pack-requires c κs = search needs
-
-enum-known-n : tie.Need-enum-known-n
-enum-known-n c = search needs
-
-enum-known-why : tie.Need-enum-known-why
-enum-known-why c = search needs
-
-number-requires : tie.Need-number-requires
-number-requires c κs = search needs
-
 returns : tie.Need-returns
 returns c =
     let p = c .before .n .given in
@@ -33,6 +21,4 @@ returns-2 c =
     (c .number .ensures ∙ r .0, r .1)
 
 pub keeper-pack-spec : {M : Type 1} → statement M
-keeper-pack-spec =
-    tie.close
-    (tie.spec pack-requires enum-known-n enum-known-why number-requires returns returns-2)
+keeper-pack-spec = tie.close (tie.spec (λ c κs. search needs) (λ c. search needs) (λ c. search needs) (λ c κs. search needs) returns returns-2)

@@ -6,15 +6,6 @@ use borrow.Author.Needs.{needs}
 use Rattle.capi.proofs.tables.keeper_free.Statement.{statement}
 use Rattle.capi.proofs.tables.keeper_free.Tie as tie
 
-free-slots-requires : tie.Need-free-slots-requires
-free-slots-requires c κs = search needs
-
-enum-known-n : tie.Need-enum-known-n
-enum-known-n c = search needs
-
-enum-told : tie.Need-enum-told
-enum-told c = search needs
-
 returns : tie.Need-returns
 returns c =
     let a = c .before .before .before .before .before .args in
@@ -26,4 +17,4 @@ returns-2 c =
     subst (Shows 1 (a .free .now) (a .free .now)) (ap screenAnswer (sym (c .enum-told .given .1)) ∙ c .before .before .free-slots .ensures) (shows-nothing (a .free .now))
 
 pub keeper-free-spec : {M : Type 1} → statement M
-keeper-free-spec = tie.close (tie.spec free-slots-requires enum-known-n enum-told returns returns-2)
+keeper-free-spec = tie.close (tie.spec (λ c κs. search needs) (λ c. search needs) (λ c. search needs) returns returns-2)

@@ -7,18 +7,6 @@ use borrow.Author.Needs.{needs}
 use Rattle.capi.proofs.verdicts.keeper_certify.Statement.{statement}
 use Rattle.capi.proofs.verdicts.keeper_certify.Tie as tie
 
-certify-requires : tie.Need-certify-requires
-certify-requires c κs = search needs
-
-enum-known-p : tie.Need-enum-known-p
-enum-known-p c = search needs
-
-enum-known-why : tie.Need-enum-known-why
-enum-known-why c = search needs
-
-refused-requires : tie.Need-refused-requires
-refused-requires c κs = search needs
-
 returns : tie.Need-returns
 returns c = let a = c .before .before .before .before .before .before .before .args in
     let p = c .before .p .given in
@@ -34,6 +22,4 @@ returns-2 c = let a = c .before .before .before .before .before .before .before 
     joined (c .refused .ensures) (r .0, (ap stationBlocks (sym (w .1)) ∙ s .1 .1, r .1))
 
 pub keeper-certify-spec : {M : Type 1} → statement M
-keeper-certify-spec =
-    tie.close
-    (tie.spec certify-requires enum-known-p enum-known-why refused-requires returns returns-2)
+keeper-certify-spec = tie.close (tie.spec (λ c κs. search needs) (λ c. search needs) (λ c. search needs) (λ c κs. search needs) returns returns-2)

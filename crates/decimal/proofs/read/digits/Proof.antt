@@ -21,26 +21,8 @@ abbrev μ-loop : tie.MeasureT-loop
 loop-holds : tie.Need-loop-holds Inv-loop μ-loop
 loop-holds c = (omega arith, refl)
 
-shared-slice-read-more : tie.Need-shared-slice-read-more Inv-loop μ-loop
-shared-slice-read-more c = search needs
-
-more-requires : tie.Need-more-requires Inv-loop μ-loop
-more-requires c κs = search needs
-
-enum-known-next : tie.Need-enum-known-next Inv-loop μ-loop
-enum-known-next c = search needs
-
-enum-told : tie.Need-enum-told Inv-loop μ-loop
-enum-told c = search needs
-
 returns : tie.Need-returns Inv-loop μ-loop
 returns c = sym (c .before .before .before .before .before .loop .inv .1 ∙ read-out (c .before .before .before .before .before .loop .v) (c .before .before .before .before .before .loop .i) (c .before .before .before .before .before .before .before .args .s .now) (omega arith) (sym (c .before .before .more .ensures) ∙ c .enum-told .given .1))
-
-add-i : tie.Need-add-i Inv-loop μ-loop
-add-i c = search needs
-
-loop-less : tie.Need-loop-less Inv-loop μ-loop
-loop-less c = search needs
 
 loop-again : tie.Need-loop-again Inv-loop μ-loop
 loop-again c = (omega arith, c .before .before .before .before .before .before .loop .inv .1 ∙ read-on (c .before .before .before .before .before .before .loop .v) (c .before .next .given .0 .0) (c .before .before .before .before .before .before .loop .i) (c .before .before .before .before .before .before .before .before .args .s .now) (omega arith) (sym (c .before .before .before .more .ensures) ∙ c .before .next .given .1))
@@ -50,20 +32,8 @@ returns-2 c = sym (c .before .loop .inv .1 ∙ read-end (c .before .loop .v) (c 
 
 pub digits-spec : {M : Type 1} → statement M
 digits-spec =
-    tie.close
-    (tie.spec
-    Inv-loop
-    μ-loop
-    loop-holds
-    shared-slice-read-more
-    more-requires
-    enum-known-next
-    enum-told
-    returns
-    add-i
-    loop-less
-    loop-again
-    returns-2)
+    tie.close (tie.spec Inv-loop μ-loop loop-holds (search needs) (search needs) (search needs) (search needs) returns (search needs) (search needs)
+    loop-again returns-2)
 
 pub undivided : Undivided ("decimal::read::more" ∷ []) function
 undivided = refl

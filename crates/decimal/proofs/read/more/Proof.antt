@@ -23,30 +23,16 @@ returns-3 : tie.Need-returns-3
 unfolding moreOf
 returns-3 c = rw (le-leb 48 (c .before .before .before .args .b) (omega arith), le-leb (c .before .before .before .args .b) 57 (omega arith), le-ltb (c .before .before .before .args .v * 10 + (c .before .before .before .args .b - 48)) (2 ^ 64) (omega arith))
 
-mul-tens : tie.Need-mul-tens
-mul-tens c = search needs
-
-cast-digit : tie.Need-cast-digit
-cast-digit c = search needs
-
-sub-if4 : tie.Need-sub-if4
-sub-if4 c = search needs
-
 returns-4 : tie.Need-returns-4
 unfolding moreOf
 returns-4 c = rw (le-leb 48 (c .before .before .before .before .args .b) (omega arith), le-leb (c .before .before .before .before .args .b) 57 (omega arith), le-ltb (c .before .before .before .before .args .v * 10 + (c .before .before .before .before .args .b - 48)) (2 ^ 64) (omega arith))
-
-add-t7 : tie.Need-add-t7
-add-t7 c = search needs
 
 returns-5 : tie.Need-returns-5
 unfolding moreOf
 returns-5 c = rw (le-leb 48 (c .before .before .before .before .args .b) (omega arith), le-leb (c .before .before .before .before .args .b) 57 (omega arith), lt-ltb (c .before .before .before .before .args .v * 10 + (c .before .before .before .before .args .b - 48)) (2 ^ 64) (omega arith))
 
 pub more-spec : {M : Type 1} → statement M
-more-spec =
-    tie.close
-    (tie.spec returns returns-2 returns-3 mul-tens cast-digit sub-if4 returns-4 add-t7 returns-5)
+more-spec = tie.close (tie.spec returns returns-2 returns-3 (search needs) (search needs) (search needs) returns-4 (search needs) returns-5)
 
 pub undivided : Undivided [] function
 undivided = refl

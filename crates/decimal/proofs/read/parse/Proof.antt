@@ -13,20 +13,14 @@ use Rattle.decimal.proofs.read.parse.Code.Mir.{function}
 returns : tie.Need-returns
 returns c = sym (number-none (c .before .before .args .s .now) (omega arith))
 
-shared-slice-read-if3 : tie.Need-shared-slice-read-if3
-shared-slice-read-if3 c = search needs
-
 returns-2 : tie.Need-returns-2
 returns-2 c = sym (number-zero (c .before .before .before .before .before .args .s .now) (omega arith) (c .if3 .taken))
-
-digits-requires : tie.Need-digits-requires
-digits-requires c κs = search needs
 
 returns-3 : tie.Need-returns-3
 returns-3 c = c .digits .ensures ∙ sym (number-read (c .before .before .before .before .args .s .now) (omega arith) (⊎-elim (λ w. λ p q. w .2 .left q) (λ w. λ p q. omega arith) (c .before .if2 .came)))
 
 pub parse-spec : {M : Type 1} → statement M
-parse-spec = tie.close (tie.spec returns shared-slice-read-if3 returns-2 digits-requires returns-3)
+parse-spec = tie.close (tie.spec returns (search needs) returns-2 (search needs) returns-3)
 
 pub undivided : Undivided ("decimal::read::digits" ∷ []) function
 undivided = refl

@@ -7,14 +7,8 @@ use Rattle.decimal.proofs.write.fits.Tie as tie
 use Rattle.octets.specs.Undivided.{Undivided}
 use Rattle.decimal.proofs.write.fits.Code.Mir.{function}
 
-returns : tie.Need-returns
-returns c = search needs
-
-returns-2 : tie.Need-returns-2
-returns-2 c = search needs
-
 pub fits-spec : {M : Type 1} → statement M
-fits-spec = tie.close (tie.spec returns returns-2)
+fits-spec = tie.close (tie.spec (search needs) (search needs))
 
 pub undivided : Undivided [] function
 undivided = refl

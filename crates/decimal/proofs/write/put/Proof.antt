@@ -20,21 +20,12 @@ use Rattle.octets.specs.Undivided.{Undivided}
 use Rattle.decimal.proofs.write.put.Code.Mir.{function}
 
 -- src/write.rt:124:9
-width-requires : tie.Need-width-requires
-width-requires c κs = search needs
-
 -- src/write.rt:126:9
 slice-write-out : tie.Need-slice-write-out
 slice-write-out c = let a = c .before .before .before .args in let w = c .before .width in omega (arith, wide-as (w .result) (a .n) (w .ensures .3))
 
 -- src/write.rt:127:25
-add-put-digits : tie.Need-add-put-digits
-add-put-digits c = search needs
-
 -- src/write.rt:127:37
-power-requires : tie.Need-power-requires
-power-requires c κs = search needs
-
 -- src/write.rt:127:33
 sub-put-digits : tie.Need-sub-put-digits
 sub-put-digits c = let a = c .before .before .before .before .before .args in let w = c .before .before .before .width in
@@ -48,9 +39,6 @@ put-digits-requires c κs = let a = c .before .before .before .before .before .a
     (omega arith, omega arith, omega (arith, length-set (a .out .now) (a .at) 49, wide-as (w .result) (a .n) (w .ensures .3)))
 
 -- src/write.rt:128:16
-add-result : tie.Need-add-result
-add-result c = search needs
-
 -- src/write.rt:128:9
 same-length : tie.Need-same-length
 same-length c = let a = c .before .before .before .before .before .before .before .before .args in c .before .before .put-digits .kept .0 ∙ length-set (a .out .now) (a .at) 49
@@ -77,13 +65,7 @@ put-digits-requires-2 c κs = let a = c .before .before .before .before .args in
     (omega (arith, c .before .if1 .left), w .ensures .2, omega arith)
 
 -- src/write.rt:131:5
-add-result-2 : tie.Need-add-result-2
-add-result-2 c = search needs
-
 -- src/write.rt:119:1
-same-length-2 : tie.Need-same-length-2
-same-length-2 c = search needs
-
 -- src/write.rt:119:1
 returns-2 : tie.Need-returns-2
 returns-2 c =
@@ -94,21 +76,8 @@ returns-2 c =
 
 pub put-spec : {M : Type 1} → statement M
 put-spec =
-    tie.close
-    (tie.spec
-    width-requires
-    slice-write-out
-    add-put-digits
-    power-requires
-    sub-put-digits
-    put-digits-requires
-    add-result
-    same-length
-    returns
-    put-digits-requires-2
-    add-result-2
-    same-length-2
-    returns-2)
+    tie.close (tie.spec (search needs) slice-write-out (search needs) (search needs) sub-put-digits put-digits-requires (search needs) same-length
+    returns put-digits-requires-2 (search needs) (search needs) returns-2)
 
 pub undivided : Undivided ("decimal::write::power" ∷ "decimal::write::put_digits" ∷ "decimal::write::width" ∷ []) function
 undivided = refl

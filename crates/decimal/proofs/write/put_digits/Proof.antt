@@ -26,26 +26,8 @@ loop-holds c =
     let D : List ℕ = digitsOf (a .k) (a .n) in
     (omega arith, omega arith, omega arith, ap (λ (j : ℕ). drop j D) (sym z), paste-zero (a .out .now) (a .at) D ∙ ap (λ (j : ℕ). paste (a .out .now) (a .at) D j) z, refl)
 
-sub-left : tie.Need-sub-left Inv-loop μ-loop
-sub-left c = search needs
-
-power-requires : tie.Need-power-requires Inv-loop μ-loop
-power-requires c κs = search needs
-
 divided-requires : tie.Need-divided-requires Inv-loop μ-loop
 divided-requires c κs = let l = c .before .before .loop in (times-ten (l .rest) (l .left) (c .power .result) (omega arith) (l .inv .2) (c .power .ensures), small-power (l .left) (c .power .result) (omega arith) (omega arith) (c .power .ensures))
-
-add-out : tie.Need-add-out Inv-loop μ-loop
-add-out c = search needs
-
-slice-write-out : tie.Need-slice-write-out Inv-loop μ-loop
-slice-write-out c = search needs
-
-add-i : tie.Need-add-i Inv-loop μ-loop
-add-i c = search needs
-
-loop-less : tie.Need-loop-less Inv-loop μ-loop
-loop-less c = search needs
 
 loop-again : tie.Need-loop-again Inv-loop μ-loop
 loop-again c =
@@ -71,9 +53,6 @@ loop-again c =
       simp length-set (l .inv .5),
     )
 
-same-length : tie.Need-same-length Inv-loop μ-loop
-same-length c = search needs
-
 returns : tie.Need-returns Inv-loop μ-loop
 returns c =
     let a = c .before .before .before .args in
@@ -84,21 +63,8 @@ returns c =
 
 pub put-digits-spec : {M : Type 1} → statement M
 put-digits-spec =
-    tie.close
-    (tie.spec
-    Inv-loop
-    μ-loop
-    loop-holds
-    sub-left
-    power-requires
-    divided-requires
-    add-out
-    slice-write-out
-    add-i
-    loop-less
-    loop-again
-    same-length
-    returns)
+    tie.close (tie.spec Inv-loop μ-loop loop-holds (search needs) (search needs) divided-requires (search needs) (search needs) (search needs)
+    (search needs) loop-again (search needs) returns)
 
 pub undivided : Undivided ("decimal::write::divided" ∷ "decimal::write::power" ∷ []) function
 undivided = refl

@@ -16,23 +16,8 @@ Inv-loop n k₀ k = (0 < k) × (k ≤ 20) × (1 < k → 10 ^ (k - 1) ≤ n)
 abbrev μ-loop : tie.MeasureT-loop
 μ-loop n k₀ k = 20 - k
 
-least-width-requires : tie.Need-least-width-requires Inv-loop μ-loop
-least-width-requires c κs = search needs
-
-loop-holds : tie.Need-loop-holds Inv-loop μ-loop
-loop-holds c = search needs
-
-power-requires : tie.Need-power-requires Inv-loop μ-loop
-power-requires c κs = search needs
-
 returns : tie.Need-returns Inv-loop μ-loop
 returns c = let e : c .before .before .before .before .before .args .n < 10 ^ (c .before .before .before .loop .k) = omega arith in (omega arith, omega arith, e, of-width (c .before .before .before .loop .k) (c .before .before .before .before .before .args .n) (omega arith) (omega arith) e (c .before .before .before .loop .inv .2), c .before .before .before .loop .inv .2)
-
-add-k : tie.Need-add-k Inv-loop μ-loop
-add-k c = search needs
-
-loop-less : tie.Need-loop-less Inv-loop μ-loop
-loop-less c = search needs
 
 loop-again : tie.Need-loop-again Inv-loop μ-loop
 loop-again c = (omega arith, omega arith, λ h. let e : c .before .before .before .loop .k ≡ c .before .before .before .loop .k + 1 - 1 = omega arith in let k : 10 ^ (c .before .before .before .loop .k) ≤ c .before .before .before .before .before .args .n = omega arith in subst (λ (j : ℕ). 10 ^ j ≤ c .before .before .before .before .before .args .n) e k)
@@ -42,18 +27,7 @@ returns-2 c = let e : c .before .before .before .args .n < 10 ^ (c .before .loop
 
 pub width-spec : {M : Type 1} → statement M
 width-spec =
-    tie.close
-    (tie.spec
-    Inv-loop
-    μ-loop
-    least-width-requires
-    loop-holds
-    power-requires
-    returns
-    add-k
-    loop-less
-    loop-again
-    returns-2)
+    tie.close (tie.spec Inv-loop μ-loop (search needs) (λ c. search needs) (search needs) returns (search needs) (search needs) loop-again returns-2)
 
 pub undivided : Undivided ("decimal::write::least_width" ∷ "decimal::write::power" ∷ []) function
 undivided = refl

@@ -15,18 +15,6 @@ use borrow.Author.Needs.{needs}
 use Rattle.equivocation.proofs.checking.check.Statement.{statement}
 use Rattle.equivocation.proofs.checking.check.Tie as tie
 
-keeper-of-requires : tie.Need-keeper-of-requires
-keeper-of-requires c κs = search needs
-
-find-requires : tie.Need-find-requires
-find-requires c κs = search needs
-
-enum-known-i : tie.Need-enum-known-i
-enum-known-i c = search needs
-
-enum-told : tie.Need-enum-told
-enum-told c = search needs
-
 returns : tie.Need-returns
 returns c =
     let p3 = c .before .before .before in
@@ -53,37 +41,10 @@ add-at c = omega (arith, within (c .before))
 add-end : tie.Need-add-end
 add-end c = omega (arith, within (c .before))
 
-own-ask-requires : tie.Need-own-ask-requires
-own-ask-requires c κs = search needs
-
-log-of-requires : tie.Need-log-of-requires
-log-of-requires c κs = search needs
-
-wide-requires : tie.Need-wide-requires
-wide-requires c κs = search needs
-
-sub-verify : tie.Need-sub-verify
-sub-verify c = search needs
-
-part-verify-start : tie.Need-part-verify-start
-part-verify-start c = search needs
-
 part-verify-end : tie.Need-part-verify-end
 part-verify-end c =
     let p4 = c .before .before .before .before in
     omega (arith, within p4)
-
-nonce-of-requires : tie.Need-nonce-of-requires
-nonce-of-requires c κs = search needs
-
-verify-requires : tie.Need-verify-requires
-verify-requires c κs = search needs
-
-mark-of-requires : tie.Need-mark-of-requires
-mark-of-requires c κs = search needs
-
-blocks-of-requires : tie.Need-blocks-of-requires
-blocks-of-requires c κs = search needs
 
 returns-2 : tie.Need-returns-2
 returns-2 c =
@@ -103,27 +64,9 @@ returns-2 c =
 
 pub check-spec : {M : Type 1} → statement M
 check-spec =
-    tie.close
-    (tie.spec
-    keeper-of-requires
-    find-requires
-    enum-known-i
-    enum-told
-    returns
-    mul-at
-    add-at
-    add-end
-    own-ask-requires
-    log-of-requires
-    wide-requires
-    sub-verify
-    part-verify-start
-    part-verify-end
-    nonce-of-requires
-    verify-requires
-    mark-of-requires
-    blocks-of-requires
-    returns-2)
+    tie.close (tie.spec (λ c κs. search needs) (λ c κs. search needs) (search needs) (search needs) returns mul-at add-at add-end
+    (λ c κs. search needs) (λ c κs. search needs) (λ c κs. search needs) (search needs) (search needs) part-verify-end (λ c κs. search needs)
+    (λ c κs. search needs) (λ c κs. search needs) (λ c κs. search needs) returns-2)
 
 -- no literal of the body becomes the count
 pub counted : unwritten counts (function .body) ≡ true

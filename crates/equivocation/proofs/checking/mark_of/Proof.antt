@@ -9,12 +9,6 @@ use borrow.Author.Needs.{needs}
 use Rattle.equivocation.proofs.checking.mark_of.Statement.{statement}
 use Rattle.equivocation.proofs.checking.mark_of.Tie as tie
 
-enum-told : tie.Need-enum-told
-enum-told c = search needs
-
-enum-told-2 : tie.Need-enum-told-2
-enum-told-2 c = search needs
-
 returns : tie.Need-returns
 returns c = ap (λ (v : Verdict). cond (eqb (verdictAnswer v .number) 0) 1 0) (sym (c .enum-told .given .1))
 
@@ -22,4 +16,4 @@ returns-2 : tie.Need-returns-2
 returns-2 c = refused-mark (c .enum-told2 .given .0 .0) ∙ ap (λ (v : Verdict). cond (eqb (verdictAnswer v .number) 0) 1 0) (sym (c .enum-told2 .given .1))
 
 pub mark-of-spec : {M : Type 1} → statement M
-mark-of-spec = tie.close (tie.spec enum-told enum-told-2 returns returns-2)
+mark-of-spec = tie.close (tie.spec (search needs) (search needs) returns returns-2)

@@ -44,12 +44,6 @@ add-blocks c =
     let x = p7 .args in
     omega (arith, p7 .pre .1, l .inv .1 .0, blocks-few (x .roster .now) (x .pile .now) (l .p), c .before .check .ensures .1, receipt-few (x .roster .now) (c .before .before .receipt-at .result .now))
 
-add-p : tie.Need-add-p Inv-loop μ-loop
-add-p c = omega arith
-
-loop-less : tie.Need-loop-less Inv-loop μ-loop
-loop-less c = omega arith
-
 loop-again : tie.Need-loop-again Inv-loop μ-loop
 loop-again c =
     let p4 = c .before .before .before .before in
@@ -74,19 +68,8 @@ returns c =
 
 pub marks-of-spec : {M : Type 1} → statement M
 marks-of-spec =
-    tie.close
-    (tie.spec
-    Inv-loop
-    μ-loop
-    loop-holds
-    receipt-at-requires
-    check-requires
-    array-write-places
-    add-blocks
-    add-p
-    loop-less
-    loop-again
-    returns)
+    tie.close (tie.spec Inv-loop μ-loop loop-holds receipt-at-requires check-requires array-write-places add-blocks (λ c. omega arith)
+    (λ c. omega arith) loop-again returns)
 
 -- no literal of the body becomes the count
 pub counted : unwritten counts (function .body) ≡ true

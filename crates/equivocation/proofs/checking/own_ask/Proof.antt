@@ -5,12 +5,6 @@ use borrow.Author.Needs.{needs}
 use Rattle.equivocation.proofs.checking.own_ask.Statement.{statement}
 use Rattle.equivocation.proofs.checking.own_ask.Tie as tie
 
-is-lookup-requires : tie.Need-is-lookup-requires
-is-lookup-requires c κs = search needs
-
-position-of-requires : tie.Need-position-of-requires
-position-of-requires c κs = search needs
-
 returns : tie.Need-returns
 returns c = asks-lookup _ (sym (c .before .before .is-lookup .ensures) ∙ c .before .if1 .taken) (c .position-of .ensures)
 
@@ -18,4 +12,4 @@ returns-2 : tie.Need-returns-2
 returns-2 c = asks-end _ (sym (c .before .is-lookup .ensures) ∙ c .if1 .left)
 
 pub own-ask-spec : {M : Type 1} → statement M
-own-ask-spec = tie.close (tie.spec is-lookup-requires position-of-requires returns returns-2)
+own-ask-spec = tie.close (tie.spec (λ c κs. search needs) (λ c κs. search needs) returns returns-2)

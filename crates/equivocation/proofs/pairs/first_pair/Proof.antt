@@ -25,9 +25,6 @@ second-of-requires c κs =
     let p4 = c .before .before .before .before in
     (p4 .pre .0, (p4 .pre .1, omega arith))
 
-enum-known-q : tie.Need-enum-known-q Inv-loop μ-loop
-enum-known-q c = search needs
-
 returns : tie.Need-returns Inv-loop μ-loop
 returns c =
     let p3 = c .before .before .before in
@@ -36,15 +33,6 @@ returns c =
     let x = p8 .args in
     let l = p5 .loop in
     (sym (l .inv .1 ∙ first-found (x .marks .now) (x .pile .now) (x .count) (l .p) _ (omega arith) (p3 .second-of .ensures) (c .before .q .given .1)), refl)
-
-enum-told : tie.Need-enum-told Inv-loop μ-loop
-enum-told c = search needs
-
-add-p : tie.Need-add-p Inv-loop μ-loop
-add-p c = omega arith
-
-loop-less : tie.Need-loop-less Inv-loop μ-loop
-loop-less c = omega arith
 
 loop-again : tie.Need-loop-again Inv-loop μ-loop
 loop-again c =
@@ -63,19 +51,8 @@ returns-2 c =
 
 pub first-pair-spec : {M : Type 1} → statement M
 first-pair-spec =
-    tie.close
-    (tie.spec
-    Inv-loop
-    μ-loop
-    loop-holds
-    second-of-requires
-    enum-known-q
-    returns
-    enum-told
-    add-p
-    loop-less
-    loop-again
-    returns-2)
+    tie.close (tie.spec Inv-loop μ-loop loop-holds second-of-requires (search needs) returns (search needs) (λ c. omega arith) (λ c. omega arith)
+    loop-again returns-2)
 
 -- no literal of the body becomes the count
 pub counted : unwritten counts (function .body) ≡ true

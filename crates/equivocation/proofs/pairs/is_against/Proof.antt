@@ -9,19 +9,10 @@ use borrow.Author.Needs.{needs}
 use Rattle.equivocation.proofs.pairs.is_against.Statement.{statement}
 use Rattle.equivocation.proofs.pairs.is_against.Tie as tie
 
-shared-slice-read-if1 : tie.Need-shared-slice-read-if1
-shared-slice-read-if1 c = search needs
-
 returns : tie.Need-returns
 returns c =
     let p4 = c .before .before .before .before in
     not-marked (p4 .args .marks .now) (p4 .args .pile .now) (p4 .args .p) (p4 .args .q) (c .if1 .taken)
-
-receipt-at-requires : tie.Need-receipt-at-requires
-receipt-at-requires c κs = search needs
-
-receipt-at-requires-2 : tie.Need-receipt-at-requires-2
-receipt-at-requires-2 c κs = search needs
 
 conflict-requires : tie.Need-conflict-requires
 conflict-requires c κs = (c .before .receipt-at .ensures .1, c .receipt-at2 .ensures .1)
@@ -33,12 +24,4 @@ returns-2 c =
     c .conflict .ensures ∙ ap₂ (λ (x y : List ℕ). conflicting (readAttestation x) (readAttestation y)) (c .before .before .receipt-at .ensures .0) (c .before .receipt-at2 .ensures .0) ∙ by-conflict (p7 .args .marks .now) (p7 .args .pile .now) (p7 .args .p) (p7 .args .q) (p3 .if1 .left)
 
 pub is-against-spec : {M : Type 1} → statement M
-is-against-spec =
-    tie.close
-    (tie.spec
-    shared-slice-read-if1
-    returns
-    receipt-at-requires
-    receipt-at-requires-2
-    conflict-requires
-    returns-2)
+is-against-spec = tie.close (tie.spec (search needs) returns (λ c κs. search needs) (λ c κs. search needs) conflict-requires returns-2)

@@ -48,12 +48,6 @@ returns-2 c =
     sym (l .inv .1 ∙ second-found (x .marks .now) (x .pile .now) (x .p) (x .count) (l .q) (omega arith) (sym (c .before .is-against .ensures) ∙ c .if2 .taken))
     ∙ by-later (x .marks .now) (x .pile .now) (x .p) (x .count - (x .p + 1)) (p4 .if1 .left)
 
-add-q-2 : tie.Need-add-q-2 Inv-loop μ-loop
-add-q-2 c = omega arith
-
-loop-less : tie.Need-loop-less Inv-loop μ-loop
-loop-less c = omega arith
-
 loop-again : tie.Need-loop-again Inv-loop μ-loop
 loop-again c =
     let p3 = c .before .before .before in
@@ -72,17 +66,5 @@ returns-3 c =
 
 pub second-of-spec : {M : Type 1} → statement M
 second-of-spec =
-    tie.close
-    (tie.spec
-    Inv-loop
-    μ-loop
-    shared-slice-read-if1
-    returns
-    add-q
-    loop-holds
-    is-against-requires
-    returns-2
-    add-q-2
-    loop-less
-    loop-again
-    returns-3)
+    tie.close (tie.spec Inv-loop μ-loop shared-slice-read-if1 returns add-q loop-holds is-against-requires returns-2 (λ c. omega arith)
+    (λ c. omega arith) loop-again returns-3)

@@ -9,21 +9,6 @@ use borrow.Author.Needs.{needs}
 use Rattle.equivocation.proofs.pairs.stories_differ.Statement.{statement}
 use Rattle.equivocation.proofs.pairs.stories_differ.Tie as tie
 
-kind-of-requires : tie.Need-kind-of-requires
-kind-of-requires c κs = search needs
-
-kind-of-requires-2 : tie.Need-kind-of-requires-2
-kind-of-requires-2 c κs = search needs
-
-pair-of-requires : tie.Need-pair-of-requires
-pair-of-requires c κs = search needs
-
-pair-of-requires-2 : tie.Need-pair-of-requires-2
-pair-of-requires-2 c κs = search needs
-
-equal-requires : tie.Need-equal-requires
-equal-requires c κs = search needs
-
 returns : tie.Need-returns
 returns c =
     let p3 = c .before .before .before in
@@ -50,14 +35,5 @@ returns-4 c =
 
 pub stories-differ-spec : {M : Type 1} → statement M
 stories-differ-spec =
-    tie.close
-    (tie.spec
-    kind-of-requires
-    kind-of-requires-2
-    pair-of-requires
-    pair-of-requires-2
-    equal-requires
-    returns
-    returns-2
-    returns-3
-    returns-4)
+    tie.close (tie.spec (λ c κs. search needs) (λ c κs. search needs) (λ c κs. search needs) (λ c κs. search needs) (λ c κs. search needs) returns
+    returns-2 returns-3 returns-4)

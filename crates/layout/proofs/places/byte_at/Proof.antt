@@ -5,14 +5,8 @@ use borrow.Author.Needs.{needs}
 use Rattle.layout.proofs.places.byte_at.Statement.{statement}
 use Rattle.layout.proofs.places.byte_at.Tie as tie
 
-shared-slice-read-wide : tie.Need-shared-slice-read-wide
-shared-slice-read-wide c = search needs
-
-wide-requires : tie.Need-wide-requires
-wide-requires c κs = search needs
-
 returns : tie.Need-returns
 returns c = (c .wide .ensures .0 ∙ sym (unbe-byte (c .before .before .before .args .at) (c .before .before .before .args .s .now) (c .before .before .before .pre)), c .wide .ensures .1)
 
 pub byte-at-spec : {M : Type 1} → statement M
-byte-at-spec = tie.close (tie.spec shared-slice-read-wide wide-requires returns)
+byte-at-spec = tie.close (tie.spec (search needs) (search needs) returns)

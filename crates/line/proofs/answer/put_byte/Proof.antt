@@ -8,20 +8,11 @@ use Rattle.line.proofs.answer.put_byte.Tie as tie
 use Rattle.octets.specs.Undivided.{Undivided}
 use Rattle.line.proofs.answer.put_byte.Code.Mir.{function}
 
-slice-write-out : tie.Need-slice-write-out
-slice-write-out c = search needs
-
-add-result : tie.Need-add-result
-add-result c = search needs
-
-same-length : tie.Need-same-length
-same-length c = search needs
-
 returns : tie.Need-returns
 returns c = (refl, splice-byte (c .args .out .now) (c .args .at) (c .args .b) (search needs))
 
 pub put-byte-spec : {M : Type 1} → statement M
-put-byte-spec = tie.close (tie.spec slice-write-out add-result same-length returns)
+put-byte-spec = tie.close (tie.spec (search needs) (search needs) (search needs) returns)
 
 pub undivided : Undivided [] function
 undivided = refl

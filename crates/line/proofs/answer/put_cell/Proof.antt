@@ -21,9 +21,6 @@ put-byte-requires c κs = let a = c .before .before .before .before .before .bef
     let t = cellText (a .cell) in
     omega (arith, c .before .before .before .put-text .ensures .0, length-append t (a .mark ∷ []), ap length (c .before .before .before .put-text .ensures .1), length-splice (a .out .now) t (a .at) (omega (arith, length-append t (a .mark ∷ []))))
 
-same-length : tie.Need-same-length
-same-length c = search needs
-
 returns : tie.Need-returns
 returns c = let a = c .before .before .before .before .before .before .before .before .before .args in
     let t = cellText (a .cell) in
@@ -33,7 +30,7 @@ returns c = let a = c .before .before .before .before .before .before .before .b
     )
 
 pub put-cell-spec : {M : Type 1} → statement M
-put-cell-spec = tie.close (tie.spec put-text-requires put-byte-requires same-length returns)
+put-cell-spec = tie.close (tie.spec put-text-requires put-byte-requires (search needs) returns)
 
 pub undivided : Undivided ("line::answer::put_byte" ∷ "line::answer::put_text" ∷ []) function
 undivided = refl

@@ -24,20 +24,8 @@ abbrev μ-loop : tie.MeasureT-loop
 loop-holds : tie.Need-loop-holds Inv-loop μ-loop
 loop-holds c = (omega arith, omega (arith, ap length commas-nil), sym (splice-nil (c .before .args .out .now) (c .before .args .at)) ∙ ap (splice (c .before .args .out .now) (c .before .args .at)) (sym commas-nil), refl)
 
-mul-cell : tie.Need-mul-cell Inv-loop μ-loop
-mul-cell c = search needs
-
-array-copy-out-cell : tie.Need-array-copy-out-cell Inv-loop μ-loop
-array-copy-out-cell c = search needs
-
 put-cell-requires : tie.Need-put-cell-requires Inv-loop μ-loop
 put-cell-requires c κs = omega (arith, commas-length (c .before .before .before .before .before .args .t3) (c .before .before .before .loop .i), cell-room (getD (c .before .before .before .before .before .args .t3) (c .before .before .before .loop .i) Dash) 44)
-
-add-i : tie.Need-add-i Inv-loop μ-loop
-add-i c = search needs
-
-loop-less : tie.Need-loop-less Inv-loop μ-loop
-loop-less c = search needs
 
 loop-again : tie.Need-loop-again Inv-loop μ-loop
 loop-again c = let a = c .before .before .before .before .before .before .before .before .args in
@@ -50,14 +38,8 @@ loop-again c = let a = c .before .before .before .before .before .before .before
     let e : c .before .before .put-cell .last .0 ≡ splice (a .out .now) (a .at) (commas (take (l .i + 1) (a .t3))) = c .before .before .put-cell .ensures .1 ∙ ap₂ (λ (o : List ℕ) (k : ℕ). splice o k y) (l .inv .2) (l .inv .1) ∙ q ∙ ap (splice (a .out .now) (a .at)) (sym m) in
     (omega arith, c .before .before .put-cell .ensures .0 ∙ omega (arith, ap length m, length-append x y, l .inv .1), e, ap length e ∙ length-splice (a .out .now) (commas (take (l .i + 1) (a .t3))) (a .at) (omega (arith, commas-length (a .t3) (l .i + 1))))
 
-array-copy-out-last : tie.Need-array-copy-out-last Inv-loop μ-loop
-array-copy-out-last c = search needs
-
 put-cell-requires-2 : tie.Need-put-cell-requires-2 Inv-loop μ-loop
 put-cell-requires-2 c κs = omega (arith, commas-length (c .before .before .before .before .before .args .t3) (c .before .before .before .loop .i), cell-room (getD (c .before .before .before .before .before .args .t3) 7 Dash) 10)
-
-same-length : tie.Need-same-length Inv-loop μ-loop
-same-length c = search needs
 
 returns : tie.Need-returns Inv-loop μ-loop
 returns c = let a = c .before .before .before .before .before .before .before .before .args in
@@ -72,21 +54,8 @@ returns c = let a = c .before .before .before .before .before .before .before .b
 
 pub render-spec : {M : Type 1} → statement M
 render-spec =
-    tie.close
-    (tie.spec
-    Inv-loop
-    μ-loop
-    loop-holds
-    mul-cell
-    array-copy-out-cell
-    put-cell-requires
-    add-i
-    loop-less
-    loop-again
-    array-copy-out-last
-    put-cell-requires-2
-    same-length
-    returns)
+    tie.close (tie.spec Inv-loop μ-loop loop-holds (search needs) (search needs) put-cell-requires (search needs) (search needs) loop-again
+    (search needs) put-cell-requires-2 (search needs) returns)
 
 pub undivided : Undivided ("line::answer::put_cell" ∷ []) function
 undivided = refl

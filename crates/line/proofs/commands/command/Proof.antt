@@ -17,43 +17,10 @@ use Rattle.line.proofs.commands.command.Tie as tie
 use Rattle.octets.specs.Undivided.{Undivided}
 use Rattle.line.proofs.commands.command.Code.Mir.{function}
 
-array-read-log : tie.Need-array-read-log
-array-read-log c = search needs
-
-array-read-position : tie.Need-array-read-position
-array-read-position c = search needs
-
-enum-told : tie.Need-enum-told
-enum-told c = search needs
-
-array-read-if2 : tie.Need-array-read-if2
-array-read-if2 c = search needs
-
-array-read-t23 : tie.Need-array-read-t23
-array-read-t23 c = search needs
-
-array-read-t26 : tie.Need-array-read-t26
-array-read-t26 c = search needs
-
-array-read-t29 : tie.Need-array-read-t29
-array-read-t29 c = search needs
-
-following-requires : tie.Need-following-requires
-following-requires c κs = search needs
-
 returns : tie.Need-returns
 returns c =
     let a = c .before .before .before .before .before .args in
     format-line (a .w) (a .n) (a .t3) (c .following .result) (c .before .before .before .enum-told .given .1) (omega (arith, c .before .before .if1 .taken, c .before .if2 .taken)) (omega arith) (c .following .ensures)
-
-enum-told-2 : tie.Need-enum-told-2
-enum-told-2 c = search needs
-
-array-read-t34 : tie.Need-array-read-t34
-array-read-t34 c = search needs
-
-alone-requires : tie.Need-alone-requires
-alone-requires c κs = search needs
 
 returns-2 : tie.Need-returns-2
 returns-2 c =
@@ -61,29 +28,11 @@ returns-2 c =
     let x : Command = Append (getD (a .t3) 0 0) (getD (a .t3) 1 0) in
     c .alone .ensures ∙ alone-line (a .w) word.Append (a .n) (a .t3) x (c .before .before .enum-told2 .given .1) (taken 2 (a .n) x (c .before .if3 .taken)) refl
 
-enum-told-3 : tie.Need-enum-told-3
-enum-told-3 c = search needs
-
-array-read-t39 : tie.Need-array-read-t39
-array-read-t39 c = search needs
-
-array-read-t42 : tie.Need-array-read-t42
-array-read-t42 c = search needs
-
-alone-requires-2 : tie.Need-alone-requires-2
-alone-requires-2 c κs = search needs
-
 returns-3 : tie.Need-returns-3
 returns-3 c =
     let a = c .before .before .before .before .args in
     let x : Command = Advance (getD (a .t3) 0 0) (getD (a .t3) 1 0) (getD (a .t3) 2 0) (getD (a .t3) 3 0) in
     c .alone2 .ensures ∙ alone-line (a .w) word.Advance (a .n) (a .t3) x (c .before .before .enum-told3 .given .1) (taken 4 (a .n) x (c .before .if4 .taken)) refl
-
-enum-told-4 : tie.Need-enum-told-4
-enum-told-4 c = search needs
-
-alone-requires-3 : tie.Need-alone-requires-3
-alone-requires-3 c κs = search needs
 
 returns-4 : tie.Need-returns-4
 returns-4 c =
@@ -91,35 +40,17 @@ returns-4 c =
     let x : Command = Truncate (getD (a .t3) 0 0) (getD (a .t3) 1 0) in
     c .alone3 .ensures ∙ alone-line (a .w) word.Truncate (a .n) (a .t3) x (c .before .before .enum-told4 .given .1) (taken 2 (a .n) x (c .before .if5 .taken)) refl
 
-enum-told-5 : tie.Need-enum-told-5
-enum-told-5 c = search needs
-
-alone-requires-4 : tie.Need-alone-requires-4
-alone-requires-4 c κs = search needs
-
 returns-5 : tie.Need-returns-5
 returns-5 c =
     let a = c .before .before .before .before .args in
     let x : Command = Lookup (getD (a .t3) 0 0) (getD (a .t3) 1 0) in
     c .alone4 .ensures ∙ alone-line (a .w) word.Lookup (a .n) (a .t3) x (c .before .before .enum-told5 .given .1) (taken 2 (a .n) x (c .before .if6 .taken)) refl
 
-enum-told-6 : tie.Need-enum-told-6
-enum-told-6 c = search needs
-
-alone-requires-5 : tie.Need-alone-requires-5
-alone-requires-5 c κs = search needs
-
 returns-6 : tie.Need-returns-6
 returns-6 c =
     let a = c .before .before .before .before .args in
     let x : Command = End (getD (a .t3) 0 0) in
     c .alone5 .ensures ∙ alone-line (a .w) word.End (a .n) (a .t3) x (c .before .before .enum-told6 .given .1) (taken 1 (a .n) x (c .before .if7 .taken)) refl
-
-enum-told-7 : tie.Need-enum-told-7
-enum-told-7 c = search needs
-
-alone-requires-6 : tie.Need-alone-requires-6
-alone-requires-6 c κs = search needs
 
 returns-7 : tie.Need-returns-7
 returns-7 c =
@@ -139,38 +70,10 @@ returns-7 c =
 
 pub command-spec : {M : Type 1} → statement M
 command-spec =
-    tie.close
-    (tie.spec
-    array-read-log
-    array-read-position
-    enum-told
-    array-read-if2
-    array-read-t23
-    array-read-t26
-    array-read-t29
-    following-requires
-    returns
-    enum-told-2
-    array-read-t34
-    alone-requires
-    returns-2
-    enum-told-3
-    array-read-t39
-    array-read-t42
-    alone-requires-2
-    returns-3
-    enum-told-4
-    alone-requires-3
-    returns-4
-    enum-told-5
-    alone-requires-4
-    returns-5
-    enum-told-6
-    alone-requires-5
-    returns-6
-    enum-told-7
-    alone-requires-6
-    returns-7)
+    tie.close (tie.spec (search needs) (search needs) (search needs) (search needs) (search needs) (search needs) (search needs) (search needs)
+    returns (search needs) (search needs) (search needs) returns-2 (search needs) (search needs) (search needs) (search needs) returns-3
+    (search needs) (search needs) returns-4 (search needs) (search needs) returns-5 (search needs) (search needs) returns-6 (search needs)
+    (search needs) returns-7)
 
 pub undivided : Undivided ("line::commands::alone" ∷ "line::commands::following" ∷ []) function
 undivided = refl

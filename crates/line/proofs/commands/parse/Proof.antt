@@ -17,17 +17,8 @@ use Rattle.line.proofs.commands.parse.Tie as tie
 use Rattle.octets.specs.Undivided.{Undivided}
 use Rattle.line.proofs.commands.parse.Code.Mir.{function}
 
-alone-requires : tie.Need-alone-requires
-alone-requires c κs = search needs
-
 returns : tie.Need-returns
 returns c = let l : List ℕ = c .before .before .before .args .line .now in c .alone .ensures ∙ malformed-line l (command-long l (omega arith))
-
-find-requires : tie.Need-find-requires
-find-requires c κs = search needs
-
-alone-requires-2 : tie.Need-alone-requires-2
-alone-requires-2 c κs = search needs
 
 returns-2 : tie.Need-returns-2
 returns-2 c =
@@ -38,27 +29,9 @@ returns-2 c =
 slice-aggregate-word : tie.Need-slice-aggregate-word
 slice-aggregate-word c = sym (length-take-le (c .before .before .find .result) (c .before .before .before .before .before .args .line .now) (omega arith))
 
-word-requires : tie.Need-word-requires
-word-requires c κs = search needs
-
-add-numbers : tie.Need-add-numbers
-add-numbers c = search needs
-
-slice-aggregate-numbers : tie.Need-slice-aggregate-numbers
-slice-aggregate-numbers c = search needs
-
 numbers-requires : tie.Need-numbers-requires
 unfolding zeros
 numbers-requires c κs = (omega arith, refl)
-
-enum-known-n : tie.Need-enum-known-n
-enum-known-n c = search needs
-
-enum-told : tie.Need-enum-told
-enum-told c = search needs
-
-alone-requires-3 : tie.Need-alone-requires-3
-alone-requires-3 c κs = search needs
 
 returns-3 : tie.Need-returns-3
 returns-3 c =
@@ -68,9 +41,6 @@ returns-3 c =
     let o : Option (List ℕ) = numbersOf (fieldsOf (drop (f .result + 1) l)) in
     c .alone3 .ensures
     ∙ malformed-line l (no-numbers l (upTo 44 l) (fieldsOf (drop (f .result + 1) l)) (omega arith) (more-fields 44 l 0 (f .result) (f .ensures .0) (omega arith)) (counted-not o (m .result) (m .ensures .0) (c .before .enum-told .given .1)))
-
-command-requires : tie.Need-command-requires
-command-requires c κs = search needs
 
 returns-4 : tie.Need-returns-4
 returns-4 c =
@@ -87,24 +57,8 @@ returns-4 c =
 
 pub parse-spec : {M : Type 1} → statement M
 parse-spec =
-    tie.close
-    (tie.spec
-    alone-requires
-    returns
-    find-requires
-    alone-requires-2
-    returns-2
-    slice-aggregate-word
-    word-requires
-    add-numbers
-    slice-aggregate-numbers
-    numbers-requires
-    enum-known-n
-    enum-told
-    alone-requires-3
-    returns-3
-    command-requires
-    returns-4)
+    tie.close (tie.spec (search needs) returns (search needs) (search needs) returns-2 slice-aggregate-word (search needs) (search needs)
+    (search needs) numbers-requires (search needs) (search needs) (search needs) returns-3 (search needs) returns-4)
 
 pub undivided : Undivided ("line::commands::alone" ∷ "line::commands::command" ∷ "line::commands::word" ∷ "line::fields::find" ∷ "line::fields::numbers" ∷ []) function
 undivided = refl

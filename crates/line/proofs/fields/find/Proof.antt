@@ -18,20 +18,8 @@ Inv-loop s from mark i₀ i = (i ≤ max from (length s)) × (from + length (upT
 abbrev μ-loop : tie.MeasureT-loop
 μ-loop s from mark i₀ i = length s - i
 
-loop-holds : tie.Need-loop-holds Inv-loop μ-loop
-loop-holds c = search needs
-
-shared-slice-read-if1 : tie.Need-shared-slice-read-if1 Inv-loop μ-loop
-shared-slice-read-if1 c = search needs
-
 returns : tie.Need-returns Inv-loop μ-loop
 returns c = (omega (arith, first-comma (c .before .before .before .before .args .mark) (c .before .before .before .before .args .s .now) (c .before .before .before .loop .i) (omega arith) (c .if1 .taken)), omega arith)
-
-add-i : tie.Need-add-i Inv-loop μ-loop
-add-i c = search needs
-
-loop-less : tie.Need-loop-less Inv-loop μ-loop
-loop-less c = search needs
 
 loop-again : tie.Need-loop-again Inv-loop μ-loop
 loop-again c = (omega arith, omega (arith, first-more (c .before .before .before .before .args .mark) (c .before .before .before .before .args .s .now) (c .before .before .before .loop .i) (omega arith) (c .if1 .left)))
@@ -40,18 +28,7 @@ returns-2 : tie.Need-returns-2 Inv-loop μ-loop
 returns-2 c = (omega (arith, first-none (c .before .before .args .mark) (c .before .before .args .s .now) (c .before .loop .i) (omega arith)), omega arith)
 
 pub find-spec : {M : Type 1} → statement M
-find-spec =
-    tie.close
-    (tie.spec
-    Inv-loop
-    μ-loop
-    loop-holds
-    shared-slice-read-if1
-    returns
-    add-i
-    loop-less
-    loop-again
-    returns-2)
+find-spec = tie.close (tie.spec Inv-loop μ-loop (search needs) (search needs) returns (search needs) (search needs) loop-again returns-2)
 
 pub undivided : Undivided [] function
 undivided = refl

@@ -34,27 +34,6 @@ loop-holds c =
       reading-none (c .before .before .args .s .now) (c .before .before .args .from) (c .before .before .args .values .now) (c .before .before .pre .1),
     )
 
-find-requires : tie.Need-find-requires Inv-loop μ-loop
-find-requires c κs = search needs
-
-sub-parse : tie.Need-sub-parse Inv-loop μ-loop
-sub-parse c = search needs
-
-part-parse-start : tie.Need-part-parse-start Inv-loop μ-loop
-part-parse-start c = search needs
-
-part-parse-end : tie.Need-part-parse-end Inv-loop μ-loop
-part-parse-end c = search needs
-
-parse-requires : tie.Need-parse-requires Inv-loop μ-loop
-parse-requires c κs = search needs
-
-enum-known-v : tie.Need-enum-known-v Inv-loop μ-loop
-enum-known-v c = search needs
-
-enum-told : tie.Need-enum-told Inv-loop μ-loop
-enum-told c = search needs
-
 same-length : tie.Need-same-length Inv-loop μ-loop
 unfolding zeros
 same-length c = let z : length (c .before .before .before .before .before .before .before .before .args .values .now) ≡ 19 = ap length (c .before .before .before .before .before .before .before .before .pre .1) in omega arith
@@ -66,15 +45,6 @@ returns c =
     let f = c .before .before .before .before .find in
     let h = reading-bad (a .s .now) (a .from) (l .at) (l .n) (l .values) (l .inv .3) (f .result) (f .ensures .0) (sym (c .before .before .parse .ensures) ∙ c .enum-told .given .1) in
     (sym (ap countOf h), λ ns e. absurd (none-some ns (sym h ∙ e)))
-
-mul-values : tie.Need-mul-values Inv-loop μ-loop
-mul-values c = search needs
-
-slice-write-values : tie.Need-slice-write-values Inv-loop μ-loop
-slice-write-values c = search needs
-
-add-n : tie.Need-add-n Inv-loop μ-loop
-add-n c = search needs
 
 same-length-2 : tie.Need-same-length-2 Inv-loop μ-loop
 unfolding zeros
@@ -97,12 +67,6 @@ returns-2 c =
     let z : l .n + 1 ≡ length ys = omega (arith, length-append (r .ns) (v ∷ []), r .size) in
     (ap Of z ∙ sym (ap countOf h), λ ns e. k ∙ ap (padded 19) (some-inj ys ns (sym h ∙ e)))
 
-add-at : tie.Need-add-at Inv-loop μ-loop
-add-at c = search needs
-
-loop-less : tie.Need-loop-less Inv-loop μ-loop
-loop-less c = omega arith
-
 loop-again : tie.Need-loop-again Inv-loop μ-loop
 loop-again c =
     let a = c .before .before .before .before .before .before .before .before .before .before .before .args in
@@ -121,27 +85,8 @@ loop-again c =
 
 pub numbers-spec : {M : Type 1} → statement M
 numbers-spec =
-    tie.close
-    (tie.spec
-    Inv-loop
-    μ-loop
-    loop-holds
-    find-requires
-    sub-parse
-    part-parse-start
-    part-parse-end
-    parse-requires
-    enum-known-v
-    enum-told
-    same-length
-    returns
-    mul-values
-    slice-write-values
-    add-n
-    same-length-2
-    returns-2
-    add-at
-    loop-less
+    tie.close (tie.spec Inv-loop μ-loop loop-holds (search needs) (search needs) (search needs) (search needs) (search needs) (search needs)
+    (search needs) same-length returns (search needs) (search needs) (search needs) same-length-2 returns-2 (search needs) (λ c. omega arith)
     loop-again)
 
 pub undivided : Undivided ("decimal::read::parse" ∷ "line::fields::find" ∷ []) function

@@ -15,18 +15,6 @@ use borrow.Author.Needs.{needs}
 use Rattle.quorum.proofs.counting.count_receipt.Statement.{statement}
 use Rattle.quorum.proofs.counting.count_receipt.Tie as tie
 
-keeper-of-requires : tie.Need-keeper-of-requires
-keeper-of-requires c κs = search needs
-
-find-requires : tie.Need-find-requires
-find-requires c κs = search needs
-
-enum-known-i : tie.Need-enum-known-i
-enum-known-i c = search needs
-
-enum-told : tie.Need-enum-told
-enum-told c = search needs
-
 returns : tie.Need-returns
 returns c =
     let p3 = c .before .before .before in
@@ -52,20 +40,8 @@ add-at c = omega (arith, within (c .before))
 add-end : tie.Need-add-end
 add-end c = omega (arith, within (c .before))
 
-sub-verify : tie.Need-sub-verify
-sub-verify c = search needs
-
-part-verify-start : tie.Need-part-verify-start
-part-verify-start c = search needs
-
 part-verify-end : tie.Need-part-verify-end
 part-verify-end c = omega (arith, within (c .before))
-
-verify-requires : tie.Need-verify-requires
-verify-requires c κs = search needs
-
-blocks-of-requires : tie.Need-blocks-of-requires
-blocks-of-requires c κs = search needs
 
 -- the key handed over has 32 bytes
 key-size : (i : ℕ) → i * 40 + 8 + 32 - (i * 40 + 8) ≡ 32
@@ -85,12 +61,6 @@ hashed c =
 
 add-blocks : tie.Need-add-blocks
 add-blocks c = let start = c .before .before .before .before .before .before .before .before .before .before .before .before .before in omega (arith, hashed (c .before), receipt-few (start .args .roster .now) (start .args .r .now), start .pre .0 .0, start .pre .1 .1)
-
-enum-known-verdict : tie.Need-enum-known-verdict
-enum-known-verdict c = search needs
-
-enum-told-2 : tie.Need-enum-told-2
-enum-told-2 c = search needs
 
 returns-2 : tie.Need-returns-2
 returns-2 c =
@@ -126,9 +96,6 @@ cast-codes : tie.Need-cast-codes
 unfolding size
 cast-codes c = omega (arith, within (c .before .before .before .before .before .before .before .before .before .before), c .before .before .before .before .before .before .before .before .before .before .before .before .before .before .before .before .before .pre .0 .1 .1)
 
-array-write-codes : tie.Need-array-write-codes
-array-write-codes c = search needs
-
 returns-4 : tie.Need-returns-4
 returns-4 c =
     let p2 = c .before .before in
@@ -145,27 +112,6 @@ returns-4 c =
 
 pub count-receipt-spec : {M : Type 1} → statement M
 count-receipt-spec =
-    tie.close
-    (tie.spec
-    keeper-of-requires
-    find-requires
-    enum-known-i
-    enum-told
-    returns
-    mul-at
-    add-at
-    add-end
-    sub-verify
-    part-verify-start
-    part-verify-end
-    verify-requires
-    blocks-of-requires
-    add-blocks
-    enum-known-verdict
-    enum-told-2
-    returns-2
-    returns-3
-    add-codes
-    cast-codes
-    array-write-codes
-    returns-4)
+    tie.close (tie.spec (λ c κs. search needs) (λ c κs. search needs) (search needs) (search needs) returns mul-at add-at add-end (search needs)
+    (search needs) part-verify-end (λ c κs. search needs) (λ c κs. search needs) add-blocks (search needs) (search needs) returns-2 returns-3
+    add-codes cast-codes (search needs) returns-4)

@@ -29,12 +29,6 @@ count-receipt-requires c κs =
     let few = blocks-few (start .args .roster .now) (start .args .cert .now) (l .p) in
     ((omega (arith, start .pre .0 .1 .0), (c .receipt-at .ensures .1, start .pre .0 .1 .1)), (start .pre .1, omega (arith, l .inv .1 .0, few)))
 
-add-p : tie.Need-add-p Inv-loop μ-loop
-add-p c = omega arith
-
-loop-less : tie.Need-loop-less Inv-loop μ-loop
-loop-less c = omega arith
-
 loop-again : tie.Need-loop-again Inv-loop μ-loop
 loop-again c =
     let l = c .before .before .before .loop in
@@ -58,14 +52,5 @@ returns c =
 
 pub tally-of-spec : {M : Type 1} → statement M
 tally-of-spec =
-    tie.close
-    (tie.spec
-    Inv-loop
-    μ-loop
-    loop-holds
-    receipt-at-requires
-    count-receipt-requires
-    add-p
-    loop-less
-    loop-again
+    tie.close (tie.spec Inv-loop μ-loop loop-holds receipt-at-requires count-receipt-requires (λ c. omega arith) (λ c. omega arith) loop-again
     returns)

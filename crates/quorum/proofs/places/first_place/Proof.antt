@@ -22,9 +22,6 @@ loop-holds c = let e : c .before .before .args .count ≡ c .before .before .arg
 try-place-requires : tie.Need-try-place-requires Inv-loop μ-loop
 try-place-requires c κs = ((c .before .before .before .before .pre .0 .0, (c .before .before .before .before .pre .0 .1, omega arith)), c .before .before .before .before .pre .1)
 
-enum-known-mask : tie.Need-enum-known-mask Inv-loop μ-loop
-enum-known-mask c = search needs
-
 returns : tie.Need-returns Inv-loop μ-loop
 returns c =
     let x = c .before .before .before .before .before .before .before .before .args in
@@ -35,15 +32,6 @@ returns c =
           ∙ ap (λ (t : Tried). orElse t (l .p) (f (x .count - (l .p + 1)) (suc (l .p)))) (sym (c .before .before .before .try-place .ensures) ∙ c .before .mask .given .1)),
       refl,
     )
-
-enum-told : tie.Need-enum-told Inv-loop μ-loop
-enum-told c = search needs
-
-add-p : tie.Need-add-p Inv-loop μ-loop
-add-p c = omega arith
-
-loop-less : tie.Need-loop-less Inv-loop μ-loop
-loop-less c = omega arith
 
 loop-again : tie.Need-loop-again Inv-loop μ-loop
 loop-again c =
@@ -66,16 +54,5 @@ returns-2 c =
 
 pub first-place-spec : {M : Type 1} → statement M
 first-place-spec =
-    tie.close
-    (tie.spec
-    Inv-loop
-    μ-loop
-    loop-holds
-    try-place-requires
-    enum-known-mask
-    returns
-    enum-told
-    add-p
-    loop-less
-    loop-again
-    returns-2)
+    tie.close (tie.spec Inv-loop μ-loop loop-holds try-place-requires (search needs) returns (search needs) (λ c. omega arith) (λ c. omega arith)
+    loop-again returns-2)

@@ -24,12 +24,6 @@ with-place-requires c κs =
     let b = c .before .before .before .before .pre .1 (l .q) (omega arith) in
     ((omega arith, omega arith), (omega arith, omega arith))
 
-add-q : tie.Need-add-q Inv-loop μ-loop
-add-q c = omega arith
-
-loop-less : tie.Need-loop-less Inv-loop μ-loop
-loop-less c = omega arith
-
 loop-again : tie.Need-loop-again Inv-loop μ-loop
 loop-again c =
     let x = c .before .before .before .before .before .args in
@@ -44,6 +38,4 @@ returns c =
     l .inv .1 ∙ ap (λ (k : ℕ). maskAt (x .tally .now) (x .cert .now) k (x .p)) e
 
 pub mask-of-spec : {M : Type 1} → statement M
-mask-of-spec =
-    tie.close
-    (tie.spec Inv-loop μ-loop loop-holds with-place-requires add-q loop-less loop-again returns)
+mask-of-spec = tie.close (tie.spec Inv-loop μ-loop loop-holds with-place-requires (λ c. omega arith) (λ c. omega arith) loop-again returns)

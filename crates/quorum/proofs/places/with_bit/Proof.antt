@@ -9,17 +9,8 @@ use borrow.Author.Needs.{needs}
 use Rattle.quorum.proofs.places.with_bit.Statement.{statement}
 use Rattle.quorum.proofs.places.with_bit.Tie as tie
 
-sub-k : tie.Need-sub-k
-sub-k c = search needs
-
-cast-k : tie.Need-cast-k
-cast-k c = search needs
-
-shl-result : tie.Need-shl-result
-shl-result c = search needs
-
 returns : tie.Need-returns
 returns c = ap (bitOr (c .args .mask)) (shl-exact 1 (c .args .code - 1) 32 (omega arith) (omega (arith, c .pre)) ∙ one-mul (2 ^ (c .args .code - 1)))
 
 pub with-bit-spec : {M : Type 1} → statement M
-with-bit-spec = tie.close (tie.spec sub-k cast-k shl-result returns)
+with-bit-spec = tie.close (tie.spec (search needs) (search needs) (search needs) returns)

@@ -8,28 +8,13 @@ use borrow.Author.Needs.{needs}
 use Rattle.quorum.proofs.places.with_place.Statement.{statement}
 use Rattle.quorum.proofs.places.with_place.Tie as tie
 
-shared-slice-read-code : tie.Need-shared-slice-read-code
-shared-slice-read-code c = search needs
-
 returns : tie.Need-returns
 unfolding withCode
 returns c = simp (eq-eqb _ 0 (c .if1 .taken))
 
-pair-at-requires : tie.Need-pair-at-requires
-pair-at-requires c κs = search needs
-
-pair-at-requires-2 : tie.Need-pair-at-requires-2
-pair-at-requires-2 c κs = search needs
-
-equal-requires : tie.Need-equal-requires
-equal-requires c κs = search needs
-
 returns-2 : tie.Need-returns-2
 unfolding withCode
 returns-2 c = let x = c .before .before .before .before .before .before .before .before .args in let e : c .before .equal .result ≡ same (pairAt (x .cert .now) (x .q)) (pairAt (x .cert .now) (x .p)) = c .before .equal .ensures ∙ ap₂ same (c .before .before .before .pair-at .ensures) (c .before .before .pair-at2 .ensures) in simp (ne-eqb _ 0 (c .before .before .before .before .if1 .left), sym e ∙ not-true _ (c .if2 .taken))
-
-with-bit-requires : tie.Need-with-bit-requires
-with-bit-requires c κs = search needs
 
 returns-3 : tie.Need-returns-3
 unfolding withCode
@@ -37,13 +22,5 @@ returns-3 c = let x = c .before .before .before .before .before .before .before 
 
 pub with-place-spec : {M : Type 1} → statement M
 with-place-spec =
-    tie.close
-    (tie.spec
-    shared-slice-read-code
-    returns
-    pair-at-requires
-    pair-at-requires-2
-    equal-requires
-    returns-2
-    with-bit-requires
+    tie.close (tie.spec (search needs) returns (λ c κs. search needs) (λ c κs. search needs) (λ c κs. search needs) returns-2 (λ c κs. search needs)
     returns-3)

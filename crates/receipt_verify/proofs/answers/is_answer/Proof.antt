@@ -10,47 +10,19 @@ use borrow.Author.Needs.{needs}
 use Rattle.receipt_verify.proofs.answers.is_answer.Statement.{statement}
 use Rattle.receipt_verify.proofs.answers.is_answer.Tie as tie
 
-keeper-of-requires : tie.Need-keeper-of-requires
-keeper-of-requires c κs = search needs
-
 returns : tie.Need-returns
 returns c = other-keeper (readAttestation (c .before .before .before .before .before .args .r .now)) (c .before .before .before .before .before .args .q) (c .before .before .before .before .before .args .nonce .now) (λ e. c .if1 .taken (c .before .before .keeper-of .ensures ∙ e))
-
-log-of-requires : tie.Need-log-of-requires
-log-of-requires c κs = search needs
-
-wide-requires : tie.Need-wide-requires
-wide-requires c κs = search needs
 
 returns-2 : tie.Need-returns-2
 returns-2 c = other-log (readAttestation (c .before .before .before .before .before .before .before .before .before .args .r .now)) (c .before .before .before .before .before .before .before .before .before .args .q) (c .before .before .before .before .before .before .before .before .before .args .nonce .now) (sym (c .before .before .before .before .before .before .keeper-of .ensures) ∙ c .before .before .before .before .if1 .left) (λ e. c .if2 .taken (c .before .before .wide .ensures .0 ∙ c .before .before .before .log-of .ensures ∙ e))
 
-nonce-of-requires : tie.Need-nonce-of-requires
-nonce-of-requires c κs = search needs
-
-equal-requires : tie.Need-equal-requires
-equal-requires c κs = search needs
-
 returns-3 : tie.Need-returns-3
 returns-3 c = other-nonce (readAttestation (c .before .before .before .before .before .before .before .before .before .before .before .before .args .r .now)) (c .before .before .before .before .before .before .before .before .before .before .before .before .args .q) (c .before .before .before .before .before .before .before .before .before .before .before .before .args .nonce .now) (sym (c .before .before .before .before .before .before .before .before .before .keeper-of .ensures) ∙ c .before .before .before .before .before .before .before .if1 .left) (sym (c .before .before .before .before .before .wide .ensures .0 ∙ c .before .before .before .before .before .before .log-of .ensures) ∙ c .before .before .before .if2 .left) (ap (λ (x : List ℕ). same x (c .before .before .before .before .before .before .before .before .before .before .before .before .args .nonce .now)) (sym (c .before .before .nonce-of .ensures)) ∙ sym (c .before .equal .ensures) ∙ not-true _ (c .if3 .taken))
-
-is-asked-requires : tie.Need-is-asked-requires
-is-asked-requires c κs = search needs
 
 returns-4 : tie.Need-returns-4
 returns-4 c = c .is-asked .ensures ∙ by-ask (readAttestation (c .before .before .before .before .before .before .before .before .before .before .before .before .before .args .r .now)) (c .before .before .before .before .before .before .before .before .before .before .before .before .before .args .q) (c .before .before .before .before .before .before .before .before .before .before .before .before .before .args .nonce .now) (sym (c .before .before .before .before .before .before .before .before .before .before .keeper-of .ensures) ∙ c .before .before .before .before .before .before .before .before .if1 .left) (sym (c .before .before .before .before .before .before .wide .ensures .0 ∙ c .before .before .before .before .before .before .before .log-of .ensures) ∙ c .before .before .before .before .if2 .left) (ap (λ (x : List ℕ). same x (c .before .before .before .before .before .before .before .before .before .before .before .before .before .args .nonce .now)) (sym (c .before .before .before .nonce-of .ensures)) ∙ sym (c .before .before .equal .ensures) ∙ not-false _ (c .before .if3 .left))
 
 pub is-answer-spec : {M : Type 1} → statement M
 is-answer-spec =
-    tie.close
-    (tie.spec
-    keeper-of-requires
-    returns
-    log-of-requires
-    wide-requires
-    returns-2
-    nonce-of-requires
-    equal-requires
-    returns-3
-    is-asked-requires
-    returns-4)
+    tie.close (tie.spec (λ c κs. search needs) returns (λ c κs. search needs) (λ c κs. search needs) returns-2 (λ c κs. search needs)
+    (λ c κs. search needs) returns-3 (λ c κs. search needs) returns-4)

@@ -10,27 +10,9 @@ use borrow.Author.Needs.{needs}
 use Rattle.receipt_verify.proofs.possible.is_blank.Statement.{statement}
 use Rattle.receipt_verify.proofs.possible.is_blank.Tie as tie
 
-value-of-requires : tie.Need-value-of-requires
-value-of-requires c κs = search needs
-
-digest-of-requires : tie.Need-digest-of-requires
-digest-of-requires c κs = search needs
-
-slice-aggregate-equal : tie.Need-slice-aggregate-equal
-slice-aggregate-equal c = search needs
-
-equal-requires : tie.Need-equal-requires
-equal-requires c κs = search needs
-
 returns : tie.Need-returns
 unfolding zeros
 returns c = value-left (readAttestation (c .before .before .before .before .before .before .args .r .now)) (ap (λ (x : List ℕ). same x (zeros 32)) (sym (c .before .before .before .before .value-of .ensures .0)) ∙ sym (c .before .equal .ensures) ∙ not-true _ (c .if1 .taken))
-
-slice-aggregate-equal-2 : tie.Need-slice-aggregate-equal-2
-slice-aggregate-equal-2 c = search needs
-
-equal-requires-2 : tie.Need-equal-requires-2
-equal-requires-2 c κs = search needs
 
 returns-2 : tie.Need-returns-2
 unfolding zeros
@@ -38,13 +20,5 @@ returns-2 c = c .equal2 .ensures ∙ ap (λ (x : List ℕ). same x (zeros 32)) (
 
 pub is-blank-spec : {M : Type 1} → statement M
 is-blank-spec =
-    tie.close
-    (tie.spec
-    value-of-requires
-    digest-of-requires
-    slice-aggregate-equal
-    equal-requires
-    returns
-    slice-aggregate-equal-2
-    equal-requires-2
-    returns-2)
+    tie.close (tie.spec (λ c κs. search needs) (λ c κs. search needs) (search needs) (λ c κs. search needs) returns (search needs)
+    (λ c κs. search needs) returns-2)

@@ -8,31 +8,19 @@ use borrow.Author.Needs.{needs}
 use Rattle.receipt_verify.proofs.possible.is_fresh_end.Statement.{statement}
 use Rattle.receipt_verify.proofs.possible.is_fresh_end.Tie as tie
 
-is-end-requires : tie.Need-is-end-requires
-is-end-requires c κs = search needs
-
 returns : tie.Need-returns
 returns c = not-end (readAttestation (c .before .before .before .args .r .now)) (sym (c .before .is-end .ensures) ∙ not-true _ (c .if1 .taken))
-
-kind-of-requires : tie.Need-kind-of-requires
-kind-of-requires c κs = search needs
 
 returns-2 : tie.Need-returns-2
 returns-2 c =
     let p2 = c .before .before in
     not-unassigned (readAttestation (p2 .before .before .before .args .r .now)) (sym (p2 .before .is-end .ensures) ∙ not-false _ (p2 .if1 .left)) (λ e. c .if2 .taken (c .before .kind-of .ensures ∙ e))
 
-log-of-requires : tie.Need-log-of-requires
-log-of-requires c κs = search needs
-
 returns-3 : tie.Need-returns-3
 returns-3 c =
     let p2 = c .before .before in
     let p4 = p2 .before .before in
     end-log (readAttestation (p4 .before .before .before .args .r .now)) (sym (p4 .before .is-end .ensures) ∙ not-false _ (p4 .if1 .left)) (sym (p2 .before .kind-of .ensures) ∙ p2 .if2 .left) (omega (arith, c .if3 .taken, c .before .log-of .ensures))
-
-reference-of-requires : tie.Need-reference-of-requires
-reference-of-requires c κs = search needs
 
 returns-4 : tie.Need-returns-4
 returns-4 c =
@@ -41,9 +29,6 @@ returns-4 c =
     let p6 = p4 .before .before in
     let p9 = p6 .before .before .before in
     end-reference (readAttestation (p9 .args .r .now)) (sym (p6 .before .is-end .ensures) ∙ not-false _ (p6 .if1 .left)) (sym (p4 .before .kind-of .ensures) ∙ p4 .if2 .left) (omega (arith, p2 .if3 .left, p2 .before .log-of .ensures)) (p9 .pre .1) (λ e. c .if4 .taken (c .before .reference-of .ensures ∙ e))
-
-is-blank-requires : tie.Need-is-blank-requires
-is-blank-requires c κs = search needs
 
 returns-5 : tie.Need-returns-5
 returns-5 c =
@@ -57,15 +42,5 @@ returns-5 c =
 
 pub is-fresh-end-spec : {M : Type 1} → statement M
 is-fresh-end-spec =
-    tie.close
-    (tie.spec
-    is-end-requires
-    returns
-    kind-of-requires
-    returns-2
-    log-of-requires
-    returns-3
-    reference-of-requires
-    returns-4
-    is-blank-requires
-    returns-5)
+    tie.close (tie.spec (λ c κs. search needs) returns (λ c κs. search needs) returns-2 (λ c κs. search needs) returns-3 (λ c κs. search needs)
+    returns-4 (λ c κs. search needs) returns-5)

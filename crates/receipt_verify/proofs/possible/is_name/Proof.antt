@@ -6,17 +6,11 @@ use borrow.Author.Needs.{needs}
 use Rattle.receipt_verify.proofs.possible.is_name.Statement.{statement}
 use Rattle.receipt_verify.proofs.possible.is_name.Tie as tie
 
-is-lookup-requires : tie.Need-is-lookup-requires
-is-lookup-requires c κs = search needs
-
 returns : tie.Need-returns
 returns c = name-lookup (readAttestation (c .before .before .before .args .r .now) .name) (sym (c .before .is-lookup .ensures) ∙ c .if1 .taken)
-
-is-end-requires : tie.Need-is-end-requires
-is-end-requires c κs = search needs
 
 returns-2 : tie.Need-returns-2
 returns-2 c = c .is-end .ensures ∙ name-end (readAttestation (c .before .before .before .before .args .r .now) .name) (sym (c .before .before .is-lookup .ensures) ∙ c .before .if1 .left)
 
 pub is-name-spec : {M : Type 1} → statement M
-is-name-spec = tie.close (tie.spec is-lookup-requires returns is-end-requires returns-2)
+is-name-spec = tie.close (tie.spec (λ c κs. search needs) returns (λ c κs. search needs) returns-2)

@@ -10,9 +10,6 @@ use borrow.Author.Needs.{needs}
 use Rattle.receipt_verify.proofs.possible.is_possible.Statement.{statement}
 use Rattle.receipt_verify.proofs.possible.is_possible.Tie as tie
 
-position-of-requires : tie.Need-position-of-requires
-position-of-requires c κs = search needs
-
 is-fresh-end-requires : tie.Need-is-fresh-end-requires
 is-fresh-end-requires c κs = (c .before .before .before .pre, sym (c .before .position-of .ensures) ∙ c .if1 .taken)
 
@@ -21,31 +18,16 @@ returns c =
     let p1 = c .before in
     c .is-fresh-end .ensures ∙ at-zero (readAttestation (p1 .before .before .before .args .r .now)) (sym (p1 .before .position-of .ensures) ∙ p1 .if1 .taken)
 
-is-name-requires : tie.Need-is-name-requires
-is-name-requires c κs = search needs
-
 returns-2 : tie.Need-returns-2
 returns-2 c =
     let p2 = c .before .before in
     no-name (readAttestation (p2 .before .before .before .args .r .now)) (λ e. p2 .if1 .left (p2 .before .position-of .ensures ∙ e)) (sym (c .before .is-name .ensures) ∙ not-true _ (c .if2 .taken))
-
-log-of-requires : tie.Need-log-of-requires
-log-of-requires c κs = search needs
 
 returns-3 : tie.Need-returns-3
 returns-3 c =
     let p2 = c .before .before in
     let p4 = p2 .before .before in
     no-log (readAttestation (p4 .before .before .before .args .r .now)) (λ e. p4 .if1 .left (p4 .before .position-of .ensures ∙ e)) (sym (p2 .before .is-name .ensures) ∙ not-false _ (p2 .if2 .left)) (omega (arith, c .if3 .taken, c .before .log-of .ensures))
-
-reference-of-requires : tie.Need-reference-of-requires
-reference-of-requires c κs = search needs
-
-kind-of-requires : tie.Need-kind-of-requires
-kind-of-requires c κs = search needs
-
-reference-fits-requires : tie.Need-reference-fits-requires
-reference-fits-requires c κs = search needs
 
 returns-4 : tie.Need-returns-4
 returns-4 c =
@@ -56,9 +38,6 @@ returns-4 c =
     let a = readAttestation (p8 .before .before .before .args .r .now) in
     no-reference a (λ e. p8 .if1 .left (p8 .before .position-of .ensures ∙ e)) (sym (p6 .before .is-name .ensures) ∙ not-false _ (p6 .if2 .left)) (omega (arith, p4 .if3 .left, p4 .before .log-of .ensures))
     (ap₂ (referenceFits (a .kind)) (sym (p8 .before .position-of .ensures)) (sym (p2 .before .reference-of .ensures)) ∙ ap (λ (k : ℕ). referenceFits k (p8 .before .position-of .result) (p2 .before .reference-of .result)) (sym (p2 .kind-of .ensures)) ∙ sym (c .before .reference-fits .ensures) ∙ not-true _ (c .if4 .taken))
-
-blank-fits-requires : tie.Need-blank-fits-requires
-blank-fits-requires c κs = search needs
 
 returns-5 : tie.Need-returns-5
 returns-5 c =
@@ -74,18 +53,5 @@ returns-5 c =
 
 pub is-possible-spec : {M : Type 1} → statement M
 is-possible-spec =
-    tie.close
-    (tie.spec
-    position-of-requires
-    is-fresh-end-requires
-    returns
-    is-name-requires
-    returns-2
-    log-of-requires
-    returns-3
-    reference-of-requires
-    kind-of-requires
-    reference-fits-requires
-    returns-4
-    blank-fits-requires
-    returns-5)
+    tie.close (tie.spec (λ c κs. search needs) is-fresh-end-requires returns (λ c κs. search needs) returns-2 (λ c κs. search needs) returns-3
+    (λ c κs. search needs) (λ c κs. search needs) (λ c κs. search needs) returns-4 (λ c κs. search needs) returns-5)

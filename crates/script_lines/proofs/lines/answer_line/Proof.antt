@@ -14,27 +14,6 @@ use Rattle.script_lines.proofs.lines.answer_line.Tie as tie
 use Rattle.octets.specs.Undivided.{Undivided}
 use Rattle.script_lines.proofs.lines.answer_line.Code.Mir.{function}
 
-parse-requires : tie.Need-parse-requires
-parse-requires c κs = search needs
-
-slice-aggregate-carry-out : tie.Need-slice-aggregate-carry-out
-slice-aggregate-carry-out c = search needs
-
-carry-out-requires : tie.Need-carry-out-requires
-carry-out-requires c κs = search needs
-
-cells-requires : tie.Need-cells-requires
-cells-requires c κs = search needs
-
-render-requires : tie.Need-render-requires
-render-requires c κs = search needs
-
-same-length : tie.Need-same-length
-same-length c = search needs
-
-same-length-2 : tie.Need-same-length-2
-same-length-2 c = search needs
-
 returns : tie.Need-returns
 unfolding answerText tableAfter
 returns c =
@@ -52,16 +31,8 @@ returns c =
 
 pub answer-line-spec : {M : Type 1} → statement M
 answer-line-spec =
-    tie.close
-    (tie.spec
-    parse-requires
-    slice-aggregate-carry-out
-    carry-out-requires
-    cells-requires
-    render-requires
-    same-length
-    same-length-2
-    returns)
+    tie.close (tie.spec (λ c κs. search needs) (λ c. search needs) (λ c κs. search needs) (λ c κs. search needs) (λ c κs. search needs)
+    (λ c. search needs) (λ c. search needs) returns)
 
 pub undivided : Undivided ("line::answer::render" ∷ "line::commands::parse" ∷ "script_lines::lines::cells" ∷ "script_lines::tables::carry_out" ∷ []) function
 undivided = refl

@@ -9,15 +9,6 @@ use Rattle.script_lines.proofs.lines.cells.Tie as tie
 use Rattle.octets.specs.Undivided.{Undivided}
 use Rattle.script_lines.proofs.lines.cells.Code.Mir.{function}
 
-enum-known-answer : tie.Need-enum-known-answer
-enum-known-answer c = search needs
-
-enum-known-answer-2 : tie.Need-enum-known-answer-2
-enum-known-answer-2 c = search needs
-
-enum-known-answer-3 : tie.Need-enum-known-answer-3
-enum-known-answer-3 c = search needs
-
 returns : tie.Need-returns
 returns c = ap (λ (x : Answer). cellsOf (c .before .before .before .args .line) x) (sym (c .before .answer .given .1))
 
@@ -28,15 +19,7 @@ returns-3 : tie.Need-returns-3
 returns-3 c = ap (λ (x : Answer). cellsOf (c .before .before .before .args .line) x) (sym (c .before .answer3 .given .1))
 
 pub cells-spec : {M : Type 1} → statement M
-cells-spec =
-    tie.close
-    (tie.spec
-    enum-known-answer
-    enum-known-answer-2
-    enum-known-answer-3
-    returns
-    returns-2
-    returns-3)
+cells-spec = tie.close (tie.spec (search needs) (search needs) (search needs) returns returns-2 returns-3)
 
 pub undivided : Undivided [] function
 undivided = refl

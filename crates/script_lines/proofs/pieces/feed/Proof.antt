@@ -24,39 +24,12 @@ abbrev μ-loop : tie.MeasureT-loop
 loop-holds : tie.Need-loop-holds Inv-loop μ-loop
 loop-holds c = let a = c .before .before .before .before .args in (omega arith, feeds-none (a .buffer .now) (a .held .now) (a .out .now) (state (a .p .kept) (a .p .number) (a .p .size) 0) (omega arith) (omega arith) (omega arith) (omega arith), search needs)
 
-find-requires : tie.Need-find-requires Inv-loop μ-loop
-find-requires c κs = search needs
-
-sub-keep : tie.Need-sub-keep Inv-loop μ-loop
-sub-keep c = search needs
-
-part-keep-start : tie.Need-part-keep-start Inv-loop μ-loop
-part-keep-start c = search needs
-
-part-keep-end : tie.Need-part-keep-end Inv-loop μ-loop
-part-keep-end c = search needs
-
-keep-requires : tie.Need-keep-requires Inv-loop μ-loop
-keep-requires c κs = search needs
-
-same-length : tie.Need-same-length Inv-loop μ-loop
-same-length c = search needs
-
-same-length-2 : tie.Need-same-length-2 Inv-loop μ-loop
-same-length-2 c = search needs
-
-same-length-3 : tie.Need-same-length-3 Inv-loop μ-loop
-same-length-3 c = search needs
-
 returns : tie.Need-returns Inv-loop μ-loop
 returns c = let a = c .before .before .before .before .before .before .before .before .before .before .before .before .before .args in
     let l = c .before .before .before .before .before .before .before .before .loop in
     let f = c .before .before .before .before .before .before .find in
     let k = c .before .before .before .keep in
     from-start (a .p) (feeds-part (a .piece .now) (a .buffer .now) (a .held .now) (a .out .now) (state (a .p .kept) (a .p .number) (a .p .size) 0) (l .at) (l .buffer) (l .held) (l .out) (l .s) (l .inv .1) (f .result) (f .ensures .0) (k .last .0) (k .result) (k .ensures) (c .if1 .taken))
-
-slice-reshare-prefix-answer-line : tie.Need-slice-reshare-prefix-answer-line Inv-loop μ-loop
-slice-reshare-prefix-answer-line c = search needs
 
 slice-aggregate-answer-line : tie.Need-slice-aggregate-answer-line Inv-loop μ-loop
 slice-aggregate-answer-line c = sym (length-take-le (c .before .before .before .before .before .before .keep .result) (c .before .before .before .before .before .before .keep .last .0) (omega arith))
@@ -66,12 +39,6 @@ answer-line-requires c κs = (search needs, search needs, omega (arith, c .befor
 
 add-t24 : tie.Need-add-t24 Inv-loop μ-loop
 add-t24 c = record { fits = omega (arith, c .before .before .before .before .before .before .before .before .before .before .before .before .before .before .before .before .before .loop .inv .1 .few, length-take (c .before .before .before .before .before .before .before .before .before .before .before .before .before .before .before .before .before .loop .at) (c .before .before .before .before .before .before .before .before .before .before .before .before .before .before .before .before .before .before .before .before .before .before .args .piece .now), c .before .before .before .before .before .before .before .before .before .before .before .before .before .before .before .before .before .before .before .before .before .before .pre .1 .0, c .before .before .before .before .before .before .before .before .before .before .before .before .before .before .before .before .loop-test .taken) }
-
-add-at : tie.Need-add-at Inv-loop μ-loop
-add-at c = search needs
-
-loop-less : tie.Need-loop-less Inv-loop μ-loop
-loop-less c = search needs
 
 loop-again : tie.Need-loop-again Inv-loop μ-loop
 loop-again c = let a = c .before .before .before .before .before .before .before .before .before .before .before .before .before .before .before .before .before .before .before .before .before .before .args in
@@ -87,15 +54,6 @@ loop-again c = let a = c .before .before .before .before .before .before .before
       search needs,
     )
 
-same-length-4 : tie.Need-same-length-4 Inv-loop μ-loop
-same-length-4 c = search needs
-
-same-length-5 : tie.Need-same-length-5 Inv-loop μ-loop
-same-length-5 c = search needs
-
-same-length-6 : tie.Need-same-length-6 Inv-loop μ-loop
-same-length-6 c = search needs
-
 returns-2 : tie.Need-returns-2 Inv-loop μ-loop
 returns-2 c = let a = c .before .before .before .before .before .before .args in
     let l = c .before .loop in
@@ -104,31 +62,9 @@ returns-2 c = let a = c .before .before .before .before .before .before .args in
 
 pub feed-spec : {M : Type 1} → statement M
 feed-spec =
-    tie.close
-    (tie.spec
-    Inv-loop
-    μ-loop
-    loop-holds
-    find-requires
-    sub-keep
-    part-keep-start
-    part-keep-end
-    keep-requires
-    same-length
-    same-length-2
-    same-length-3
-    returns
-    slice-reshare-prefix-answer-line
-    slice-aggregate-answer-line
-    answer-line-requires
-    add-t24
-    add-at
-    loop-less
-    loop-again
-    same-length-4
-    same-length-5
-    same-length-6
-    returns-2)
+    tie.close (tie.spec Inv-loop μ-loop loop-holds (λ c κs. search needs) (search needs) (search needs) (search needs) (λ c κs. search needs)
+    (search needs) (search needs) (search needs) returns (search needs) slice-aggregate-answer-line answer-line-requires add-t24 (search needs)
+    (search needs) loop-again (search needs) (search needs) (search needs) returns-2)
 
 pub undivided : Undivided ("line::fields::find" ∷ "script_lines::lines::answer_line" ∷ "script_lines::pieces::keep" ∷ []) function
 undivided = refl

@@ -16,30 +16,13 @@ returns c = let a = c .before .before .before .before .args in finishes-none (a 
 slice-aggregate-answer-line : tie.Need-slice-aggregate-answer-line
 slice-aggregate-answer-line c = sym (length-take-le (c .before .before .before .before .before .before .before .args .p .kept) (c .before .before .before .before .before .before .before .args .held .now) (omega arith))
 
-answer-line-requires : tie.Need-answer-line-requires
-answer-line-requires c κs = search needs
-
-same-length : tie.Need-same-length
-same-length c = search needs
-
-same-length-2 : tie.Need-same-length-2
-same-length-2 c = search needs
-
 returns-2 : tie.Need-returns-2
 returns-2 c = let a = c .before .before .before .before .before .before .before .before .before .before .before .before .args in
     let n = c .before .before .before .before .answer-line in
     finishes-line (a .buffer .now) (a .held .now) (a .out .now) (a .p) (omega arith) (omega arith) (n .last .0) (n .last .1 .1 .0) (n .result .to) (n .ensures .1 .0) (n .ensures .1 .1 .1) (n .ensures .1 .1 .0)
 
 pub finish-spec : {M : Type 1} → statement M
-finish-spec =
-    tie.close
-    (tie.spec
-    returns
-    slice-aggregate-answer-line
-    answer-line-requires
-    same-length
-    same-length-2
-    returns-2)
+finish-spec = tie.close (tie.spec returns slice-aggregate-answer-line (λ c κs. search needs) (search needs) (search needs) returns-2)
 
 pub undivided : Undivided ("script_lines::lines::answer_line" ∷ []) function
 undivided = refl

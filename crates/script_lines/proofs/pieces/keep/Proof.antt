@@ -19,29 +19,8 @@ Inv-loop held₀ kept part n i₀ held i = (i ≤ n) × (held ≡ paste held₀ 
 abbrev μ-loop : tie.MeasureT-loop
 μ-loop held₀ kept part n i₀ held i = n - i
 
-sub-least : tie.Need-sub-least Inv-loop μ-loop
-sub-least c = search needs
-
-least-requires : tie.Need-least-requires Inv-loop μ-loop
-least-requires c κs = search needs
-
 loop-holds : tie.Need-loop-holds Inv-loop μ-loop
 loop-holds c = (omega arith, paste-zero (c .before .before .before .args .held .now) (c .before .before .before .args .kept) (c .before .before .before .args .part .now), refl)
-
-shared-slice-read-held : tie.Need-shared-slice-read-held Inv-loop μ-loop
-shared-slice-read-held c = search needs
-
-add-held : tie.Need-add-held Inv-loop μ-loop
-add-held c = search needs
-
-slice-write-held : tie.Need-slice-write-held Inv-loop μ-loop
-slice-write-held c = search needs
-
-add-i : tie.Need-add-i Inv-loop μ-loop
-add-i c = search needs
-
-loop-less : tie.Need-loop-less Inv-loop μ-loop
-loop-less c = search needs
 
 loop-again : tie.Need-loop-again Inv-loop μ-loop
 loop-again c =
@@ -53,12 +32,6 @@ loop-again c =
           ∙ ap (λ (k : ℕ). paste (a .held .now) (a .kept) (a .part .now) k) (sym (add-one (l .i))),
       simp length-set (l .inv .2),
     )
-
-add-result : tie.Need-add-result Inv-loop μ-loop
-add-result c = search needs
-
-same-length : tie.Need-same-length Inv-loop μ-loop
-same-length c = search needs
 
 returns : tie.Need-returns Inv-loop μ-loop
 returns c =
@@ -78,22 +51,8 @@ returns c =
 
 pub keep-spec : {M : Type 1} → statement M
 keep-spec =
-    tie.close
-    (tie.spec
-    Inv-loop
-    μ-loop
-    sub-least
-    least-requires
-    loop-holds
-    shared-slice-read-held
-    add-held
-    slice-write-held
-    add-i
-    loop-less
-    loop-again
-    add-result
-    same-length
-    returns)
+    tie.close (tie.spec Inv-loop μ-loop (search needs) (λ c κs. search needs) loop-holds (search needs) (search needs) (search needs) (search needs)
+    (search needs) loop-again (search needs) (search needs) returns)
 
 pub undivided : Undivided ("script_lines::pieces::least" ∷ []) function
 undivided = refl

@@ -7,14 +7,8 @@ use Rattle.script_lines.proofs.pieces.least.Tie as tie
 use Rattle.octets.specs.Undivided.{Undivided}
 use Rattle.script_lines.proofs.pieces.least.Code.Mir.{function}
 
-returns : tie.Need-returns
-returns c = search needs
-
-returns-2 : tie.Need-returns-2
-returns-2 c = search needs
-
 pub least-spec : {M : Type 1} → statement M
-least-spec = tie.close (tie.spec returns returns-2)
+least-spec = tie.close (tie.spec (search needs) (search needs))
 
 pub undivided : Undivided [] function
 undivided = refl

@@ -26,48 +26,6 @@ returns-2 c =
     let rs : List ℕ = take (a .logs) (a .reserves .now) in
     format-counts (a .buffer .now) (a .size) (a .logs) (a .slots) (a .keeper) rs (omega arith) (omega arith) (many-slots (a .logs) (a .slots) rs (omega arith))
 
-table-size-requires : tie.Need-table-size-requires
-table-size-requires c κs = search needs
-
-sub-format : tie.Need-sub-format
-sub-format c = search needs
-
-part-format-start : tie.Need-part-format-start
-part-format-start c = search needs
-
-part-format-end : tie.Need-part-format-end
-part-format-end c = search needs
-
-slice-aggregate-format : tie.Need-slice-aggregate-format
-slice-aggregate-format c = search needs
-
-sub-format-2 : tie.Need-sub-format-2
-sub-format-2 c = search needs
-
-part-format-start-2 : tie.Need-part-format-start-2
-part-format-start-2 c = search needs
-
-part-format-end-2 : tie.Need-part-format-end-2
-part-format-end-2 c = search needs
-
-format-requires : tie.Need-format-requires
-format-requires c κs = search needs
-
-enum-told : tie.Need-enum-told
-enum-told c = search needs
-
-enum-known-worked : tie.Need-enum-known-worked
-enum-known-worked c = search needs
-
-number-requires : tie.Need-number-requires
-number-requires c κs = search needs
-
-wide-requires : tie.Need-wide-requires
-wide-requires c κs = search needs
-
-same-length : tie.Need-same-length
-same-length c = search needs
-
 returns-3 : tie.Need-returns-3
 unfolding zeros
 returns-3 c =
@@ -78,9 +36,6 @@ returns-3 c =
     let k : n ≤ largest = omega (arith, e) in
     format-done (a .buffer .now) (f .last .0) (a .size) n (a .logs) (a .slots) (a .keeper) (a .reserves .now) (f .result) e (omega arith) k (f .kept .0) (f .ensures .0) (f .ensures .1 .1)
     _ (c .enum-told .given .1)
-
-same-length-2 : tie.Need-same-length-2
-same-length-2 c = search needs
 
 returns-4 : tie.Need-returns-4
 unfolding zeros
@@ -97,27 +52,9 @@ returns-4 c =
 
 pub format-spec : {M : Type 1} → statement M
 format-spec =
-    tie.close
-    (tie.spec
-    returns
-    returns-2
-    table-size-requires
-    sub-format
-    part-format-start
-    part-format-end
-    slice-aggregate-format
-    sub-format-2
-    part-format-start-2
-    part-format-end-2
-    format-requires
-    enum-told
-    enum-known-worked
-    number-requires
-    wide-requires
-    same-length
-    returns-3
-    same-length-2
-    returns-4)
+    tie.close (tie.spec returns returns-2 (λ c κs. search needs) (search needs) (search needs) (search needs) (search needs) (search needs)
+    (search needs) (search needs) (λ c κs. search needs) (search needs) (search needs) (λ c κs. search needs) (λ c κs. search needs) (search needs)
+    returns-3 (search needs) returns-4)
 
 pub undivided : Undivided ("layout::places::table_size" ∷ "octets::wide" ∷ "refusal::Refusal::number" ∷ "table_format::format" ∷ []) function
 undivided = refl

@@ -8,14 +8,11 @@ use Rattle.sentence_write.proofs.members.bit_of.Tie as tie
 use Rattle.octets.specs.Undivided.{Undivided}
 use Rattle.sentence_write.proofs.members.bit_of.Code.Mir.{function}
 
-shr-result : tie.Need-shr-result
-shr-result c = search needs
-
 returns : tie.Need-returns
 returns c = bit-is (c .args .mask) (c .args .i)
 
 pub bit-of-spec : {M : Type 1} → statement M
-bit-of-spec = tie.close (tie.spec shr-result returns)
+bit-of-spec = tie.close (tie.spec (λ c. search needs) returns)
 
 pub undivided : Undivided [] function
 undivided = refl

@@ -21,17 +21,8 @@ abbrev μ-loop : tie.MeasureT-loop
 loop-holds : tie.Need-loop-holds Inv-loop μ-loop
 loop-holds c = (omega arith, count-none (c .args .mask))
 
-bit-of-requires : tie.Need-bit-of-requires Inv-loop μ-loop
-bit-of-requires c κs = search needs
-
 add-n : tie.Need-add-n Inv-loop μ-loop
 add-n c = omega (arith, c .before .before .loop .inv .1, count-most (c .before .before .before .args .mask) (c .before .before .loop .i), c .bit-of .ensures .1)
-
-add-i : tie.Need-add-i Inv-loop μ-loop
-add-i c = search needs
-
-loop-less : tie.Need-loop-less Inv-loop μ-loop
-loop-less c = omega arith
 
 loop-again : tie.Need-loop-again Inv-loop μ-loop
 loop-again c = (omega arith, ap (λ (b : ℕ). c .before .before .loop .n + b) (c .bit-of .ensures .0) ∙ count-more (c .before .before .before .args .mask) (c .before .before .loop .i) (c .before .before .loop .n) (c .before .before .loop .inv .1))
@@ -40,9 +31,7 @@ returns : tie.Need-returns Inv-loop μ-loop
 returns c = let e : c .before .loop .i ≡ 32 = omega arith in c .before .loop .inv .1 ∙ ap (λ (k : ℕ). length (membersBelow k (c .before .before .args .mask))) e
 
 pub count-spec : {M : Type 1} → statement M
-count-spec =
-    tie.close
-    (tie.spec Inv-loop μ-loop loop-holds bit-of-requires add-n add-i loop-less loop-again returns)
+count-spec = tie.close (tie.spec Inv-loop μ-loop loop-holds (λ c κs. search needs) add-n (λ c. search needs) (λ c. omega arith) loop-again returns)
 
 pub undivided : Undivided ("sentence_write::members::bit_of" ∷ []) function
 undivided = refl

@@ -9,46 +9,16 @@ use Rattle.sentence_write.proofs.members.put_member.Tie as tie
 use Rattle.octets.specs.Undivided.{Undivided}
 use Rattle.sentence_write.proofs.members.put_member.Code.Mir.{function}
 
-bit-of-requires : tie.Need-bit-of-requires
-bit-of-requires c κs = search needs
-
 returns : tie.Need-returns
 returns c = none-wrote (c .before .before .before .args .all) (c .before .before .before .args .before) (c .before .before .before .args .mask) (c .before .before .before .args .i) (c .before .before .before .args .out .now) (c .before .before .before .args .at) (c .before .bit-of .result) (c .before .bit-of .ensures) (c .if1 .taken)
-
-slice-aggregate-put-number : tie.Need-slice-aggregate-put-number
-slice-aggregate-put-number c = search needs
-
-put-number-requires : tie.Need-put-number-requires
-put-number-requires c κs = search needs
-
-same-length : tie.Need-same-length
-same-length c = search needs
 
 returns-2 : tie.Need-returns-2
 unfolding ascii
 returns-2 c = comma-wrote (c .before .before .before .before .before .before .before .before .before .args .all) (c .before .before .before .before .before .before .before .before .before .args .before) (c .before .before .before .before .before .before .before .before .before .args .mask) (c .before .before .before .before .before .before .before .before .before .args .i) (c .before .before .before .before .before .before .before .before .before .args .out .now) (c .before .before .before .before .before .before .before .before .before .args .at) (c .before .before .before .before .before .before .before .bit-of .result) (c .before .before .before .before .before .before .before .bit-of .ensures) (c .before .before .before .before .before .before .if1 .left) (c .before .before .before .before .before .if2 .taken) (c .before .before .put-number .ensures)
 
-slice-aggregate-put-number-2 : tie.Need-slice-aggregate-put-number-2
-slice-aggregate-put-number-2 c = search needs
-
-put-number-requires-2 : tie.Need-put-number-requires-2
-put-number-requires-2 c κs = search needs
-
-same-length-2 : tie.Need-same-length-2
-same-length-2 c = search needs
-
 returns-3 : tie.Need-returns-3
 unfolding ascii
 returns-3 c = alone-wrote (c .before .before .before .before .before .before .before .before .before .before .args .all) (c .before .before .before .before .before .before .before .before .before .before .args .before) (c .before .before .before .before .before .before .before .before .before .before .args .mask) (c .before .before .before .before .before .before .before .before .before .before .args .i) (c .before .before .before .before .before .before .before .before .before .before .args .out .now) (c .before .before .before .before .before .before .before .before .before .before .args .at) (c .before .before .before .before .before .before .before .before .bit-of .result) (c .before .before .before .before .before .before .before .before .bit-of .ensures) (c .before .before .before .before .before .before .before .if1 .left) (c .before .before .before .before .before .before .if2 .left) (c .before .before .before .before .before .if3 .taken) (c .before .before .put-number2 .ensures)
-
-slice-aggregate-put-number-3 : tie.Need-slice-aggregate-put-number-3
-slice-aggregate-put-number-3 c = search needs
-
-put-number-requires-3 : tie.Need-put-number-requires-3
-put-number-requires-3 c κs = search needs
-
-same-length-3 : tie.Need-same-length-3
-same-length-3 c = search needs
 
 returns-4 : tie.Need-returns-4
 unfolding ascii
@@ -56,22 +26,8 @@ returns-4 c = first-wrote (c .before .before .before .before .before .before .be
 
 pub put-member-spec : {M : Type 1} → statement M
 put-member-spec =
-    tie.close
-    (tie.spec
-    bit-of-requires
-    returns
-    slice-aggregate-put-number
-    put-number-requires
-    same-length
-    returns-2
-    slice-aggregate-put-number-2
-    put-number-requires-2
-    same-length-2
-    returns-3
-    slice-aggregate-put-number-3
-    put-number-requires-3
-    same-length-3
-    returns-4)
+    tie.close (tie.spec (λ c κs. search needs) returns (λ c. search needs) (λ c κs. search needs) (λ c. search needs) returns-2 (λ c. search needs)
+    (λ c κs. search needs) (λ c. search needs) returns-3 (λ c. search needs) (λ c κs. search needs) (λ c. search needs) returns-4)
 
 pub undivided : Undivided ("sentence_write::members::bit_of" ∷ "sentence_write::pieces::put_number" ∷ []) function
 undivided = refl

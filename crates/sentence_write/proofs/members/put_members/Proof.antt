@@ -17,18 +17,6 @@ Inv-loop out₀ at mask all to₀ before₀ i₀ out to before i = Listing out�
 abbrev μ-loop : tie.MeasureT-loop
 μ-loop out₀ at mask all to₀ before₀ i₀ out to before i = 32 - i
 
-count-requires : tie.Need-count-requires Inv-loop μ-loop
-count-requires c κs = search needs
-
-slice-aggregate-put-words : tie.Need-slice-aggregate-put-words Inv-loop μ-loop
-slice-aggregate-put-words c = search needs
-
-put-words-requires : tie.Need-put-words-requires Inv-loop μ-loop
-put-words-requires c κs = search needs
-
-same-length : tie.Need-same-length Inv-loop μ-loop
-same-length c = search needs
-
 returns : tie.Need-returns Inv-loop μ-loop
 unfolding ascii
 returns c = listing-never (c .before .before .before .before .before .before .before .before .args .out .now) (c .before .before .before .before .before .before .before .before .args .at) (c .before .before .before .before .before .before .before .before .args .mask) (c .before .before .before .before .before .before .count .result) (c .before .before .before .before .before .before .count .ensures) (c .before .before .before .before .before .if1 .taken) (c .before .before .put-words .ensures)
@@ -39,17 +27,8 @@ loop-holds c = listing-none (c .before .before .before .args .out .now) (c .befo
 put-member-requires : tie.Need-put-member-requires Inv-loop μ-loop
 put-member-requires c κs = (listing-room (c .before .before .before .before .before .before .args .out .now) (c .before .before .loop .out) (c .before .before .before .before .before .before .args .at) (c .before .before .before .before .before .before .args .mask) (c .before .before .before .before .count .result) (c .before .before .loop .to) (c .before .before .loop .before) (c .before .before .loop .i) (c .before .before .before .before .before .before .pre) (c .before .loop-test .taken) (c .before .before .loop .inv), c .before .loop-test .taken)
 
-bit-of-requires : tie.Need-bit-of-requires Inv-loop μ-loop
-bit-of-requires c κs = search needs
-
 add-before : tie.Need-add-before Inv-loop μ-loop
 add-before c = omega (arith, c .before .before .before .before .before .before .loop .inv .1, count-most (c .before .before .before .before .before .before .before .before .before .before .args .mask) (c .before .before .before .before .before .before .loop .i), c .bit-of .ensures .1, c .before .before .before .before .before .before .loop .inv .0)
-
-add-i : tie.Need-add-i Inv-loop μ-loop
-add-i c = search needs
-
-loop-less : tie.Need-loop-less Inv-loop μ-loop
-loop-less c = omega arith
 
 loop-again : tie.Need-loop-again Inv-loop μ-loop
 loop-again c = listing-more (c .before .before .before .before .before .before .before .before .before .before .args .out .now) (c .before .before .before .before .before .before .loop .out) (c .before .before .before .before .before .before .before .before .before .before .args .at) (c .before .before .before .before .before .before .before .before .before .before .args .mask) (c .before .before .before .before .before .before .before .before .count .result) (c .before .before .before .before .before .before .loop .to) (c .before .before .before .before .before .before .loop .before) (c .before .before .before .before .before .before .loop .i) (c .bit-of .result) (c .before .before .before .before .before .before .before .before .before .before .pre) (c .before .before .before .before .before .loop-test .taken) (c .before .before .before .before .before .before .loop .inv) (c .before .before .before .put-member .ensures) (c .bit-of .ensures)
@@ -62,24 +41,8 @@ returns-2 c = listing-all (c .before .before .before .before .before .args .out 
 
 pub put-members-spec : {M : Type 1} → statement M
 put-members-spec =
-    tie.close
-    (tie.spec
-    Inv-loop
-    μ-loop
-    count-requires
-    slice-aggregate-put-words
-    put-words-requires
-    same-length
-    returns
-    loop-holds
-    put-member-requires
-    bit-of-requires
-    add-before
-    add-i
-    loop-less
-    loop-again
-    same-length-2
-    returns-2)
+    tie.close (tie.spec Inv-loop μ-loop (λ c κs. search needs) (λ c. search needs) (λ c κs. search needs) (λ c. search needs) returns loop-holds
+    put-member-requires (λ c κs. search needs) add-before (λ c. search needs) (λ c. omega arith) loop-again same-length-2 returns-2)
 
 pub undivided : Undivided ("sentence_write::members::bit_of" ∷ "sentence_write::members::count" ∷ "sentence_write::members::put_member" ∷ "sentence_write::pieces::put_words" ∷ []) function
 undivided = refl

@@ -10,66 +10,21 @@ use Rattle.sentence_write.proofs.pieces.put_kind_word.Tie as tie
 use Rattle.octets.specs.Undivided.{Undivided}
 use Rattle.sentence_write.proofs.pieces.put_kind_word.Code.Mir.{function}
 
-slice-aggregate-put-words : tie.Need-slice-aggregate-put-words
-slice-aggregate-put-words c = search needs
-
-put-words-requires : tie.Need-put-words-requires
-put-words-requires c κs = search needs
-
-slice-aggregate-put-words-2 : tie.Need-slice-aggregate-put-words-2
-slice-aggregate-put-words-2 c = search needs
-
-put-words-requires-2 : tie.Need-put-words-requires-2
-put-words-requires-2 c κs = search needs
-
-slice-aggregate-put-words-3 : tie.Need-slice-aggregate-put-words-3
-slice-aggregate-put-words-3 c = search needs
-
-put-words-requires-3 : tie.Need-put-words-requires-3
-put-words-requires-3 c κs = search needs
-
-slice-aggregate-put-words-4 : tie.Need-slice-aggregate-put-words-4
-slice-aggregate-put-words-4 c = search needs
-
-put-words-requires-4 : tie.Need-put-words-requires-4
-put-words-requires-4 c κs = search needs
-
-slice-aggregate-put-words-5 : tie.Need-slice-aggregate-put-words-5
-slice-aggregate-put-words-5 c = search needs
-
-put-words-requires-5 : tie.Need-put-words-requires-5
-put-words-requires-5 c κs = search needs
-
-same-length : tie.Need-same-length
-same-length c = search needs
-
 returns : tie.Need-returns
 unfolding kindWords ascii
 returns c = kind-told (c .before .before .before .before .before .before .before .args .out .now) (c .before .before .before .before .before .before .before .args .at) (c .before .before .before .before .before .before .before .args .kind) 0 (c .before .before .before .before .before .match .keys1) (c .before .before .put-words .ensures)
-
-same-length-2 : tie.Need-same-length-2
-same-length-2 c = search needs
 
 returns-2 : tie.Need-returns-2
 unfolding kindWords ascii
 returns-2 c = kind-told (c .before .before .before .before .before .before .before .args .out .now) (c .before .before .before .before .before .before .before .args .at) (c .before .before .before .before .before .before .before .args .kind) 1 (c .before .before .before .before .before .match .keys2) (c .before .before .put-words2 .ensures)
 
-same-length-3 : tie.Need-same-length-3
-same-length-3 c = search needs
-
 returns-3 : tie.Need-returns-3
 unfolding kindWords ascii
 returns-3 c = kind-told (c .before .before .before .before .before .before .before .args .out .now) (c .before .before .before .before .before .before .before .args .at) (c .before .before .before .before .before .before .before .args .kind) 2 (c .before .before .before .before .before .match .keys3) (c .before .before .put-words3 .ensures)
 
-same-length-4 : tie.Need-same-length-4
-same-length-4 c = search needs
-
 returns-4 : tie.Need-returns-4
 unfolding kindWords ascii
 returns-4 c = kind-told (c .before .before .before .before .before .before .before .args .out .now) (c .before .before .before .before .before .before .before .args .at) (c .before .before .before .before .before .before .before .args .kind) 3 (c .before .before .before .before .before .match .keys4) (c .before .before .put-words4 .ensures)
-
-same-length-5 : tie.Need-same-length-5
-same-length-5 c = search needs
 
 returns-5 : tie.Need-returns-5
 unfolding ascii
@@ -77,28 +32,9 @@ returns-5 c = kind-unknown (c .before .before .before .before .before .before .b
 
 pub put-kind-word-spec : {M : Type 1} → statement M
 put-kind-word-spec =
-    tie.close
-    (tie.spec
-    slice-aggregate-put-words
-    put-words-requires
-    slice-aggregate-put-words-2
-    put-words-requires-2
-    slice-aggregate-put-words-3
-    put-words-requires-3
-    slice-aggregate-put-words-4
-    put-words-requires-4
-    slice-aggregate-put-words-5
-    put-words-requires-5
-    same-length
-    returns
-    same-length-2
-    returns-2
-    same-length-3
-    returns-3
-    same-length-4
-    returns-4
-    same-length-5
-    returns-5)
+    tie.close (tie.spec (λ c. search needs) (λ c κs. search needs) (λ c. search needs) (λ c κs. search needs) (λ c. search needs)
+    (λ c κs. search needs) (λ c. search needs) (λ c κs. search needs) (λ c. search needs) (λ c κs. search needs) (λ c. search needs) returns
+    (λ c. search needs) returns-2 (λ c. search needs) returns-3 (λ c. search needs) returns-4 (λ c. search needs) returns-5)
 
 pub undivided : Undivided ("sentence_write::pieces::put_words" ∷ []) function
 undivided = refl

@@ -8,34 +8,14 @@ use Rattle.sentence_write.proofs.sentences.put_certificate.Tie as tie
 use Rattle.octets.specs.Undivided.{Undivided}
 use Rattle.sentence_write.proofs.sentences.put_certificate.Code.Mir.{function}
 
-put-certified-requires : tie.Need-put-certified-requires
-put-certified-requires c κs = search needs
-
-same-length : tie.Need-same-length
-same-length c = search needs
-
 returns : tie.Need-returns
 returns c = station-zero (c .before .before .before .before .before .before .args .out .now) (c .before .before .before .before .before .before .args .number) (c .before .before .before .before .before .before .args .place) (c .before .before .before .before .before .before .args .mask) (c .before .before .before .before .if1 .taken) (c .before .before .put-certified .ensures)
-
-put-certificate-refused-requires : tie.Need-put-certificate-refused-requires
-put-certificate-refused-requires c κs = search needs
-
-same-length-2 : tie.Need-same-length-2
-same-length-2 c = search needs
 
 returns-2 : tie.Need-returns-2
 returns-2 c = station-other (c .before .before .before .before .before .before .args .out .now) (c .before .before .before .before .before .before .args .number) (c .before .before .before .before .before .before .args .place) (c .before .before .before .before .before .before .args .mask) (c .before .before .before .before .if1 .left) (c .before .before .put-certificate-refused .ensures)
 
 pub put-certificate-spec : {M : Type 1} → statement M
-put-certificate-spec =
-    tie.close
-    (tie.spec
-    put-certified-requires
-    same-length
-    returns
-    put-certificate-refused-requires
-    same-length-2
-    returns-2)
+put-certificate-spec = tie.close (tie.spec (λ c κs. search needs) (λ c. search needs) returns (λ c κs. search needs) (λ c. search needs) returns-2)
 
 pub undivided : Undivided ("sentence_write::sentences::put_certificate_refused" ∷ "sentence_write::sentences::put_certified" ∷ []) function
 undivided = refl

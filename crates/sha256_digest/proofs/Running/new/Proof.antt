@@ -6,12 +6,9 @@ use borrow.Author.Needs.{needs}
 use Rattle.sha256_digest.proofs.Running.new.Statement.{statement}
 use Rattle.sha256_digest.proofs.Running.new.Tie as tie
 
-initial-requires : tie.Need-initial-requires
-initial-requires c κs = search needs
-
 returns : tie.Need-returns
 unfolding stateOf start
 returns c = let i = c .before .initial in state-eq (i .ensures .0) refl refl (i .ensures .1)
 
 pub new-spec : {M : Type 1} → statement M
-new-spec = tie.close (tie.spec initial-requires returns)
+new-spec = tie.close (tie.spec (search needs) returns)

@@ -10,26 +10,12 @@ use Rattle.refusal.specs.Unwritten.{unwritten, counts}
 use Rattle.survey_calls.proofs.close.close.Code.Mir.{function}
 use Rattle.survey_calls.proofs.close.close.Tie as tie
 
-last-reading-requires : tie.Need-last-reading-requires
-last-reading-requires c κs = search needs
-
-slice-aggregate-advance : tie.Need-slice-aggregate-advance
-slice-aggregate-advance c = search needs
-
-advance-requires : tie.Need-advance-requires
-advance-requires c κs = search needs
-
-same-length : tie.Need-same-length
-same-length c = search needs
-
 returns : tie.Need-returns
 unfolding zeros
 returns c = let a = c .before .before .before .before .before .before .before .before .args in let o = c .before .before .advance in closed-steps (a .table .now) (a .log) (a .survey .0) _ _ (a .value .now) (c .before .before .before .before .last-reading .ensures) refl (changeReply (o .result)) (changeBlocks (o .result)) (o .last .0) (o .ensures)
 
 pub close-spec : {M : Type 1} → statement M
-close-spec =
-    tie.close
-    (tie.spec last-reading-requires slice-aggregate-advance advance-requires same-length returns)
+close-spec = tie.close (tie.spec (λ c κs. search needs) (search needs) (λ c κs. search needs) (search needs) returns)
 
 -- no literal of the body becomes the count
 pub counted : unwritten counts (function .body) ≡ true

@@ -36,47 +36,11 @@ returns c = let a = c .before .before .before .before .args in let l = c .before
 returns-2 : tie.Need-returns-2 Inv-loop μ-loop
 returns-2 c = let a = c .before .before .before .before .before .args in let l = c .before .before .before .loop in free-out (strictFrom (a .old .now) (a .start) (a .slots)) (a .slots) (length-strict (a .old .now) (a .start) (a .slots)) _ (l .n) (l .last) (l .s) (l .inv .1) (c .before .before .loop-test .taken) (c .if2 .taken)
 
-strict-from-requires : tie.Need-strict-from-requires Inv-loop μ-loop
-strict-from-requires c κs = search needs
-
 returns-3 : tie.Need-returns-3 Inv-loop μ-loop
 returns-3 c = let a = c .before .before .before .before .before .before .before .before .args in let l = c .before .before .before .before .before .before .loop in free-owner (strictFrom (a .old .now) (a .start) (a .slots)) (a .slots) (length-strict (a .old .now) (a .start) (a .slots)) _ (l .n) (l .last) (l .s) (l .inv .1) (c .before .before .before .before .before .loop-test .taken) (c .before .before .strict-from .result) (c .before .before .strict-from .ensures) (c .before .before .before .if2 .left) (c .if3 .taken)
 
-sub-at : tie.Need-sub-at Inv-loop μ-loop
-sub-at c = search needs
-
-mul-at : tie.Need-mul-at Inv-loop μ-loop
-mul-at c = search needs
-
-add-at : tie.Need-add-at Inv-loop μ-loop
-add-at c = search needs
-
-add-at-2 : tie.Need-add-at-2 Inv-loop μ-loop
-add-at-2 c = search needs
-
-add-is-zero : tie.Need-add-is-zero Inv-loop μ-loop
-add-is-zero c = search needs
-
-sub-is-zero : tie.Need-sub-is-zero Inv-loop μ-loop
-sub-is-zero c = search needs
-
-part-is-zero-start : tie.Need-part-is-zero-start Inv-loop μ-loop
-part-is-zero-start c = search needs
-
-part-is-zero-end : tie.Need-part-is-zero-end Inv-loop μ-loop
-part-is-zero-end c = search needs
-
-is-zero-requires : tie.Need-is-zero-requires Inv-loop μ-loop
-is-zero-requires c κs = search needs
-
 returns-4 : tie.Need-returns-4 Inv-loop μ-loop
 returns-4 c = let a = c .before .before .before .before .before .before .before .before .before .before .before .args in let l = c .before .before .before .before .before .before .before .before .before .loop in free-dirty (strictFrom (a .old .now) (a .start) (a .slots)) (a .slots) (length-strict (a .old .now) (a .start) (a .slots)) _ (l .n) (l .last) (l .s) (l .inv .1) (c .before .before .before .before .before .before .before .before .loop-test .taken) (c .before .before .before .before .before .strict-from .result) (c .before .before .before .before .before .strict-from .ensures) (c .before .before .before .before .before .before .if2 .left) (c .before .before .before .if3 .left) (l .inv .0) (c .before .before .before .before .before .before .before .if1 .left) (c .before .is-zero .result) (c .before .is-zero .ensures ∙ blank-there (a .old .now) (a .start) (a .slots) (l .s) (c .before .before .before .before .before .before .before .before .before .before .before .pre) (omega (arith, c .before .before .before .before .before .before .before .before .loop-test .taken)) (c .before .before .before .before .before .before .if2 .left) (a .start + slotSize * (l .s - 1)) refl) (c .if4 .taken)
-
-add-n : tie.Need-add-n Inv-loop μ-loop
-add-n c = omega arith
-
-loop-less : tie.Need-loop-less Inv-loop μ-loop
-loop-less c = omega arith
 
 loop-again : tie.Need-loop-again Inv-loop μ-loop
 loop-again c = let a = c .before .before .before .before .before .before .before .before .before .before .before .args in let l = c .before .before .before .before .before .before .before .before .before .loop in (omega arith, free-on (strictFrom (a .old .now) (a .start) (a .slots)) (a .slots) (length-strict (a .old .now) (a .start) (a .slots)) _ (l .n) (l .last) (l .s) (l .inv .1) (c .before .before .before .before .before .before .before .before .loop-test .taken) (c .before .before .before .before .before .strict-from .result) (c .before .before .before .before .before .strict-from .ensures) (c .before .before .before .before .before .before .if2 .left) (c .before .before .before .if3 .left) (l .inv .0) (c .before .before .before .before .before .before .before .if1 .left) (c .before .is-zero .result) (c .before .is-zero .ensures ∙ blank-there (a .old .now) (a .start) (a .slots) (l .s) (c .before .before .before .before .before .before .before .before .before .before .before .pre) (omega (arith, c .before .before .before .before .before .before .before .before .loop-test .taken)) (c .before .before .before .before .before .before .if2 .left) (a .start + slotSize * (l .s - 1)) refl) (c .if4 .left))
@@ -86,26 +50,6 @@ returns-5 c = let a = c .before .before .before .args in let l = c .before .loop
 
 pub free01-walk-spec : {M : Type 1} → statement M
 free01-walk-spec =
-    tie.close
-    (tie.spec
-    Inv-loop
-    μ-loop
-    loop-holds
-    returns
-    returns-2
-    strict-from-requires
-    returns-3
-    sub-at
-    mul-at
-    add-at
-    add-at-2
-    add-is-zero
-    sub-is-zero
-    part-is-zero-start
-    part-is-zero-end
-    is-zero-requires
-    returns-4
-    add-n
-    loop-less
-    loop-again
-    returns-5)
+    tie.close (tie.spec Inv-loop μ-loop loop-holds returns returns-2 (search needs) returns-3 (search needs) (search needs) (search needs)
+    (search needs) (search needs) (search needs) (search needs) (search needs) (search needs) returns-4 (λ c. omega arith) (λ c. omega arith)
+    loop-again returns-5)

@@ -8,52 +8,16 @@ use Rattle.table_carry.proofs.old.header01_fits.Tie as tie
 returns : tie.Need-returns
 returns c = too-short01 (c .before .before .args .old .now) (c .if1 .taken)
 
-constants01-fit-requires : tie.Need-constants01-fit-requires
-constants01-fit-requires c κs = search needs
-
 returns-2 : tie.Need-returns-2
 returns-2 c = other-constants01 (c .before .before .before .before .args .old .now) (c .before .constants01-fit .result) (c .before .constants01-fit .ensures) (c .if2 .taken)
 
-logs-of-requires : tie.Need-logs-of-requires
-logs-of-requires c κs = search needs
-
-slots-of-requires : tie.Need-slots-of-requires
-slots-of-requires c κs = search needs
-
-in-range-requires : tie.Need-in-range-requires
-in-range-requires c κs = search needs
-
 returns-3 : tie.Need-returns-3
 returns-3 c = other-counts01 (c .before .before .before .before .before .before .before .before .args .old .now) (c .before .before .before .logs-of .result) (c .before .before .slots-of .result) (c .before .before .before .logs-of .ensures .0) (c .before .before .slots-of .ensures .0) (c .before .in-range .result) (c .before .in-range .ensures) (c .if3 .taken)
-
-mul-result : tie.Need-mul-result
-mul-result c = omega arith
-
-add-result : tie.Need-add-result
-add-result c = omega arith
-
-mul-result-2 : tie.Need-mul-result-2
-mul-result-2 c = omega arith
-
-add-result-2 : tie.Need-add-result-2
-add-result-2 c = omega arith
 
 returns-4 : tie.Need-returns-4
 returns-4 c = by-length01 (c .before .before .before .before .before .before .before .before .args .old .now) (c .before .before .before .logs-of .result) (c .before .before .slots-of .result) (c .before .before .before .logs-of .ensures .0) (c .before .before .slots-of .ensures .0) (c .before .before .before .before .before .constants01-fit .result) (c .before .in-range .result) (c .before .before .before .before .before .constants01-fit .ensures) (c .before .before .before .before .if2 .left) (c .before .in-range .ensures) (c .if3 .left)
 
 pub header01-fits-spec : {M : Type 1} → statement M
 header01-fits-spec =
-    tie.close
-    (tie.spec
-    returns
-    constants01-fit-requires
-    returns-2
-    logs-of-requires
-    slots-of-requires
-    in-range-requires
-    returns-3
-    mul-result
-    add-result
-    mul-result-2
-    add-result-2
-    returns-4)
+    tie.close (tie.spec returns (search needs) returns-2 (search needs) (search needs) (search needs) returns-3 (λ c. omega arith) (λ c. omega arith)
+    (λ c. omega arith) (λ c. omega arith) returns-4)

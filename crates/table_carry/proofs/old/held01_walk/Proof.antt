@@ -57,26 +57,11 @@ most c =
     let h = held-most (strictCells01 (a .old .now)) _ 0 (read01 (a .old .now) .rows) _ (l .held) 0 0 (l .g) (l .inv .2) (in-rows (c .before .before .before .before)) (c .before .before .before .before .row01-at .result) (c .before .before .before .before .row01-at .ensures) (c .before .count .given .0 .0) _ (found c) in
     omega (arith, strict-count01 (a .old .now), c .before .before .before .before .before .before .before .before .pre .slots-are)
 
-mul-start : tie.Need-mul-start Inv-loop μ-loop
-mul-start c = search needs
-
-add-start : tie.Need-add-start Inv-loop μ-loop
-add-start c = search needs
-
 loop-holds : tie.Need-loop-holds Inv-loop μ-loop
 loop-holds c = (omega arith, omega arith, held-first (strict01 (c .before .args .old .now)) 0)
 
-row01-at-requires : tie.Need-row01-at-requires Inv-loop μ-loop
-row01-at-requires c κs = search needs
-
 row-walk-requires : tie.Need-row-walk-requires Inv-loop μ-loop
 row-walk-requires c κs = let x = c .before .before .before .before in let a = x .args in (slotted plan01 (a .old .now) (a .logs) (a .slots) (rowOffsetIn plan01 (a .logs)) (x .pre) refl, omega (arith, c .before .loop-test .taken, x .pre .logs-most))
-
-enum-known-count : tie.Need-enum-known-count Inv-loop μ-loop
-enum-known-count c = search needs
-
-enum-told : tie.Need-enum-told Inv-loop μ-loop
-enum-told c = search needs
 
 returns : tie.Need-returns Inv-loop μ-loop
 returns c =
@@ -87,12 +72,6 @@ returns c =
 
 add-held : tie.Need-add-held Inv-loop μ-loop
 add-held c = omega (arith, most c)
-
-add-g : tie.Need-add-g Inv-loop μ-loop
-add-g c = search needs
-
-loop-less : tie.Need-loop-less Inv-loop μ-loop
-loop-less c = search needs
 
 loop-again : tie.Need-loop-again Inv-loop μ-loop
 loop-again c =
@@ -116,20 +95,5 @@ returns-2 c =
 
 pub held01-walk-spec : {M : Type 1} → statement M
 held01-walk-spec =
-    tie.close
-    (tie.spec
-    Inv-loop
-    μ-loop
-    mul-start
-    add-start
-    loop-holds
-    row01-at-requires
-    row-walk-requires
-    enum-known-count
-    enum-told
-    returns
-    add-held
-    add-g
-    loop-less
-    loop-again
-    returns-2)
+    tie.close (tie.spec Inv-loop μ-loop (search needs) (search needs) loop-holds (search needs) row-walk-requires (search needs) (search needs)
+    returns add-held (search needs) (search needs) loop-again returns-2)

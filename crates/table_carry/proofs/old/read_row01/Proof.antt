@@ -4,23 +4,9 @@ use borrow.Author.Needs.{needs}
 use Rattle.table_carry.proofs.old.read_row01.Statement.{statement}
 use Rattle.table_carry.proofs.old.read_row01.Tie as tie
 
-get-u64-requires : tie.Need-get-u64-requires
-get-u64-requires c κs = search needs
-
-get-u64-requires-2 : tie.Need-get-u64-requires-2
-get-u64-requires-2 c κs = search needs
-
-pair-at-requires : tie.Need-pair-at-requires
-pair-at-requires c κs = search needs
-
-pair-at-requires-2 : tie.Need-pair-at-requires-2
-pair-at-requires-2 c κs = search needs
-
 returns : tie.Need-returns
 unfolding readRow01
 returns c = λ i. record { low = c .before .before .before .get-u64 .ensures i; high = c .before .before .get-u642 .ensures i; first = c .before .pair-at .ensures .0 i; last = c .pair-at2 .ensures .0 i; reserve = 0 }
 
 pub read-row01-spec : {M : Type 1} → statement M
-read-row01-spec =
-    tie.close
-    (tie.spec get-u64-requires get-u64-requires-2 pair-at-requires pair-at-requires-2 returns)
+read-row01-spec = tie.close (tie.spec (search needs) (search needs) (search needs) (search needs) returns)

@@ -34,23 +34,11 @@ returns c = let a = c .before .before .before .before .args in let l = c .before
 returns-2 : tie.Need-returns-2 Inv-loop μ-loop
 returns-2 c = let a = c .before .before .before .before .before .args in let l = c .before .before .before .loop in free-out (strictFrom (a .table .now) (a .start) (a .slots)) (a .slots) (length-strict (a .table .now) (a .start) (a .slots)) _ (l .n) (l .last) (l .s) (l .inv .1) (c .before .before .loop-test .taken) (c .if2 .taken)
 
-strict-from-requires : tie.Need-strict-from-requires Inv-loop μ-loop
-strict-from-requires c κs = search needs
-
 returns-3 : tie.Need-returns-3 Inv-loop μ-loop
 returns-3 c = let a = c .before .before .before .before .before .before .before .before .args in let l = c .before .before .before .before .before .before .loop in free-owner (strictFrom (a .table .now) (a .start) (a .slots)) (a .slots) (length-strict (a .table .now) (a .start) (a .slots)) _ (l .n) (l .last) (l .s) (l .inv .1) (c .before .before .before .before .before .loop-test .taken) (c .before .before .strict-from .result) (c .before .before .strict-from .ensures) (c .before .before .before .if2 .left) (c .if3 .taken)
 
-blank-from-requires : tie.Need-blank-from-requires Inv-loop μ-loop
-blank-from-requires c κs = search needs
-
 returns-4 : tie.Need-returns-4 Inv-loop μ-loop
 returns-4 c = let a = c .before .before .before .before .before .before .before .before .before .before .args in let l = c .before .before .before .before .before .before .before .before .loop in free-dirty (strictFrom (a .table .now) (a .start) (a .slots)) (a .slots) (length-strict (a .table .now) (a .start) (a .slots)) _ (l .n) (l .last) (l .s) (l .inv .1) (c .before .before .before .before .before .before .before .loop-test .taken) (c .before .before .before .before .strict-from .result) (c .before .before .before .before .strict-from .ensures) (c .before .before .before .before .before .if2 .left) (c .before .before .if3 .left) (l .inv .0) (c .before .before .before .before .before .before .if1 .left) (c .before .blank-from .result) (c .before .blank-from .ensures) (c .if4 .taken)
-
-add-n : tie.Need-add-n Inv-loop μ-loop
-add-n c = omega arith
-
-loop-less : tie.Need-loop-less Inv-loop μ-loop
-loop-less c = omega arith
 
 loop-again : tie.Need-loop-again Inv-loop μ-loop
 loop-again c = let a = c .before .before .before .before .before .before .before .before .before .before .args in let l = c .before .before .before .before .before .before .before .before .loop in (omega arith, free-on (strictFrom (a .table .now) (a .start) (a .slots)) (a .slots) (length-strict (a .table .now) (a .start) (a .slots)) _ (l .n) (l .last) (l .s) (l .inv .1) (c .before .before .before .before .before .before .before .loop-test .taken) (c .before .before .before .before .strict-from .result) (c .before .before .before .before .strict-from .ensures) (c .before .before .before .before .before .if2 .left) (c .before .before .if3 .left) (l .inv .0) (c .before .before .before .before .before .before .if1 .left) (c .before .blank-from .result) (c .before .blank-from .ensures) (c .if4 .left))
@@ -60,18 +48,5 @@ returns-5 c = let a = c .before .before .before .args in let l = c .before .loop
 
 pub free-walk-spec : {M : Type 1} → statement M
 free-walk-spec =
-    tie.close
-    (tie.spec
-    Inv-loop
-    μ-loop
-    loop-holds
-    returns
-    returns-2
-    strict-from-requires
-    returns-3
-    blank-from-requires
-    returns-4
-    add-n
-    loop-less
-    loop-again
-    returns-5)
+    tie.close (tie.spec Inv-loop μ-loop loop-holds returns returns-2 (search needs) returns-3 (search needs) returns-4 (λ c. omega arith)
+    (λ c. omega arith) loop-again returns-5)

@@ -26,14 +26,8 @@ Inv-loop table logs slots log start held₀ lack₀ others₀ g₀ held lack oth
 abbrev μ-loop : tie.MeasureT-loop
 μ-loop table logs slots log start held₀ lack₀ others₀ g₀ held lack others g = logs - g
 
-row-offset-requires : tie.Need-row-offset-requires Inv-loop μ-loop
-row-offset-requires c κs = search needs
-
 loop-holds : tie.Need-loop-holds Inv-loop μ-loop
 loop-holds c = let a = c .before .before .args in (omega arith, omega arith, omega arith, omega arith, held-first (strictTable (a .table .now)) (a .log))
-
-row-at-requires : tie.Need-row-at-requires Inv-loop μ-loop
-row-at-requires c κs = search needs
 
 -- the slots start behind the rows
 slots-there : (c : tie.After-row-at Inv-loop μ-loop) → Slotted (c .before .before .before .before .before .args .table .now) (c .before .before .before .row-offset .result) (c .before .before .before .before .before .args .slots)
@@ -50,17 +44,8 @@ along c =
 row-walk-requires : tie.Need-row-walk-requires Inv-loop μ-loop
 row-walk-requires c κs = (slots-there c, omega (arith, c .before .loop-test .taken, c .before .before .before .before .before .pre .logs-most))
 
-enum-known-count : tie.Need-enum-known-count Inv-loop μ-loop
-enum-known-count c = search needs
-
-enum-told : tie.Need-enum-told Inv-loop μ-loop
-enum-told c = search needs
-
 returns : tie.Need-returns Inv-loop μ-loop
 returns c = let x = c .before .before .before .before .before .before .before .before in let a = x .args in let l = c .before .before .before .before .before .loop in held-stop (strictCells (a .table .now)) _ (a .log) (readTable (a .table .now) .rows) _ (l .held) (l .lack) (l .others) (l .g) (l .inv .4) (omega (arith, c .before .before .before .before .loop-test .taken, length-rows (a .table .now), x .pre .logs-are)) (c .before .before .before .row-at .result) (c .before .before .before .row-at .ensures) (sym (c .enum-told .given .1) ∙ c .before .before .row-walk .ensures ∙ along (c .before .before .before))
-
-lacking-requires : tie.Need-lacking-requires Inv-loop μ-loop
-lacking-requires c κs = search needs
 
 -- a row's slots are no more than the table has
 most : (c : tie.After-lacking Inv-loop μ-loop) → c .before .before .count .given .0 .0 ≤ c .before .before .before .before .before .before .before .before .before .before .args .slots
@@ -84,17 +69,8 @@ add-held c = omega (arith, most c)
 add-lack : tie.Need-add-lack Inv-loop μ-loop
 add-lack c = omega (arith, few c)
 
-unless-own-requires : tie.Need-unless-own-requires Inv-loop μ-loop
-unless-own-requires c κs = search needs
-
 add-others : tie.Need-add-others Inv-loop μ-loop
 add-others c = omega (arith, few (c .before), own-most (c .before .before .before .before .before .before .before .before .loop .g) (c .before .before .before .before .before .before .before .before .before .before .before .args .log) (c .before .lacking .result) (c .unless-own .ensures))
-
-add-g : tie.Need-add-g Inv-loop μ-loop
-add-g c = search needs
-
-loop-less : tie.Need-loop-less Inv-loop μ-loop
-loop-less c = search needs
 
 loop-again : tie.Need-loop-again Inv-loop μ-loop
 loop-again c = let x = c .before .before .before .before .before .before .before .before .before .before .before in let a = x .args in let l = c .before .before .before .before .before .before .before .before .loop in let h : l .g < length (readTable (a .table .now) .rows) = omega (arith, c .before .before .before .before .before .before .before .loop-test .taken, length-rows (a .table .now), x .pre .logs-are) in (omega (arith, c .before .before .before .before .before .before .before .loop-test .taken), omega (arith, most (c .before)), omega (arith, few (c .before)), omega (arith, few (c .before), own-most (l .g) (a .log) (c .before .lacking .result) (c .unless-own .ensures)), held-on (strictCells (a .table .now)) _ (a .log) (readTable (a .table .now) .rows) _ (l .held) (l .lack) (l .others) (l .g) (l .inv .4) h (c .before .before .before .before .before .before .row-at .result) (c .before .before .before .before .before .before .row-at .ensures) (c .before .before .before .count .given .0 .0) _ (sym (c .before .before .before .count .given .1) ∙ c .before .before .before .before .before .row-walk .ensures ∙ along (c .before .before .before .before .before .before)) (λ e. omega arith) (c .before .lacking .result) (c .unless-own .result) (c .before .lacking .ensures) (c .unless-own .ensures))
@@ -104,23 +80,5 @@ returns-2 c = let x = c .before .before .before .before in let a = x .args in le
 
 pub held-walk-spec : {M : Type 1} → statement M
 held-walk-spec =
-    tie.close
-    (tie.spec
-    Inv-loop
-    μ-loop
-    row-offset-requires
-    loop-holds
-    row-at-requires
-    row-walk-requires
-    enum-known-count
-    enum-told
-    returns
-    lacking-requires
-    add-held
-    add-lack
-    unless-own-requires
-    add-others
-    add-g
-    loop-less
-    loop-again
-    returns-2)
+    tie.close (tie.spec Inv-loop μ-loop (search needs) loop-holds (search needs) row-walk-requires (search needs) (search needs) returns
+    (search needs) add-held add-lack (search needs) add-others (search needs) (search needs) loop-again returns-2)

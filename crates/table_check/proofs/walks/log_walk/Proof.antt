@@ -22,9 +22,6 @@ Inv-loop table start slots g row s₀ n₀ floor₀ last₀ s n floor last =
 abbrev μ-loop : tie.MeasureT-loop
 μ-loop table start slots g row s₀ n₀ floor₀ last₀ s n floor last = slots - n
 
-sub-floor : tie.Need-sub-floor Inv-loop μ-loop
-sub-floor c = search needs
-
 loop-holds : tie.Need-loop-holds Inv-loop μ-loop
 loop-holds c = let x = c .before .before in let a = x .args in let S : List Slot = strictFrom (a .table .now) (a .start) (a .slots) in (omega arith, log-first S (a .row) (a .g) (x .pre .1 .1 .0) (x .pre .1 .1 .1) ∙ ap (λ (k : ℕ). logRest S (a .row) 0 (a .row .low - 1) 0 (walk S (suc (a .g)) k (a .row .first))) (none-met (a .table .now) (a .start) (a .slots)))
 
@@ -34,12 +31,6 @@ returns c = let a = c .before .before .before .before .before .args in let l = c
 returns-2 : tie.Need-returns-2 Inv-loop μ-loop
 returns-2 c = let a = c .before .before .before .before .before .before .args in let l = c .before .before .before .loop in log-out (strictFrom (a .table .now) (a .start) (a .slots)) (a .row) (a .g) (a .slots) (length-strict (a .table .now) (a .start) (a .slots)) _ (l .n) (l .floor) (l .last) (l .s) (l .inv .1) (c .before .before .loop-test .taken) (c .if2 .taken)
 
-strict-from-requires : tie.Need-strict-from-requires Inv-loop μ-loop
-strict-from-requires c κs = search needs
-
-add-if3 : tie.Need-add-if3 Inv-loop μ-loop
-add-if3 c = search needs
-
 returns-3 : tie.Need-returns-3 Inv-loop μ-loop
 returns-3 c = let p9 = c .before .before .before .before .before .before .before .before .before in
     let a = p9 .args in let l = c .before .before .before .before .before .before .loop in log-owner (strictFrom (a .table .now) (a .start) (a .slots)) (a .row) (a .g) (a .slots) (length-strict (a .table .now) (a .start) (a .slots)) _ (l .n) (l .floor) (l .last) (l .s) (l .inv .1) (c .before .before .before .before .before .loop-test .taken) (c .before .before .strict-from .result) (c .before .before .strict-from .ensures) (c .before .before .before .if2 .left) (c .if3 .taken)
@@ -47,12 +38,6 @@ returns-3 c = let p9 = c .before .before .before .before .before .before .before
 returns-4 : tie.Need-returns-4 Inv-loop μ-loop
 returns-4 c = let p11 = c .before .before .before .before .before .before .before .before .before .before .before in
     let a = p11 .args in let l = c .before .before .before .before .before .before .before .before .loop in log-low (strictFrom (a .table .now) (a .start) (a .slots)) (a .row) (a .g) (a .slots) (length-strict (a .table .now) (a .start) (a .slots)) _ (l .n) (l .floor) (l .last) (l .s) (l .inv .1) (c .before .before .before .before .before .before .before .loop-test .taken) (c .before .before .before .before .strict-from .result) (c .before .before .before .before .strict-from .ensures) (c .before .before .before .before .before .if2 .left) (c .before .before .if3 .left) (l .inv .0) (c .before .before .before .before .before .before .if1 .left) (c .if4 .taken)
-
-add-n : tie.Need-add-n Inv-loop μ-loop
-add-n c = omega arith
-
-loop-less : tie.Need-loop-less Inv-loop μ-loop
-loop-less c = omega arith
 
 loop-again : tie.Need-loop-again Inv-loop μ-loop
 loop-again c = let p11 = c .before .before .before .before .before .before .before .before .before .before .before in
@@ -71,21 +56,5 @@ returns-7 c = let p8 = c .before .before .before .before .before .before .before
 
 pub log-walk-spec : {M : Type 1} → statement M
 log-walk-spec =
-    tie.close
-    (tie.spec
-    Inv-loop
-    μ-loop
-    sub-floor
-    loop-holds
-    returns
-    returns-2
-    strict-from-requires
-    add-if3
-    returns-3
-    returns-4
-    add-n
-    loop-less
-    loop-again
-    returns-5
-    returns-6
-    returns-7)
+    tie.close (tie.spec Inv-loop μ-loop (search needs) loop-holds returns returns-2 (search needs) (search needs) returns-3 returns-4
+    (λ c. omega arith) (λ c. omega arith) loop-again returns-5 returns-6 returns-7)

@@ -5,23 +5,11 @@ use borrow.Author.Needs.{needs}
 use Rattle.workload.proofs.generator.pick.Statement.{statement}
 use Rattle.workload.proofs.generator.pick.Tie as tie
 
-next-requires : tie.Need-next-requires
-next-requires c κs = search needs
-
-next-requires-2 : tie.Need-next-requires-2
-next-requires-2 c κs = search needs
-
 returns : tie.Need-returns
 returns c = pick-end (c .before .before .before .args .state) (c .before .before .next .result) (c .before .next2 .result) (c .before .before .next .ensures) (c .before .next2 .ensures) (c .if1 .taken)
 
-next-requires-3 : tie.Need-next-requires-3
-next-requires-3 c κs = search needs
-
 returns-2 : tie.Need-returns-2
 returns-2 c = pick-append (c .before .before .before .before .before .args .state) (c .before .before .before .before .next .result) (c .before .before .before .next2 .result) (c .before .before .before .before .next .ensures) (c .before .before .before .next2 .ensures) (c .before .next3 .result) (c .before .next3 .ensures) (omega arith)
-
-add-position : tie.Need-add-position
-add-position c = search needs
 
 returns-3 : tie.Need-returns-3
 returns-3 c = pick-truncate (c .before .before .before .before .before .before .args .state) (c .before .before .before .before .before .next .result) (c .before .before .before .before .next2 .result) (c .before .before .before .before .before .next .ensures) (c .before .before .before .before .next2 .ensures) (c .before .before .next3 .result) (c .before .before .next3 .ensures) (c .if3 .taken)
@@ -29,14 +17,10 @@ returns-3 c = pick-truncate (c .before .before .before .before .before .before .
 returns-4 : tie.Need-returns-4
 returns-4 c = pick-lookup (c .before .before .before .before .before .before .before .args .state) (c .before .before .before .before .before .before .next .result) (c .before .before .before .before .before .next2 .result) (c .before .before .before .before .before .before .next .ensures) (c .before .before .before .before .before .next2 .ensures) (c .before .before .before .next3 .result) (c .before .before .before .next3 .ensures) (c .if4 .taken)
 
-next-requires-4 : tie.Need-next-requires-4
-next-requires-4 c κs = search needs
-
-next-requires-5 : tie.Need-next-requires-5
-next-requires-5 c κs = search needs
-
 returns-5 : tie.Need-returns-5
 returns-5 c = pick-advance (c .before .before .before .before .before .before .before .before .before .args .state) (c .before .before .before .before .before .before .before .before .next .result) (c .before .before .before .before .before .before .before .next2 .result) (c .before .before .before .before .before .before .before .before .next .ensures) (c .before .before .before .before .before .before .before .next2 .ensures) (c .before .before .before .before .before .next3 .result) (c .before .before .before .before .before .next3 .ensures) (c .before .next4 .result) (c .next5 .result) (c .before .next4 .ensures) (c .next5 .ensures) (omega arith)
 
 pub pick-spec : {M : Type 1} → statement M
-pick-spec = tie.close (tie.spec next-requires next-requires-2 returns next-requires-3 returns-2 add-position returns-3 returns-4 next-requires-4 next-requires-5 returns-5)
+pick-spec =
+    tie.close (tie.spec (search needs) (search needs) returns (search needs) returns-2 (search needs) returns-3 returns-4 (search needs)
+    (search needs) returns-5)

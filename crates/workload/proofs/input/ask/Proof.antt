@@ -19,12 +19,6 @@ use Rattle.workload.proofs.input.ask.Code.Mir.{function}
 returns : tie.Need-returns
 returns c = sym (asked-long (c .before .before .args .text .now) (omega arith))
 
-find-requires : tie.Need-find-requires
-find-requires c κs = search needs
-
-add-if2 : tie.Need-add-if2
-add-if2 c = search needs
-
 returns-2 : tie.Need-returns-2
 returns-2 c =
     let t : List ℕ = c .before .before .before .before .args .text .now in
@@ -42,18 +36,9 @@ returns-3 c =
 slice-aggregate-numbers : tie.Need-slice-aggregate-numbers
 slice-aggregate-numbers c = sym (length-take-le (c .before .before .before .find .result) (c .before .before .before .before .before .before .args .text .now) (omega arith))
 
-slice-aggregate-numbers-2 : tie.Need-slice-aggregate-numbers-2
-slice-aggregate-numbers-2 c = search needs
-
 numbers-requires : tie.Need-numbers-requires
 unfolding zeros
 numbers-requires c κs = (omega arith, refl)
-
-enum-known-n : tie.Need-enum-known-n
-enum-known-n c = search needs
-
-enum-told : tie.Need-enum-told
-enum-told c = search needs
 
 returns-4 : tie.Need-returns-4
 returns-4 c =
@@ -64,15 +49,6 @@ returns-4 c =
     let o : Option (List ℕ) = numbersOf (fieldsOf (take (f .result) t)) in
     let l : o ≡ numbersOf (fieldsOf (upTo 10 t)) = ap (λ (x : List ℕ). numbersOf (fieldsOf x)) (first-line t (f .result) e) in
     not-numbers t (omega arith) (omega arith) (sym l ∙ counted-not o (m .result) (m .ensures .0) (c .enum-told .given .1))
-
-array-read-seed : tie.Need-array-read-seed
-array-read-seed c = search needs
-
-array-read-count : tie.Need-array-read-count
-array-read-count c = search needs
-
-asked-by-requires : tie.Need-asked-by-requires
-asked-by-requires c κs = search needs
 
 returns-5 : tie.Need-returns-5
 returns-5 c =
@@ -100,24 +76,8 @@ returns-6 c =
 
 pub ask-spec : {M : Type 1} → statement M
 ask-spec =
-    tie.close
-    (tie.spec
-    returns
-    find-requires
-    add-if2
-    returns-2
-    returns-3
-    slice-aggregate-numbers
-    slice-aggregate-numbers-2
-    numbers-requires
-    enum-known-n
-    enum-told
-    returns-4
-    array-read-seed
-    array-read-count
-    asked-by-requires
-    returns-5
-    returns-6)
+    tie.close (tie.spec returns (search needs) (search needs) returns-2 returns-3 slice-aggregate-numbers (search needs) numbers-requires
+    (search needs) (search needs) returns-4 (search needs) (search needs) (search needs) returns-5 returns-6)
 
 pub undivided : Undivided ("line::fields::find" ∷ "line::fields::numbers" ∷ "workload::input::asked_by" ∷ []) function
 undivided = refl

@@ -16,11 +16,11 @@ unless (some k) b o = effect (refused k) 0 b
 
 -- "survey times 2^40 plus reading"; "Closing a survey advances its log to that survey's reading 2^40 − 1 with a zero digest and a given value"; "Turned away:
 -- 18 "survey", a number too wide for its part, tested after 7 and before 1"
-abbrev pub bookStep : Rules → Model → Request → Effect Model
-bookStep ru b (plain c) = modelStep ru b c
-bookStep ru b (advances g s r d x) =
+abbrev pub modelRequest : Rules → Model → Request → Effect Model
+modelRequest ru b (plain c) = modelStep ru b c
+modelRequest ru b (advances g s r d x) =
     unless (refuse 7 (not32 d || not32 x) (refuse 18 (leb (2 ^ 24) s || leb (2 ^ 40) r) none)) b (modelStep ru b (advance g (s * 2 ^ 40 + r) d x))
-bookStep ru b (looks g s r c k) =
+modelRequest ru b (looks g s r c k) =
     unless (refuse 7 (not32 c || not (eqb k 160)) (refuse 18 (leb (2 ^ 24) s || leb (2 ^ 40) r) none)) b (modelStep ru b (lookup g (s * 2 ^ 40 + r) c k))
-bookStep ru b (closes g s x) =
+modelRequest ru b (closes g s x) =
     unless (refuse 7 (not32 x) (refuse 18 (leb (2 ^ 24) s) none)) b (modelStep ru b (advance g (s * 2 ^ 40 + (2 ^ 40 - 1)) (replicate 32 0) x))

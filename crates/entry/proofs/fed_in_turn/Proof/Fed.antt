@@ -37,7 +37,7 @@ use Rattle.sha256_digest.proofs.Absorb.{Takes}
 use Rattle.sha256_digest.proofs.Running as T
 use Rattle.entry.proofs.feed as feed
 use Rattle.entry.proofs.feed.Symbol.{name as #entry·feed}
-use Rattle.entry.proofs.entry_digest.Proof.Lent.{lends-local, local-back}
+use Rattle.entry.proofs.fed_in_turn.Proof.Lent.{lends-local, local-back}
 
 abbrev pub R : RattleType
 R = T.the-row
