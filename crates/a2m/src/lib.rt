@@ -1,5 +1,6 @@
 // The five calls of an attested append-only memory on a lent table (append, advance, truncate, lookup, end): what each does
 // to an image and to bytes, and what it answers. No code.
+#![tactic(auto)]
 
 use layout::Row;
 use refusal::Refusal;

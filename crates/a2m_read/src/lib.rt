@@ -1,3 +1,4 @@
 // Lookup and end: receipts of what a log holds.
+#![tactic(auto)]
 pub mod end;
 pub mod lookup;

@@ -1,4 +1,5 @@
 // A line's fields: numbers, and bytes in slots of a store.
+#![tactic(auto)]
 ghost use Rattle.std.specs.Prelude.{◌+◌, ◌≤◌, ◌≡◌, length};
 
 use decimal::Number;

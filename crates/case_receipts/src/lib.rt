@@ -1,4 +1,5 @@
 // The cases' lines on receipts, certificates and runs: each carries out a call, and prints its answer.
+#![tactic(auto)]
 mod comparing;
 mod receipts;
 

@@ -1,4 +1,5 @@
 // What is printed of an answer.
+#![tactic(auto)]
 use bigendian::{get_u64, put_u64};
 use line_fields::find;
 use octets::wide;

@@ -1,4 +1,5 @@
 // The cases' lines on tables: each carries out a call, and prints its answer.
+#![tactic(auto)]
 mod surveys;
 mod tables;
 

@@ -41,6 +41,7 @@
 //                                          the same for the first contradicting pair
 // compare START FIRST VALUES START FIRST VALUES SLOT SIZE
 //                                          two runs, and the slot whose first bytes are lent
+#![tactic(auto)]
 ghost use Rattle.std.specs.Prelude.{◌≤◌, length};
 
 use case_fields::{Values, parse, place, slot, slot_mut};

@@ -1,4 +1,5 @@
 // The script program (document 01): answers the script on standard input, or says how it is used.
+#![tactic(auto)]
 use libc::STDOUT_FILENO;
 
 fn usage() {

@@ -1,4 +1,5 @@
 // What a script line says, and the columns of an answer line.
+#![tactic(auto)]
 
 // What a script line says. A format's reserves stand beside it, in `Line`: an enum that holds an array is not covered.
 #[derive(Drop)]

@@ -1,7 +1,7 @@
 -- Tests that are true or false: conjunctions and disjunctions taken apart and put together.
 use Prim.Native.Nat.{ℕ}
-use mathlib.Core.Path.{◌≡◌, refl, sym, ap, ◌∙◌}
-use mathlib.Core.Bool.{Bool, true, false, not, ◌&&◌, ◌||◌}
+use mathlib.Core.Path.{◌≡◌, refl}
+use mathlib.Core.Bool.{Bool, true, false, ◌&&◌, ◌||◌}
 use mathlib.Core.Logic.{◌⊎◌}
 use mathlib.Core.Logic.◌⊎◌.{inl, inr}
 use native.Mathlib.Omega.{arith}

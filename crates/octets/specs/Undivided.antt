@@ -4,7 +4,7 @@
 -- itself, or stands on the short list of `.ci/undivided`, which sees to that.
 use Rattle.std.specs.Prelude.{◌≡◌, Bool, true, false, ◌&&◌, ◌||◌, List, [], ◌∷◌}
 use lib.Text.{eqt}
-use mir.Syntax.{Name, Op2, add, sub, mul, div, rem, bit_and, bit_or, bit_xor, shl, shr, eq, ne, lt, le, with_addr, offset, ptr_eq, ptr_ne, ptr_lt, ptr_le, float_add, float_sub, float_mul, float_div, float_rem, float_eq, float_ne, float_lt, float_le, Rv, rv_opd, op2, op1, addr_of, aggregate, repeat, Body, skip, seq, assign, block, loop, cond, switch, exit, return, call, Arms, arm, default, no_default, Fn}
+use mir.Syntax.{Symbol, Dict, Dicts, impl, given, dnil, dcons, Callee, fn, method, forked, awaited, prim, Op2, add, sub, mul, div, rem, bit_and, bit_or, bit_xor, shl, shr, eq, ne, lt, le, with_addr, offset, ptr_eq, ptr_ne, ptr_lt, ptr_le, float_add, float_sub, float_mul, float_div, float_rem, float_eq, float_ne, float_lt, float_le, wrap_add, wrap_sub, wrap_mul, map2, mask, shuffle, swizzle, fold, dot4, Rv, rv_opd, op2, op1, addr_of, aggregate, repeat, repeat_p, select, Body, skip, seq, assign, block, loop, cond, switch, exit, return, call, unreachable, call_v, lend_static, Arms, arm, default, no_default, Fn}
 
 -- an operation that is no division and no remainder
 abbrev pub plain_op : Op2 → Bool
@@ -37,6 +37,15 @@ plain_op float_eq = true
 plain_op float_ne = true
 plain_op float_lt = true
 plain_op float_le = true
+plain_op wrap_add = true
+plain_op wrap_sub = true
+plain_op wrap_mul = true
+plain_op (map2 o) = plain_op o
+plain_op (mask o) = plain_op o
+plain_op (shuffle ns) = true
+plain_op (swizzle n) = true
+plain_op (fold o) = plain_op o
+plain_op dot4 = true
 
 abbrev pub plain_rv : Rv → Bool
 plain_rv (rv_opd o) = true
@@ -45,14 +54,38 @@ plain_rv (op1 o a) = true
 plain_rv (addr_of p) = true
 plain_rv (aggregate os) = true
 plain_rv (repeat o n) = true
+plain_rv (repeat_p o n) = true
+plain_rv (select a b c) = true
 
-abbrev pub among : List Name → Name → Bool
+abbrev pub among : List Symbol → Symbol → Bool
 among [] f = false
 among (g ∷ gs) f = eqt g f || among gs f
 
+abbrev pub all_among : List Symbol → List Symbol → Bool
+all_among fs [] = true
+all_among fs (g ∷ gs) = among fs g && all_among fs gs
+
+-- what answers for a bound: methods of these names, or what the caller handed over
+abbrev mutual
+  pub plain_dict : List Symbol → Dict → Bool
+  plain_dict fs (impl ms ts ds) = all_among fs ms && plain_dicts fs ds
+  plain_dict fs (given n) = true
+
+  pub plain_dicts : List Symbol → Dicts → Bool
+  plain_dicts fs dnil = true
+  plain_dicts fs (dcons d ds) = plain_dict fs d && plain_dicts fs ds
+
+-- a function of these names, in this thread
+abbrev pub plain_callee : List Symbol → Callee → Bool
+plain_callee fs (fn f a) = among fs f && plain_dicts fs a.1
+plain_callee fs (method d n a) = plain_dict fs d && plain_dicts fs a.1
+plain_callee fs (forked ts f) = false
+plain_callee fs (awaited ts) = false
+plain_callee fs (prim a) = false
+
 abbrev mutual
   -- no statement divides, and every call is of one of these functions
-  pub plain : List Name → Body → Bool
+  pub plain : List Symbol → Body → Bool
   plain fs skip = true
   plain fs (seq a b) = plain fs a && plain fs b
   plain fs (assign p r) = plain_rv r
@@ -62,13 +95,16 @@ abbrev mutual
   plain fs (switch o rest) = plain_arms fs rest
   plain fs (exit n) = true
   plain fs return = true
-  plain fs (call f os p) = among fs f
+  plain fs (call f os p) = plain_callee fs f
+  plain fs unreachable = true
+  plain fs (call_v f s os p) = false
+  plain fs (lend_static p t c) = true
 
-  pub plain_arms : List Name → Arms → Bool
+  pub plain_arms : List Symbol → Arms → Bool
   plain_arms fs (arm ks b rest) = plain fs b && plain_arms fs rest
   plain_arms fs (default b) = plain fs b
   plain_arms fs no_default = true
 
 -- the code of f does not divide, and calls these functions alone
-abbrev pub Undivided : List Name → Fn → Type 0
+abbrev pub Undivided : List Symbol → Fn → Type 0
 Undivided fs f = plain fs f.body ≡ true

@@ -1,4 +1,6 @@
 // Byte slices: equality, zero bytes, and a copy into a part of a lent slice.
+#![tactic(auto)]
+
 ghost use Rattle.std.specs.Prelude.{◌≡◌, ◌+◌, ◌≤◌, ◌<◌, length};
 ghost use Rattle.octets.specs.Octets.{splice, same, zeros};
 

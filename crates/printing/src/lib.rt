@@ -1,4 +1,5 @@
 // What the test programs print with, on standard output: texts, decimal numbers, and bytes in hexadecimal.
+#![tactic(auto)]
 ghost use Rattle.std.specs.Prelude.{◌≡◌, ◌<◌};
 ghost use Rattle.printing.specs.Hex.{hex_digit, hex_pair};
 

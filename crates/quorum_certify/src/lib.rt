@@ -1,4 +1,5 @@
 // The verdict on a certificate: the refusals, the tally, and the first place whose pair is certified.
+#![tactic(auto)]
 mod places;
 
 ghost use Rattle.std.specs.Prelude.{◌≡◌};

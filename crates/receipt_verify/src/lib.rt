@@ -1,4 +1,5 @@
 // The verifier of receipts.
+#![tactic(auto)]
 mod answers;
 mod possible;
 

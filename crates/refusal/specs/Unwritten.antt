@@ -3,7 +3,7 @@
 -- `unwritten` has no literal of these values, so none that could become the count. Not shut out: a count computed from larger
 -- literals, or had from another function; so each function that passes a count on has a fact `counted` of its own.
 use Rattle.std.specs.Prelude.{ℕ, ◌-◌, ◌^◌, Bool, true, false, not, ◌&&◌, ◌||◌, List, [], ◌∷◌, eqb}
-use mir.Syntax.{Width, w8, w16, w32, w64, w128, Opd, copy, int, int_neg, int_big, float, opd_true, opd_false, opd_unit, ptr_const, Op1, bit_not, cast, ptr_addr, count_leading_zeros, count_trailing_zeros, count_ones, float_neg, float_to_int, int_to_float, float_to_float, float_to_bits, float_from_bits, Rv, rv_opd, op2, op1, addr_of, aggregate, repeat, Body, skip, seq, assign, block, loop, cond, switch, exit, return, call, Arms, arm, default, no_default}
+use mir.Syntax.{Width, w8, w16, w32, w64, w128, Opd, copy, int, int_neg, int_big, float, opd_true, opd_false, opd_unit, ptr_const, size_of, align_of, num_of, fn_addr, vtable, Op1, bit_not, cast, ptr_addr, count_leading_zeros, count_trailing_zeros, count_ones, float_neg, float_sqrt, float_to_int, int_to_float, float_to_float, float_to_bits, float_from_bits, vt_method, vt_size, vt_align, map1, recast, bitmask, Rv, rv_opd, op2, op1, addr_of, aggregate, repeat, repeat_p, select, Body, skip, seq, assign, block, loop, cond, switch, exit, return, call, unreachable, call_v, lend_static, Arms, arm, default, no_default}
 
 -- the counts of an entry and of a tag, 2 and 6, and the numbers between, so that no sum of two such literals is 6
 abbrev pub counts : List ℕ
@@ -21,7 +21,7 @@ count_wide w32 = false
 count_wide w64 = true
 count_wide w128 = false
 
--- no literal u64 of these values, also none written as 2 ^ 64 - k, and no literal pointer at all
+-- no literal u64 of these values, also none written as 2 ^ 64 - k, and no literal pointer, size or number of a type at all
 abbrev pub unwritten_opd : List ℕ → Opd → Bool
 unwritten_opd ns (copy p) = true
 unwritten_opd ns (int w n) = not (count_wide w && among ns n)
@@ -32,6 +32,11 @@ unwritten_opd ns opd_true = true
 unwritten_opd ns opd_false = true
 unwritten_opd ns opd_unit = true
 unwritten_opd ns (ptr_const n) = false
+unwritten_opd ns (size_of t) = false
+unwritten_opd ns (align_of t) = false
+unwritten_opd ns (num_of w t) = false
+unwritten_opd ns (fn_addr f s) = false
+unwritten_opd ns (vtable t s) = false
 
 abbrev pub unwritten_all : List ℕ → List Opd → Bool
 unwritten_all ns [] = true
@@ -51,6 +56,13 @@ unwidened (int_to_float s f) = true
 unwidened (float_to_float f) = true
 unwidened float_to_bits = false
 unwidened (float_from_bits f) = true
+unwidened float_sqrt = true
+unwidened (vt_method n) = false
+unwidened vt_size = false
+unwidened vt_align = false
+unwidened (map1 o) = unwidened o
+unwidened (recast w) = not (count_wide w)
+unwidened (bitmask w) = not (count_wide w)
 
 abbrev pub unwritten_rv : List ℕ → Rv → Bool
 unwritten_rv ns (rv_opd o) = unwritten_opd ns o
@@ -59,6 +71,8 @@ unwritten_rv ns (op1 f a) = unwidened f && unwritten_opd ns a
 unwritten_rv ns (addr_of p) = true
 unwritten_rv ns (aggregate os) = unwritten_all ns os
 unwritten_rv ns (repeat o n) = unwritten_opd ns o
+unwritten_rv ns (repeat_p o n) = unwritten_opd ns o
+unwritten_rv ns (select a b c) = unwritten_opd ns a && (unwritten_opd ns b && unwritten_opd ns c)
 
 abbrev mutual
   pub unwritten : List ℕ → Body → Bool
@@ -72,6 +86,9 @@ abbrev mutual
   unwritten ns (exit n) = true
   unwritten ns return = true
   unwritten ns (call f os p) = unwritten_all ns os
+  unwritten ns unreachable = true
+  unwritten ns (call_v f s os p) = unwritten_opd ns f && unwritten_all ns os
+  unwritten ns (lend_static p t c) = false
 
   pub unwritten_arms : List ℕ → Arms → Bool
   unwritten_arms ns (arm ks b rest) = unwritten ns b && unwritten_arms ns rest

@@ -1,4 +1,5 @@
 // The rush of calls (document 02 [11]): reads `seed,count` from standard input and writes a script, or a refusal's number.
+#![tactic(auto)]
 ghost use Rattle.std.specs.Prelude.{◌≡◌, ◌≤◌, length};
 
 use libc::{STDIN_FILENO, STDOUT_FILENO};

@@ -1,4 +1,5 @@
 // Inputs of a rush, and what is written for each.
+#![tactic(auto)]
 use libc::STDOUT_FILENO;
 use workload::Course;
 

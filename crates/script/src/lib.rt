@@ -1,4 +1,5 @@
 // Scripts (document 01, "The script program"): a line is answered, and what it says is done to a table; a script may come in pieces.
+#![tactic(auto)]
 
 // What a line is answered: a number alone; with its log's low and high position; or 0 with these and what a receipt says.
 #[derive(Drop)]

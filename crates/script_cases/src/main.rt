@@ -1,5 +1,6 @@
 // Document 01's other cases, request [5]'s, each refusal that a script can meet, and each kind of line that is none: scripts and
 // their answers.
+#![tactic(auto)]
 ghost use Rattle.std.specs.Prelude.{◌≡◌, ◌≤◌, length};
 
 use layout::places::LARGEST;

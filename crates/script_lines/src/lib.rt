@@ -1,4 +1,5 @@
 // A script line answered.
+#![tactic(auto)]
 mod lines;
 mod tables;
 

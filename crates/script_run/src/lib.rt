@@ -1,4 +1,5 @@
 // A script read from standard input and answered on standard output: the loop of reads and writes.
+#![tactic(auto)]
 ghost use Rattle.std.specs.Prelude.{◌≡◌, [], ◌+◌, ◌≤◌, ◌<◌, ◌^◌, length};
 ghost use Rattle.script.specs.declared.Progress.{Progress};
 ghost use Rattle.script.specs.Stream.{newlines, After};

@@ -1,6 +1,7 @@
 // Request [9]'s sentences: one of each form, all kinds, all refusal numbers of both subjects, the longest of each form, and buffers of
 // other lengths. Every buffer holds an old text of x's. A line for each: the number returned, the buffer's bytes before its first zero, and
 // the others in hexadecimal.
+#![tactic(auto)]
 ghost use Rattle.std.specs.Prelude.{◌≤◌, length};
 
 use octets::wide;

@@ -1,4 +1,5 @@
 // Verdicts written as sentences (document 02 [9]).
+#![tactic(auto)]
 mod members;
 mod sentences;
 

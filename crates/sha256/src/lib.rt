@@ -1,4 +1,5 @@
 // SHA-256 (FIPS 180-4): the standard as definitions, and laws about them. No code.
+#![tactic(auto)]
 
 // A digest, and how many 64-byte blocks were compressed to make it (document 02 [2]).
 #[derive(Drop)]

@@ -1,4 +1,5 @@
 // Digests by SHA-256 (FIPS 180-4), of a message at once; and what finishes a digest from a hash value.
+#![tactic(auto)]
 
 ghost use Rattle.std.specs.Prelude.{◌≡◌, ◌+◌, ◌^◌, ◌<◌, ◌%◌, ◌++◌, length};
 ghost use Rattle.refusal.specs.Order.{answer_of, afterwards};

@@ -1,5 +1,6 @@
 // Whole tables, the free slots, what format and the carry write (document 01, "Table bytes"; request [8]) and what the status
 // screen reads. No code.
+#![tactic(auto)]
 
 // What the check finds: a torn table; or a whole one, how many slots are free, the last of the free chain (0 if none), and
 // what the logs lack of their reserves, but for the log that is called.
