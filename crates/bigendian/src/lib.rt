@@ -1,5 +1,6 @@
 // Big-endian numbers in byte slices, at 2, 4 and 8 bytes. The contracts cite `be` and `unbe`, over any width.
 #![tactic(auto)]
+
 ghost use Rattle.std.specs.Prelude.{◌≡◌, ◌+◌, ◌≤◌, ◌<◌, length};
 ghost use Rattle.bigendian.specs.BigEndian.{be, unbe};
 ghost use Rattle.octets.specs.Octets.{part, splice};

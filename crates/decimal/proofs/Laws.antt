@@ -94,13 +94,13 @@ unfolding digits_of
 length-digits_of zero n = refl
 length-digits_of (suc k) n = ap suc (length-digits_of k (n % 10 ^ k))
 
-is_digit : (d : ℕ) → d < 10 → is_digit (48 + d) ≡ true
-is_digit d h = rw (le-leb 48 (48 + d) (omega arith), le-leb (48 + d) 57 (omega arith))
+is_digit_lem : (d : ℕ) → d < 10 → is_digit (48 + d) ≡ true
+is_digit_lem d h = rw (le-leb 48 (48 + d) (omega arith), le-leb (48 + d) 57 (omega arith))
 
 pub digits_of-digits : (k n : ℕ) → n < 10 ^ k → all_digits (digits_of k n) ≡ true
 unfolding digits_of all_digits
 digits_of-digits zero n h = refl
-digits_of-digits (suc k) n h = rw (is_digit (n / 10 ^ k) (digit_lt k n h)) (digits_of-digits k (n % 10 ^ k) (rest_lt k n))
+digits_of-digits (suc k) n h = rw (is_digit_lem (n / 10 ^ k) (digit_lt k n h)) (digits_of-digits k (n % 10 ^ k) (rest_lt k n))
 
 regroup : (v q p r n : ℕ) → q * p + r ≡ n → (v * 10 + q) * p + r ≡ v * (p * 10) + n
 regroup v q p r n e =

@@ -84,10 +84,10 @@ module _ (slots : List Slot) (g : ℕ) (r : Row) (l : Log) (W : RowRep slots g r
           (eq-eqb (last_of (positions l.entries)) r.high (last-position l.entries ∙ ok.top ∙ sym W.high)))
           (eq-eqb (last_of W.chain) r.last (sym W.last)))))
 
-pub rows_ok : (slots : List Slot) (g : ℕ) (rs : List Row) → ((i : ℕ) → row_ok slots (g + i) (row_at rs i) ≡ true) → rows_ok slots g rs ≡ true
+pub rows_ok_lem : (slots : List Slot) (g : ℕ) (rs : List Row) → ((i : ℕ) → row_ok slots (g + i) (row_at rs i) ≡ true) → rows_ok slots g rs ≡ true
 unfolding rows_ok
-rows_ok slots g [] h = refl
-rows_ok slots g (r ∷ rs) h = and_both _ _ (rw add-zero at (h 0)) (rows_ok slots (suc g) rs (λ (i : ℕ). rw (add-suc, ← suc-add) at (h (suc i))))
+rows_ok_lem slots g [] h = refl
+rows_ok_lem slots g (r ∷ rs) h = and_both _ _ (rw add-zero at (h 0)) (rows_ok_lem slots (suc g) rs (λ (i : ℕ). rw (add-suc, ← suc-add) at (h (suc i))))
 
 pub held-length : (slots : List Slot) (g : ℕ) (rs : List Row) (ls : List Log) → length rs ≡ length ls → ((i : ℕ) → length (chain slots (suc (g + i)) (row_at rs i).first) ≡ length (log_at ls i).entries) → length (held_by slots g rs) ≡ total ls
 unfolding held_by total
@@ -112,7 +112,7 @@ linked_of m b R ok =
     and_both _ _
     (and_both _ _
     (and_both _ _ (reaches_links m.slots 0 m.free R.queue R.free.links) (rw (free-chain m b R) (blanks-of m.slots R.queue R.free.held)))
-    (rows_ok m.slots 0 m.rows (λ (i : ℕ). rw zero-add (row-ok m.slots i (row_at m.rows i) (log_at b.logs i) (R.rows i) (ok i)))))
+    (rows_ok_lem m.slots 0 m.rows (λ (i : ℕ). rw zero-add (row-ok m.slots i (row_at m.rows i) (log_at b.logs i) (R.rows i) (ok i)))))
     (eq-eqb (length (meets m)) (length m.slots) (meets-length m b R))
 
 pub whole_of : (m : Image) (b : Model) → Rep m b → Sound b → Backed b → whole_image m ≡ true

@@ -4,15 +4,9 @@ use mathlib.Core.List.{[], ◌∷◌}
 use Prim.Native.Nat.{ℕ, ◌/◌, ◌%◌}
 use native.Mathlib.Nat.{div-one}
 use Rattle.bigendian.specs.BigEndian.{be}
-use borrow.Author.Rules.{rules}
-use Rattle.bigendian.proofs.eight.Statement.{statement}
-use Rattle.bigendian.proofs.eight.Tie as tie
+use Rattle.bigendian.proofs.eight.Goals as goal
 
-returns : tie.Need-returns
+pub returns : goal.returns
 unfolding be
-returns c =
-    let x : ℕ = c.args.n in
+returns c = let x : ℕ = c.args.n in
     ap (λ (b : ℕ). x / 72057594037927936 % 256 ∷ x / 281474976710656 % 256 ∷ x / 1099511627776 % 256 ∷ x / 4294967296 % 256 ∷ x / 16777216 % 256 ∷ x / 65536 % 256 ∷ x / 256 % 256 ∷ b % 256 ∷ []) (sym (div-one x))
-
-pub eight-spec : {M : Type 1} → statement M
-eight-spec = tie.close (tie.spec (search rules) (search rules) (search rules) (search rules) (search rules) (search rules) (search rules) (search rules) returns)

@@ -4,15 +4,9 @@ use mathlib.Core.List.{[], ◌∷◌}
 use Prim.Native.Nat.{ℕ, ◌/◌, ◌%◌}
 use native.Mathlib.Nat.{div-one}
 use Rattle.bigendian.specs.BigEndian.{be}
-use borrow.Author.Rules.{rules}
-use Rattle.bigendian.proofs.four.Statement.{statement}
-use Rattle.bigendian.proofs.four.Tie as tie
+use Rattle.bigendian.proofs.four.Goals as goal
 
-returns : tie.Need-returns
+pub returns : goal.returns
 unfolding be
-returns c =
-    let x : ℕ = c.args.n in
+returns c = let x : ℕ = c.args.n in
     ap (λ (b : ℕ). x / 16777216 % 256 ∷ x / 65536 % 256 ∷ x / 256 % 256 ∷ b % 256 ∷ []) (sym (div-one x))
-
-pub four-spec : {M : Type 1} → statement M
-four-spec = tie.close (tie.spec (search rules) (search rules) (search rules) (search rules) returns)
