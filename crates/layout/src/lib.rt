@@ -1,5 +1,6 @@
 // The table's bytes (document 01, "Table bytes"): what they say, where its parts stand, and a row as a value.
 #![tactic(auto)]
+
 mod changes;
 pub mod places;
 

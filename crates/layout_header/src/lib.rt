@@ -1,5 +1,6 @@
 // The header's fields, read and written, and the tests of its constants and counts.
 #![tactic(auto)]
+
 ghost use Rattle.std.specs.Prelude.{◌≡◌, ◌≤◌, ◌<◌, length};
 ghost use Rattle.layout.specs.Layout.{header_size, logs_of, slots_of, keeper_of, free_of, stock_of, stocked, key_of, count_bytes, header_bytes, put_free, put_count, put_last};
 ghost use Rattle.layout.specs.Tests.{in_range, marked, constants_fit, header_fits};

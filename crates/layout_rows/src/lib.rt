@@ -1,5 +1,6 @@
 // A log's row, read and written.
 #![tactic(auto)]
+
 ghost use Rattle.std.specs.Prelude.{◌≡◌, ◌<◌, length};
 ghost use Rattle.layout.specs.Image.{row_at};
 ghost use Rattle.layout.specs.Layout.{row_size, read_row, row_bytes, read_table, put_row};

@@ -1,5 +1,6 @@
 // A slot, read and written, and the tests of its zero bytes.
 #![tactic(auto)]
+
 ghost use Rattle.std.specs.Prelude.{◌≡◌, ◌≤◌, ◌<◌, length};
 ghost use Rattle.layout.specs.Image.{slot_at};
 ghost use Rattle.layout.specs.Changes.{link_of, slot_of};

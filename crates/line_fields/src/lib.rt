@@ -1,5 +1,6 @@
 // Fields parted by commas, and their numbers.
 #![tactic(auto)]
+
 ghost use Rattle.std.specs.Prelude.{◌≡◌, List, ℕ, ◌+◌, ◌≤◌, max, length, drop};
 ghost use Rattle.std.proofs.Math.Option.{some};
 ghost use Rattle.octets.specs.Octets.{zeros};

@@ -1,5 +1,6 @@
 // An answer line written, on slices.
 #![tactic(auto)]
+
 ghost use Rattle.std.specs.Prelude.{◌≡◌, [], ◌∷◌, ◌++◌, ◌+◌, ◌<◌, ◌≤◌, length};
 ghost use Rattle.octets.specs.Octets.{splice};
 ghost use Rattle.line.specs.Answer.{cell_text, line_text};

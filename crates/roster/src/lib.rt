@@ -1,5 +1,6 @@
 // The profile of a station, and the members of its roster.
 #![tactic(auto)]
+
 ghost use Rattle.std.specs.Prelude.{◌≡◌, ◌+◌, ◌*◌, ◌≤◌, length};
 ghost use Rattle.roster.specs.Profile.{permitted};
 ghost use Rattle.roster.specs.Roster.{keeper_at, member, absent, distinct, is_roster};

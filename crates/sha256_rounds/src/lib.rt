@@ -2,6 +2,7 @@
 // The schedule is kept as a window of 16 words. Each of the first 48 rounds takes the window's first word and moves the
 // window on by one (a turn); the last 16 rounds take the words that are left.
 #![tactic(auto)]
+
 ghost use Rattle.std.specs.Prelude.{◌≡◌, ◌+◌, ◌≤◌};
 ghost use Rattle.sha256.specs.Sha256.{K as Ks, round as round_of};
 ghost use Rattle.sha256_rounds.specs.Window.{turned, turns, last_rounds};

@@ -1,0 +1,8 @@
+-- `layout::Row::truncate` meets its contract.
+use Rattle.layout.specs.Changes.{truncated_row}
+use mathlib.Core.Path.{refl}
+use Rattle.layout.proofs.Row.truncate.Goals as goal
+
+pub returns : goal.returns
+unfolding truncated_row
+returns c = refl

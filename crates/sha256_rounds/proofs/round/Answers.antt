@@ -1,0 +1,19 @@
+-- `sha256_rounds::round` meets its contract.
+use Rattle.sha256.specs.Sha256.{round, T1, T2}
+use Rattle.sha256_rounds.proofs.round.Goals as goal
+
+pub returns : goal.returns
+unfolding round T1 T2
+returns c = rw (
+  c.wrapping_add_u32-5.ensures,
+  c.wrapping_add_u32-4.ensures,
+  c.wrapping_add_u32-t2.ensures,
+  c.majority.ensures,
+  c.big0.ensures,
+  c.wrapping_add_u32-t1.ensures,
+  c.wrapping_add_u32-3.ensures,
+  c.wrapping_add_u32-2.ensures,
+  c.wrapping_add_u32.ensures,
+  c.big1.ensures,
+  c.choice-ch.ensures,
+)
