@@ -15,7 +15,7 @@ use layout_rows::put_row;
 use layout_slots::{link_at, put_next, put_slot};
 
 // Slot t becomes the next of slot last, if there is one.
-fn hook(table: &mut [u8], logs: usize, slots: usize, last: usize, t: usize)
+pub fn hook(table: &mut [u8], logs: usize, slots: usize, last: usize, t: usize)
     requires counted { Counted table.old logs slots }
     requires last_le_slots { (last ≤ slots) × (t ≤ slots) }
     ensures { table.new ≡ hooked table.old last t }

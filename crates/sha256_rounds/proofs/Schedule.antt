@@ -5,9 +5,14 @@ use lib.ListN.{get_or-append}
 use lib.Seq.{get_or_at, take-append-le}
 use Rattle.octets.proofs.Parts.{run, part-run}
 use Rattle.sha256.specs.Words.{◌⊞◌, σ0, σ1}
-use Rattle.sha256.specs.Sha256.{K, next, schedule, round, rounds}
+use Rattle.sha256.specs.Sha256.{K, words, next, schedule, round, rounds}
 use Rattle.sha256_rounds.specs.Window.{slid, turned, turns, last_rounds}
 use Rattle.sha256_rounds.specs.declared.Window.{Window}
+
+pub length-words : (t : ℕ) (b : List ℕ) → length (words t b) ≡ t
+unfolding words
+length-words zero b = refl
+length-words (suc t) b = simp length-append (omega (arith, length-words t b))
 
 length-schedule : (n : ℕ) (m : List ℕ) → length (schedule n m) ≡ length m + n
 unfolding schedule

@@ -1,16 +1,11 @@
 -- `sha256_blocks::compress` meets its contract.
-use Rattle.sha256_rounds.proofs.Schedule.{all-rounds}
+use Rattle.sha256_rounds.proofs.Schedule.{all-rounds, length-words}
 use Rattle.sha256_rounds.specs.declared.Window.{Window}
 use Rattle.sha256_rounds.specs.Window.{turns, last_rounds}
 use Rattle.sha256.specs.Sha256.{words, added, compress}
-use Rattle.std.proofs.Common.{◌≡◌, ℕ, zero, suc, List, length, refl, ap, ◌∙◌, arith, length-append, rules}
+use Rattle.std.proofs.Common.{ℕ, List, ap, ◌∙◌, rules}
 use Rattle.sha256_blocks.proofs.compress.Statement.{statement}
 use Rattle.sha256_blocks.proofs.compress.Tie as tie
-
-length-words : (t : ℕ) (b : List ℕ) → length (words t b) ≡ t
-unfolding words
-length-words zero b = refl
-length-words (suc t) b = simp length-append (omega (arith, length-words t b))
 
 returns : tie.Need-returns
 unfolding compress
