@@ -48,6 +48,7 @@ module _ (slots : List Slot) (o : ℕ) where
   pub links-in : (s : ℕ) (c : List ℕ) (e t : ℕ) → Links slots o s c e → In t c → (1 ≤ t) × (t ≤ length slots) × ((slot_at slots t).owner ≡ o)
   links-in s (u ∷ c) e t h (inl p) = (rw p h.1, rw p h.2, rw p h.3)
   links-in s (u ∷ c) e t h (inr m) = links-in (slot_at slots u).next c e t h.4 m
+  links-in s [] e t h x'' = elim x'' [ ]
 
   -- from one slot there is one chain
   pub links-unique : (s : ℕ) (c d : List ℕ) → Links slots o s c 0 → Links slots o s d 0 → c ≡ d
@@ -66,6 +67,7 @@ module _ (slots : List Slot) (o : ℕ) where
       let r = links-from (slot_at slots u).next c t h.4 m in
       let le : length r.0 ≤ length c = r.2 in
       (r.0, r.1, omega arith)
+  links-from s [] t h x'' = elim x'' [ ]
 
   -- a chain that reaches 0 meets no slot twice
   pub links-distinct : (s : ℕ) (c : List ℕ) → Links slots o s c 0 → Distinct c

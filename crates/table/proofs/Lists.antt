@@ -18,6 +18,7 @@ In a (x ∷ xs) = (a ≡ x) ⊎ In a xs
 pub in_left : {A : Type 0} (a : A) (c d : List A) → In a c → In a (c ++ d)
 in_left a (x ∷ c) d (inl e) = inl e
 in_left a (x ∷ c) d (inr h) = inr (in_left a c d h)
+in_left {A = A} a [] d x' = elim x' [ ]
 
 pub in_right : {A : Type 0} (a : A) (c d : List A) → In a d → In a (c ++ d)
 in_right a [] d h = h
@@ -40,6 +41,7 @@ Distinct (x ∷ xs) = (In x xs → ⊥) × Distinct xs
 pub in-append-apart : (x : ℕ) (c d : List ℕ) → Distinct (c ++ d) → In x c → In x d → ⊥
 in-append-apart x (y ∷ c) d h (inl e) k = h.0 (rw e at (in_right x c d k))
 in-append-apart x (y ∷ c) d h (inr m) k = in-append-apart x c d h.1 m k
+in-append-apart x [] d h x4 k = elim x4 [ ]
 
 -- a list is empty or has a last element
 pub data Snoc : List ℕ → Type 0 where
@@ -84,6 +86,7 @@ without x (y ∷ ys) = cond (eqb x y) (without x ys) (y ∷ without x ys)
 
 in_without : (y x : ℕ) (c : List ℕ) → In y (without x c) → In y c × (y ≢ x)
 unfolding without
+in_without y x [] m = elim m [ ]
 in_without y x (z ∷ c) m = go (eqb x z) refl m (λ (q : In y (without x c)). in_without y x c q)
   where
     go : (t : Bool) → eqb x z ≡ t → In y (cond t (without x c) (z ∷ without x c)) → (In y (without x c) → In y c × (y ≢ x)) → In y (z ∷ c) × (y ≢ x)

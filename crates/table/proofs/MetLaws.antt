@@ -97,6 +97,7 @@ module _ (slots : List Slot) where
           let o : suc (suc g) ≤ (slot_at slots s).owner = k.2 in
           let p : (slot_at slots s).owner ≤ suc g + length rs = k.3 in
           (k.0, k.1, omega arith, omega arith)
+  held_in g [] h s m = elim m [ ]
 
   held-distinct : (g : ℕ) (rs : List Row) → rows_ok slots g rs ≡ true → Distinct (held_by slots g rs)
   unfolding rows_ok held_by

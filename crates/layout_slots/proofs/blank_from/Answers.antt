@@ -6,4 +6,4 @@ use Rattle.layout.proofs.BlankLaws.{blank-there}
 use Rattle.layout_slots.proofs.blank_from.Goals as goal
 
 pub returns : goal.returns
-returns c = c.is_zero.ensures ∙ blank-there c.args.table.now c.args.start c.args.slots c.args.s c.requires.0 c.requires.1.0 c.requires.1.1 (c.args.start + slot_size * (c.args.s - 1)) refl
+returns c = c.is_zero.ensures ∙ blank-there c.args.table.now c.args.start c.args.slots c.args.s c.requires.slotted c.requires.le_s.0 c.requires.le_s.1 (c.args.start + slot_size * (c.args.s - 1)) refl

@@ -8,7 +8,7 @@ use Rattle.layout.proofs.CodeLaws.{slot-there}
 use Rattle.layout_slots.proofs.link_at.Goals as goal
 
 pub link_from-requires : goal.link_from-requires
-link_from-requires c = record { slotted = slotted plan c.args.table.now c.args.logs c.args.slots c.row_offset.result c.requires.0 c.row_offset.ensures; le_s = c.requires.1 }
+link_from-requires c = record { slotted = slotted plan c.args.table.now c.args.logs c.args.slots c.row_offset.result c.requires.counted c.row_offset.ensures; le_s = c.requires.le_s }
 
 pub returns : goal.returns
-returns c = c.link_from.ensures ∙ ap (λ (s : Slot). link_of s) (slot-there c.args.table.now c.args.logs c.args.slots c.requires.0 c.row_offset.result c.args.s c.row_offset.ensures)
+returns c = c.link_from.ensures ∙ ap (λ (s : Slot). link_of s) (slot-there c.args.table.now c.args.logs c.args.slots c.requires.counted c.row_offset.result c.args.s c.row_offset.ensures)

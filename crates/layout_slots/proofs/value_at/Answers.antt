@@ -3,4 +3,4 @@ use Rattle.layout.proofs.CodeLaws.{value_there}
 use Rattle.layout_slots.proofs.value_at.Goals as goal
 
 pub returns : goal.returns
-returns c = value_there c.args.table.now c.args.logs c.args.slots c.requires.0 c.slot_offset-at.result c.args.s c.slot_offset-at.ensures c.requires.1.0 c.requires.1.1
+returns c = value_there c.args.table.now c.args.logs c.args.slots c.requires.counted c.slot_offset-at.result c.args.s c.slot_offset-at.ensures c.requires.le_s.0 c.requires.le_s.1
