@@ -22,7 +22,7 @@ pub enum Finding {
 
 // A whole table at one of its logs: its counts, the log's row, the first free slot, the number of free slots, the last
 // (0 if none is free), and what the other logs lack of their reserves.
-#[derive(Drop)]
+#[derive(Clone, Copy)]
 pub struct View {
     pub logs: usize,
     pub slots: usize,

@@ -1,14 +1,16 @@
 // A line's fields: numbers, and bytes in slots of a store.
 #![tactic(auto)]
+
 ghost use Rattle.std.specs.Prelude.{◌+◌, ◌≤◌, ◌≡◌, length};
 
 use decimal::Number;
 use line_fields::find;
 use octets::{equal, put};
 use printing::text;
+use std::io;
 
 // The values of a line's fields: a number, or how many bytes the field has; and the length of the line's form.
-#[derive(Drop)]
+#[derive(Clone, Copy)]
 pub struct Values {
     pub form: u64,
     pub a: u64,
@@ -141,10 +143,10 @@ fn field(s: &[u8], turn: u64, slot: &mut [u8]) -> Reading {
 }
 
 // The values of a line's fields, the bytes of field i in slot i. Slot 0 gets the line's form.
-pub fn parse(line: &[u8], turn: u64, store: &mut [u8]) -> Values {
+pub fn parse(rt: &impl Print, line: &[u8], turn: u64, store: &mut [u8]) -> io::Result<Values> {
     let mut v = [0u64; 11];
-    let form = parse_fields(line, turn, store, &mut v);
-    Values {
+    let form = parse_fields(rt, line, turn, store, &mut v)?;
+    Ok(Values {
         form: form as u64,
         a: v[1],
         b: v[2],
@@ -156,54 +158,67 @@ pub fn parse(line: &[u8], turn: u64, store: &mut [u8]) -> Values {
         h: v[8],
         i: v[9],
         j: v[10],
-    }
+    })
 }
 
 // Writes the bytes of field i into its slot and its kind at a place of the form, and answers its value.
-fn parse_field(s: &[u8], turn: u64, store: &mut [u8], i: u64, to: u64) -> u64 {
-    let f = field(s, turn, slot_mut(store, i, 160));
-    keep(store, 0, to, &[b' ', f.kind]);
-    f.value
+fn parse_field(
+    rt: &impl Print,
+    s: &[u8],
+    turn: u64,
+    store: &mut [u8],
+    i: u64,
+    to: u64,
+) -> io::Result<u64> {
+    let f = field(s, turn, slot_mut(rt, store, i, 160)?);
+    keep(rt, store, 0, to, &[b' ', f.kind])?;
+    Ok(f.value)
 }
 
 // Writes the values and bytes of a line's fields and its form, and answers the form's length: 0 if there are too many fields.
-fn parse_fields(line: &[u8], turn: u64, store: &mut [u8], values: &mut [u64]) -> usize
+fn parse_fields(
+    rt: &impl Print,
+    line: &[u8],
+    turn: u64,
+    store: &mut [u8],
+    values: &mut [u64],
+) -> io::Result<usize>
     requires { length values.old ≡ 11 }
 {
     let mut to = find(line, 0, b' ');
-    keep(store, 0, 0, &line[0..to]);
+    keep(rt, store, 0, 0, &line[0..to])?;
     let mut at = to + 1;
     let mut i = 1;
     while i < 11 {
         if line.len() <= at {
-            return to;
+            return Ok(to);
         }
         let e = find(line, at, b' ');
-        values[i] = parse_field(&line[at..e], turn, store, i as u64, to as u64);
+        values[i] = parse_field(rt, &line[at..e], turn, store, i as u64, to as u64)?;
         to += 2;
         at = e + 1;
         i += 1;
     }
     if at < line.len() {
-        return 0;
+        return Ok(0);
     }
-    to
+    Ok(to)
 }
 
 // Writes bytes at a place of a slot.
-pub fn keep(slots: &mut [u8], i: u64, place: u64, part: &[u8]) {
+pub fn keep(rt: &impl Print, slots: &mut [u8], i: u64, place: u64, part: &[u8]) -> io::Result<()> {
     if i < 64 {
         if place < 65536 {
             let at = i as usize * 160 + place as usize;
             if at <= slots.len() {
                 if part.len() <= slots.len() - at {
                     put(slots, at, part);
-                    return;
+                    return Ok(());
                 }
             }
         }
     }
-    text(b"? no such place\n");
+    text(rt, b"? no such place\n")
 }
 
 // The place of a form in a list of forms, a form to a line.
@@ -222,31 +237,36 @@ pub fn place(form: &[u8], forms: &[u8]) -> u64 {
 }
 
 // The first n bytes from slot i on, of slots of 160 bytes.
-pub fn slot(slots: &[u8], i: u64, n: u64) -> &[u8] {
+pub fn slot<'a>(rt: &impl Print, slots: &'a [u8], i: u64, n: u64) -> io::Result<&'a [u8]> {
     if i < 64 {
         let at = i as usize * 160;
         if at <= slots.len() {
             if n <= (slots.len() - at) as u64 {
                 let e = at + n as usize;
-                return &slots[at..e];
+                return Ok(&slots[at..e]);
             }
         }
     }
-    text(b"? no such bytes\n");
-    &slots[0..0]
+    text(rt, b"? no such bytes\n")?;
+    Ok(&slots[0..0])
 }
 
 // The same, lent for writing.
-pub fn slot_mut(slots: &mut [u8], i: u64, n: u64) -> &mut [u8] {
+pub fn slot_mut<'a>(
+    rt: &impl Print,
+    slots: &'a mut [u8],
+    i: u64,
+    n: u64,
+) -> io::Result<&'a mut [u8]> {
     if i < 64 {
         let at = i as usize * 160;
         if at <= slots.len() {
             if n <= (slots.len() - at) as u64 {
                 let e = at + n as usize;
-                return &mut slots[at..e];
+                return Ok(&mut slots[at..e]);
             }
         }
     }
-    text(b"? no such bytes\n");
-    &mut slots[0..0]
+    text(rt, b"? no such bytes\n")?;
+    Ok(&mut slots[0..0])
 }

@@ -5,29 +5,31 @@ use case_report::{refused, show};
 use printing::{hex, text};
 use runs::Comparison;
 use runs_compare::compare;
+use std::io;
 
-fn said(answer: Comparison) {
+fn said(rt: &impl Print, answer: Comparison) -> io::Result<()> {
     match answer {
-        Comparison::Differ { blocks } => show(b"digests differ, %d blocks\n  ", &[blocks]),
-        Comparison::Agree { blocks } => show(b"agree, %d blocks\n  ", &[blocks]),
-        Comparison::Collision { blocks } => show(b"collision, %d blocks\n  ", &[blocks]),
+        Comparison::Differ { blocks } => show(rt, b"digests differ, %d blocks\n  ", &[blocks]),
+        Comparison::Agree { blocks } => show(rt, b"agree, %d blocks\n  ", &[blocks]),
+        Comparison::Collision { blocks } => show(rt, b"collision, %d blocks\n  ", &[blocks]),
         Comparison::Refused { why, blocks } => {
-            refused(b"refused with %d, %d blocks\n  ", why, blocks)
+            refused(rt, b"refused with %d, %d blocks\n  ", why, blocks)
         }
     }
 }
 
 // The buffer is a slot of the pile.
-pub fn compared(v: Values, store: &[u8], pile: &mut [u8]) {
-    said(compare(
-        slot(store, 1, v.a),
+pub fn compared(rt: &impl Print, v: Values, store: &[u8], pile: &mut [u8]) -> io::Result<()> {
+    let answer = compare(
+        slot(rt, store, 1, v.a)?,
         v.b,
-        slot(store, 3, v.c),
-        slot(store, 4, v.d),
+        slot(rt, store, 3, v.c)?,
+        slot(rt, store, 4, v.d)?,
         v.e,
-        slot(store, 6, v.f),
-        slot_mut(pile, v.g, v.h),
-    ));
-    hex(slot(pile, v.g, v.h));
-    text(b"\n");
+        slot(rt, store, 6, v.f)?,
+        slot_mut(rt, pile, v.g, v.h)?,
+    );
+    said(rt, answer)?;
+    hex(rt, slot(rt, pile, v.g, v.h)?)?;
+    text(rt, b"\n")
 }

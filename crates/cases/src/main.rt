@@ -42,16 +42,18 @@
 // compare START FIRST VALUES START FIRST VALUES SLOT SIZE
 //                                          two runs, and the slot whose first bytes are lent
 #![tactic(auto)]
-ghost use Rattle.std.specs.Prelude.{◌≤◌, length};
+
+ghost use Rattle.std.specs.Prelude.{◌≤◌, length, IfOk};
 
 use case_fields::{Values, parse, place, slot, slot_mut};
 use case_receipts::receipts_line;
 use case_report::show;
 use case_tables::tables_line;
 use layout::places::LARGEST;
-use libc::STDIN_FILENO;
 use line_fields::find;
 use printing::text;
+use program::{large_buffer, read_full};
+use std::io;
 
 // What a line leaves to do.
 #[derive(Drop)]
@@ -63,69 +65,84 @@ enum Step {
 }
 
 // A line that is none.
-fn unknown(form: &[u8]) {
-    text(b"? ");
-    text(form);
-    text(b"\n");
+fn unknown(rt: &impl Print, form: &[u8]) -> io::Result<()> {
+    text(rt, b"? ")?;
+    text(rt, form)?;
+    text(rt, b"\n")
 }
 
 // Carries out a line of a form.
-fn call(form: &[u8], v: Values, store: &[u8], table: &mut [u8], pile: &mut [u8]) -> Step {
+fn call(
+    rt: &impl Print,
+    form: &[u8],
+    v: Values,
+    store: &[u8],
+    table: &mut [u8],
+    pile: &mut [u8],
+) -> io::Result<Step> {
     match place(form, b"each n\nnext\ntable n\n") {
-        0 => return Step::Each(v.a),
-        1 => return Step::Next,
-        2 => return Step::Table(v.a),
+        0 => return Ok(Step::Each(v.a)),
+        1 => return Ok(Step::Next),
+        2 => return Ok(Step::Table(v.a)),
         _ => {}
     }
-    if tables_line(form, v, store, table, pile) {
-        return Step::On;
+    if tables_line(rt, form, v, store, table, pile)? {
+        return Ok(Step::On);
     }
-    if receipts_line(form, v, store, pile) {
-        return Step::On;
+    if receipts_line(rt, form, v, store, pile)? {
+        return Ok(Step::On);
     }
-    unknown(form);
-    Step::On
+    unknown(rt, form)?;
+    Ok(Step::On)
 }
 
 // Prints the name before a line's command, and answers where the command starts.
-fn named(line: &[u8], turn: u64) -> usize
-    ensures { result ≤ length line.now }
+fn named(rt: &impl Print, line: &[u8], turn: u64) -> io::Result<usize>
+    ensures { IfOk result (λ n. n ≤ length line.now) }
 {
     let e = find(line, 0, b':');
     if line.len() - e < 2 {
-        return 0;
+        return Ok(0);
     }
-    show(&line[0..e], &[turn]);
-    text(b": ");
-    e + 2
+    show(rt, &line[0..e], &[turn])?;
+    text(rt, b": ")?;
+    Ok(e + 2)
 }
 
-fn carry_out(line: &[u8], turn: u64, size: u64, table: &mut [u8], pile: &mut [u8]) -> Step {
+fn carry_out(
+    rt: &impl Print,
+    line: &[u8],
+    turn: u64,
+    size: u64,
+    table: &mut [u8],
+    pile: &mut [u8],
+) -> io::Result<Step> {
     if line.len() == 0 {
-        return Step::On;
+        return Ok(Step::On);
     }
     if line[0] == b'#' {
-        return Step::On;
+        return Ok(Step::On);
     }
     if line[0] == b'-' {
-        text(line);
-        text(b"\n");
-        return Step::On;
+        text(rt, line)?;
+        text(rt, b"\n")?;
+        return Ok(Step::On);
     }
-    let from = named(line, turn);
+    let from = named(rt, line, turn)?;
     let mut store = [0u8; 1920];
-    let v = parse(&line[from..], turn, &mut store);
+    let v = parse(rt, &line[from..], turn, &mut store)?;
     call(
-        slot(&store, 0, v.form),
+        rt,
+        slot(rt, &store, 0, v.form)?,
         v,
         &store,
-        slot_mut(table, 0, size),
+        slot_mut(rt, table, 0, size)?,
         pile,
     )
 }
 
 // Carries out a text's lines, a million at most.
-fn carry_out_all(t: &[u8], table: &mut [u8], pile: &mut [u8]) {
+fn carry_out_all(rt: &impl Print, t: &[u8], table: &mut [u8], pile: &mut [u8]) -> io::Result<()> {
     let mut at: usize = 0;
     let mut back: usize = 0;
     let mut turn: u64 = 0;
@@ -134,10 +151,10 @@ fn carry_out_all(t: &[u8], table: &mut [u8], pile: &mut [u8]) {
     let mut left: u64 = 1000000;
     while 0 < left {
         if t.len() <= at {
-            return;
+            return Ok(());
         }
         let e = find(t, at, 10);
-        let step = carry_out(&t[at..e], turn, size, table, pile);
+        let step = carry_out(rt, &t[at..e], turn, size, table, pile)?;
         at = e + 1;
         match step {
             Step::On => {}
@@ -160,16 +177,16 @@ fn carry_out_all(t: &[u8], table: &mut [u8], pile: &mut [u8]) {
         }
         left -= 1;
     }
-    text(b"? more lines\n");
+    text(rt, b"? more lines\n")
 }
 
-fn main() {
-    let mut t = io::large_buffer();
+fn main(rt: HostRuntime) -> io::Result<()> {
+    let mut t = large_buffer();
     let mut table = [0u8; LARGEST];
     let mut pile = [0u8; 10240];
-    let n = io::read_full(STDIN_FILENO, &mut t);
+    let n = read_full(&mut rt.stdin(), &mut t)?;
     if n == t.len() {
-        text(b"? more input\n");
+        text(&rt, b"? more input\n")?;
     }
-    carry_out_all(&t[..n], &mut table, &mut pile);
+    carry_out_all(&rt, &t[..n], &mut table, &mut pile)
 }

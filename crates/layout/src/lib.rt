@@ -5,7 +5,7 @@ mod changes;
 pub mod places;
 
 // A log's row: low and high position, first and last slot of its chain, and the slots promised to it.
-#[derive(Drop)]
+#[derive(Clone, Copy)]
 pub struct Row {
     pub low: u64,
     pub high: u64,

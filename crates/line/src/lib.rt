@@ -60,7 +60,7 @@ pub enum Count {
 }
 
 // A column of an answer line.
-#[derive(Drop)]
+#[derive(Clone, Copy)]
 pub enum Cell {
     Dash,
     Number(u64),

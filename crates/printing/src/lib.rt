@@ -1,20 +1,21 @@
-// What the test programs print with, on standard output: texts, decimal numbers, and bytes in hexadecimal.
+// What the test programs print with, on standard output: texts, decimal numbers, and bytes in hexadecimal. Each says whether the write failed.
 #![tactic(auto)]
+
 ghost use Rattle.std.specs.Prelude.{◌≡◌, ◌<◌};
 ghost use Rattle.printing.specs.Hex.{hex_digit, hex_pair};
 
 use decimal::put;
-use libc::STDOUT_FILENO;
+use std::io;
 
-pub fn text(t: &[u8]) {
-    io::write_all(STDOUT_FILENO, t);
+pub fn text(rt: &impl Print, t: &[u8]) -> io::Result<()> {
+    rt.write_all(t)
 }
 
 // A number in decimal.
-pub fn number(n: u64) {
+pub fn number(rt: &impl Print, n: u64) -> io::Result<()> {
     let mut digits = [48u8; 20];
     let to = put(&mut digits, 0, n);
-    text(&digits[..to]);
+    text(rt, &digits[..to])
 }
 
 // The hexadecimal digit of a number below 16.
@@ -33,11 +34,12 @@ fn pair(b: u8) -> [u8; 2]
 }
 
 // Each byte as two hexadecimal digits.
-pub fn hex(bytes: &[u8]) {
+pub fn hex(rt: &impl Print, bytes: &[u8]) -> io::Result<()> {
     let mut i = 0;
     while i < bytes.len() {
         let digits = pair(bytes[i]);
-        text(&digits);
+        text(rt, &digits)?;
         i += 1;
     }
+    Ok(())
 }

@@ -39,7 +39,7 @@ pub struct Question {
 }
 
 // A verdict, with the blocks hashed for it.
-#[derive(Drop)]
+#[derive(Clone, Copy)]
 pub enum Verdict {
     Accepted {
         keeper: u64,

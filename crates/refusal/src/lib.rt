@@ -5,7 +5,7 @@ ghost use Rattle.std.specs.Prelude.{◌≡◌};
 ghost use Rattle.refusal.specs.Number.{number_of, outcome_number};
 ghost use Rattle.refusal.specs.Work.{worked_number, worked_blocks};
 
-#[derive(Drop)]
+#[derive(Clone, Copy)]
 pub enum Refusal {
     Torn,
     NoLog,
@@ -28,7 +28,7 @@ pub enum Refusal {
 }
 
 // The answer of a call that returns nothing but its number.
-#[derive(Drop)]
+#[derive(Clone, Copy)]
 pub enum Outcome {
     Done,
     Refused(Refusal),
@@ -36,7 +36,7 @@ pub enum Outcome {
 
 // The answer of a call that counts the blocks it hashed and returns nothing else: document 02 [2], "a refusal returns its
 // number with them".
-#[derive(Drop)]
+#[derive(Clone, Copy)]
 pub enum Worked {
     Done { blocks: u64 },
     Refused { why: Refusal, blocks: u64 },

@@ -36,7 +36,7 @@ pub struct Next {
 
 // A script between two pieces: so many bytes of an unfinished line are kept, the next line has this number, the table has so many
 // bytes, and the answers to the last piece end there.
-#[derive(Drop)]
+#[derive(Clone, Copy)]
 pub struct Progress {
     pub kept: usize,
     pub number: u64,

@@ -50,10 +50,10 @@ stepped (More q) piece buffer held out buffer' held' out' p h f read a =
     let A : List ℕ = answered (table_in buffer p) (take p.kept held) p.number piece in
     let t : take q.to out' ≡ A = ap (take q.to) f.text ∙ front out A q.to (omega (arith, f.place)) ∙ take_all q.to A (omega (arith, f.place)) in
     (piece, h, after_more a f, t ∙ answers-to piece a)
-stepped (Over (Unwritten n)) piece buffer held out buffer' held' out' p h m read a =
+stepped (Over (Unwritten n why)) piece buffer held out buffer' held' out' p h m read a =
     (piece, subst (λ (x : List ℕ). Missing x (1 + newlines read) n) (answers-to piece a) (subst (λ (k : ℕ). Missing (answered (table_in buffer p) (take p.kept held) p.number piece) k n) a.count m))
 stepped (Over (Input q)) piece buffer held out buffer' held' out' p h m read a = absurd m
-stepped (Over Unread) piece buffer held out buffer' held' out' p h m read a = absurd m
+stepped (Over (Unread why)) piece buffer held out buffer' held' out' p h m read a = absurd m
 
 -- there is room for another turn
 pub ready : {read buffer held out : List ℕ} {s : Progress} (turns : ℕ) → 0 < turns → After read buffer held s → length read + turns * 8192 ≤ 1125899906842624 * 8192 → length out ≡ 1376256 → Ready buffer held out s

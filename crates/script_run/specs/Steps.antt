@@ -25,9 +25,9 @@ Missing answers first n = (done : ℕ) × (done < length answers) × (n ≡ firs
 -- a piece was answered, and its answers are written, or some are missing
 abbrev pub Answers : Step → List ℕ → List ℕ → List ℕ → List ℕ → Progress → List ℕ → List ℕ → List ℕ → Type 0
 Answers (More q) piece buffer held out p buffer' held' out' = Feeds piece buffer held out p buffer' held' out' q
-Answers (Over (Unwritten n)) piece buffer held out p buffer' held' out' = Missing (answered (table_in buffer p) (take p.kept held) p.number piece) p.number n
+Answers (Over (Unwritten n why)) piece buffer held out p buffer' held' out' = Missing (answered (table_in buffer p) (take p.kept held) p.number piece) p.number n
 Answers (Over (Input q)) piece buffer held out p buffer' held' out' = ⊥
-Answers (Over Unread) piece buffer held out p buffer' held' out' = ⊥
+Answers (Over (Unread why)) piece buffer held out p buffer' held' out' = ⊥
 
 -- the answers to a piece that follows the bytes read
 abbrev pub answers_to : List ℕ → List ℕ → List ℕ
@@ -36,8 +36,8 @@ answers_to read piece = answered (table_read [] [] read) (held_after [] read) (1
 -- after the bytes read the script ends: the state is theirs, or the answers to the piece after them were not all written
 abbrev pub Ends : Ending → List ℕ → List ℕ → List ℕ → Type 0
 Ends (Input q) read buffer held = After read buffer held q
-Ends Unread read buffer held = Unit {0}
-Ends (Unwritten n) read buffer held = (piece : List ℕ) × Missing (answers_to read piece) (1 + newlines read) n
+Ends (Unread why) read buffer held = Unit {0}
+Ends (Unwritten n why) read buffer held = (piece : List ℕ) × Missing (answers_to read piece) (1 + newlines read) n
 
 -- after the bytes read a piece was read and answered, or the script ended
 abbrev pub Stepped : Step → List ℕ → List ℕ → List ℕ → List ℕ → Type 0

@@ -13,7 +13,7 @@ use sha256_digest::{digest, digest_from, initial, wide};
 
 // A running digest: the hash value after the whole blocks, the block being filled, the number of bytes absorbed, and the
 // number of blocks compressed.
-#[derive(Drop)]
+#[derive(Clone, Copy)]
 pub struct Running {
     pub chain: [u32; 8],
     pub block: [u8; 64],

@@ -8,7 +8,7 @@ pub use input::ask;
 use refusal::Refusal;
 
 // A call that is drawn.
-#[derive(Drop)]
+#[derive(Clone, Copy)]
 pub enum Draw {
     Append {
         log: u64,
