@@ -1,5 +1,6 @@
 // Formatting a table.
 #![tactic(auto)]
+
 ghost use Rattle.std.specs.Prelude.{◌≡◌, map, ◌*◌, ◌≤◌, leb, length};
 ghost use Rattle.refusal.specs.Order.{answer_of};
 ghost use Rattle.refusal.specs.Work.{worked_number, worked_blocks};

@@ -1,5 +1,6 @@
 // The status screen's read (request [1]): the stored number of free slots, without a walk.
 #![tactic(auto)]
+
 ghost use Rattle.std.specs.Prelude.{◌≡◌};
 ghost use Rattle.table.specs.Screen.{screen, screen_answer};
 

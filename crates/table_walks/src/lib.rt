@@ -2,6 +2,7 @@
 // make the test of it. The slots start at the given place, so that the logs' chains of document 01's layout are walked by the
 // same code.
 #![tactic(auto)]
+
 ghost use Rattle.std.specs.Prelude.{◌≡◌, cond, ◌-◌, ◌≤◌, ◌<◌, eqb};
 ghost use Rattle.layout.specs.Fits.{Counted, Slotted};
 ghost use Rattle.layout.specs.Strict.{strict_from, strict_table};

@@ -15,6 +15,7 @@ use Rattle.line.proofs.FieldLaws.{reading-none, reading-bad, reading-last, readi
 use Rattle.octets.specs.Undivided.{Undivided}
 use Rattle.line_fields.proofs.numbers.Code.Mir.{function}
 use Rattle.line_fields.proofs.numbers.Goals as goal
+use Rattle.line_fields.proofs.numbers.Goals.{then-n-lt19, else-n-lt19}
 
 pub undivided : Undivided ("decimal::read::parse" ∷ "line_fields::find" ∷ []) function
 undivided = refl
@@ -39,11 +40,11 @@ returns-in_default c = let h = reading-bad c.args.s.now c.args.from c.loop-v.at 
 pub shape_of-values-then-e-s : goal.shape_of-values-then-e-s
 unfolding zeros
 shape_of-values-then-e-s c = let z : length c.args.values.now ≡ 19 = ap length c.requires.1 in
-    ⊎_elim (λ w. ap length w.1 ∙ length-set c.loop-v.values c.loop-v.n c.in-Value.v ∙ omega arith) (λ w. ap length w.1 ∙ omega arith) c.if-n-lt19.branch
+    elim c.if-n-lt19.branch [ then-n-lt19 w ↦ ap length w.values-is ∙ length-set c.loop-v.values c.loop-v.n c.in-Value.v ∙ omega arith | else-n-lt19 w ↦ ap length w.values-is ∙ omega arith ]
 
 pub returns-then-e-s : goal.returns-then-e-s
 returns-then-e-s c = let i = sym c.parse.ensures ∙ c.in-Value.is in
-    let k = reading-kept c.args.s.now c.args.from c.loop-v.at c.loop-v.n c.loop-v.values c.loop-v.invariant.3 c.find-e.result c.find-e.ensures.0 c.in-Value.v i c.if-n-lt19.values (⊎_elim (λ w. inl (omega (arith, w.0.taken), w.1)) (λ w. inr (omega (arith, w.0.left), w.1)) c.if-n-lt19.branch) in
+    let k = reading-kept c.args.s.now c.args.from c.loop-v.at c.loop-v.n c.loop-v.values c.loop-v.invariant.3 c.find-e.result c.find-e.ensures.0 c.in-Value.v i c.if-n-lt19.values (elim c.if-n-lt19.branch [ then-n-lt19 w ↦ inl (omega (arith, w.if-n-lt19.true), w.values-is) | else-n-lt19 w ↦ inr (omega (arith, w.if-n-lt19.false), w.values-is) ]) in
     let ys : List ℕ = c.loop-v.invariant.3.ns ++ (c.in-Value.v ∷ []) in
     let h : numbers_of (fields_of (drop c.args.from c.args.s.now)) ≡ some ys = reading-last c.args.s.now c.args.from c.loop-v.at c.loop-v.n c.loop-v.values c.loop-v.invariant.3 c.find-e.result c.find-e.ensures.0 c.in-Value.v i c.if-e-s.true in
     let z : c.loop-v.n + 1 ≡ length ys = omega (arith, length-append c.loop-v.invariant.3.ns (c.in-Value.v ∷ []), c.loop-v.invariant.3.size) in
@@ -51,7 +52,7 @@ returns-then-e-s c = let i = sym c.parse.ensures ∙ c.in-Value.is in
 
 pub loop-v-preserved : goal.loop-v-preserved
 loop-v-preserved c = let i = sym c.parse.ensures ∙ c.in-Value.is in
-    let k = reading-kept c.args.s.now c.args.from c.loop-v.at c.loop-v.n c.loop-v.values c.loop-v.invariant.3 c.find-e.result c.find-e.ensures.0 c.in-Value.v i c.if-n-lt19.values (⊎_elim (λ w. inl (omega (arith, w.0.taken), w.1)) (λ w. inr (omega (arith, w.0.left), w.1)) c.if-n-lt19.branch) in
+    let k = reading-kept c.args.s.now c.args.from c.loop-v.at c.loop-v.n c.loop-v.values c.loop-v.invariant.3 c.find-e.result c.find-e.ensures.0 c.in-Value.v i c.if-n-lt19.values (elim c.if-n-lt19.branch [ then-n-lt19 w ↦ inl (omega (arith, w.if-n-lt19.true), w.values-is) | else-n-lt19 w ↦ inr (omega (arith, w.if-n-lt19.false), w.values-is) ]) in
     let h : c.find-e.result < length c.args.s.now = omega arith in (
       omega arith,
       omega arith,

@@ -17,4 +17,4 @@ slide w p q r s t = rw (p, q, r, s, t)
 pub returns : goal.returns
 unfolding turned
 returns c = ap₂ window c.round-after.ensures
-    (slide c.args.s.w c.wrapping_add_u32-x.ensures c.wrapping_add_u32-2.ensures c.small0.ensures c.wrapping_add_u32.ensures c.small1.ensures)
+    (slide c.args.s.w c.wrapping_add_u32-x.ensures.value c.wrapping_add_u32-2.ensures.value c.small0.ensures c.wrapping_add_u32.ensures.value c.small1.ensures)
