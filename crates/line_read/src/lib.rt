@@ -1,5 +1,6 @@
 // A script line read: its command, and the reserves of a format.
 #![tactic(auto)]
+
 ghost use Rattle.std.specs.Prelude.{◌≡◌, [], drop};
 ghost use Rattle.line.specs.Command.{word_of, made, reserves_in, command_of, reserves_of, parsed};
 
