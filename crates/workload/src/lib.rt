@@ -1,5 +1,6 @@
 // A repeatable rush of calls (document 02 [11]): what is drawn from a seed, what its lines say, and what an input asks for.
 #![tactic(auto)]
+
 mod generator;
 mod input;
 

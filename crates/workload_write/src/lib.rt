@@ -1,5 +1,6 @@
 // A rush of calls as text, in pieces of the size that a caller lends.
 #![tactic(auto)]
+
 ghost use Rattle.std.specs.Prelude.{◌≡◌, [], ◌∷◌, ◌++◌, ◌+◌, ◌≤◌, length, take};
 ghost use Rattle.octets.specs.Octets.{splice};
 ghost use Rattle.decimal.specs.Decimal.{decimal_of};
