@@ -1,0 +1,7 @@
+use mathlib.Core.Path.{refl}
+use mathlib.Core.List.{[], ◌∷◌}
+use Rattle.octets.specs.Undivided.{Undivided}
+use Rattle.program.proofs.read_full.Code.Mir.{function}
+
+pub undivided : Undivided ("core::convert::AnyFrom::from" ∷ "core::result::ResultFromResidualErrResidual::from_residual" ∷ "core::result::ResultTry::branch" ∷ []) function
+undivided = refl
