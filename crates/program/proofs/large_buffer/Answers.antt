@@ -1,5 +1,5 @@
 use mathlib.Core.Path.{refl}
-use mathlib.Core.List.{[], ◌∷◌}
+use mathlib.Core.List.{[]}
 use Rattle.octets.specs.Undivided.{Undivided}
 use Rattle.program.proofs.large_buffer.Code.Mir.{function}
 
