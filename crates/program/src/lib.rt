@@ -1,7 +1,8 @@
 // What the programs share: whether they were given arguments, reads and writes of raw bytes, and a line that says why one failed.
 #![tactic(auto)]
 
-ghost use Rattle.std.specs.Prelude.{◌≡◌, ◌<◌, ◌≤◌, length, IfOk, IfErr};
+ghost use Rattle.std.specs.Prelude.{◌≡◌, ◌<◌, ◌≤◌, length, take, IfOk, IfErr, OnOk};
+ghost use Rattle.std.specs.Io.KnownBytes.{Appends, Consumes};
 
 use std::env::{Env, FillError};
 use std::io::{Read, Write};
@@ -41,7 +42,9 @@ pub struct Cut {
 // Writes all of the bytes, or says where it stopped. A short write is taken up where it ended; one that takes nothing, or is
 // interrupted, counts as failed.
 pub fn write_out<W: Write>(output: &mut W, bytes: &[u8]) -> Result<(), Cut>
-    ensures { IfErr result (λ cut. cut.done < length bytes.now) }
+    ensures whole { OnOk result (Appends (W.contents output.old) (W.contents output.new) bytes.now) }
+    ensures short { IfErr result (λ cut. cut.done < length bytes.now) }
+    ensures part { IfErr result (λ cut. Appends (W.contents output.old) (W.contents output.new) (take cut.done bytes.now)) }
 {
     let mut done = 0;
     while done < bytes.len() {
@@ -60,7 +63,8 @@ pub fn write_out<W: Write>(output: &mut W, bytes: &[u8]) -> Result<(), Cut>
 
 // Reads until the buffer is full or the input ends, and says how many bytes it put at its start.
 pub fn read_full<R: Read>(input: &mut R, buf: &mut [u8]) -> io::Result<usize>
-    ensures { IfOk result (λ n. n ≤ length buf.new) }
+    ensures within { IfOk result (λ n. n ≤ length buf.new) }
+    ensures bytes { IfOk result (λ n. Consumes (R.remaining input.old) (R.remaining input.new) (take n buf.new)) }
 {
     let mut done = 0;
     while done < buf.len() {

@@ -1,9 +1,8 @@
-use lib.ListN.{length}
-use Prim.Native.Nat.{◌≤◌, ◌-◌}
-use Rattle.printing.proofs.hex.Given as given
+use Rattle.std.proofs.Common.{length, ◌-◌, ◌≤◌}
+use Rattle.printing.proofs.hex.Given as goal
 
-abbrev pub invariant-loop-i : given.invariant-loop-i
-invariant-loop-i l = i ≤ length bytes
+abbrev pub invariant-loop-i : goal.invariant-loop-i
+invariant-loop-i g l = l.i ≤ length l.bytes
 
-abbrev pub decreases-loop-i : given.decreases-loop-i
-decreases-loop-i l = length bytes - i
+abbrev pub decreases-loop-i : goal.decreases-loop-i
+decreases-loop-i g l = length l.bytes - l.i

@@ -12,11 +12,12 @@ pub undivided : Undivided ("decimal::write::put" ∷ "printing::text" ∷ []) fu
 undivided = refl
 
 pub put-to-requires : goal.put-to-requires
-put-to-requires c = omega (arith, length-decimal c.args.n)
+put-to-requires g c = omega (arith, length-decimal c.args.n)
 
 pub slice_bounds-digits-end : goal.slice_bounds-digits-end
-slice_bounds-digits-end c = put-within _ c.put-to.new.out c.put-to.result c.args.n refl c.put-to.ensures.value c.put-to.ensures.out_after
+slice_bounds-digits-end g c = let p = c.put-to in put-within _ p.new.out p.result c.args.n refl p.ensures.value p.ensures.out_after
 
 pub slice_bounds-text-end : goal.slice_bounds-text-end
-slice_bounds-text-end c = let q = put-within _ c.put-to.new.out c.put-to.result c.args.n refl c.put-to.ensures.value c.put-to.ensures.out_after in
+slice_bounds-text-end g c = let p = c.put-to in
+    let q = put-within _ p.new.out p.result c.args.n refl p.ensures.value p.ensures.out_after in
     simp length-take (omega arith)

@@ -1,8 +1,7 @@
--- `printing::text` meets its contract.
-use mathlib.Core.List.{[], ◌∷◌}
 use mathlib.Core.Path.{refl}
+use mathlib.Core.List.{[]}
 use Rattle.octets.specs.Undivided.{Undivided}
 use Rattle.printing.proofs.text.Code.Mir.{function}
 
-pub undivided : Undivided ("io::write_all" ∷ []) function
+pub undivided : Undivided [] function
 undivided = refl
