@@ -1,5 +1,6 @@
 // Carrying a table of document 01's layout into the present one (request [8]).
 #![tactic(auto)]
+
 mod old;
 
 ghost use Rattle.std.specs.Prelude.{◌≡◌, true, ◌*◌, length};

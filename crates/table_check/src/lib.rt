@@ -1,6 +1,7 @@
 // Whether a table is whole (document 01, "A table is whole if ..", the number and last free slot of requests [1] and [4], and the
 // reserves of request [5]).
 #![tactic(auto)]
+
 ghost use Rattle.std.specs.Prelude.{◌≡◌};
 ghost use Rattle.refusal.specs.Number.{outcome_number};
 ghost use Rattle.refusal.specs.Order.{answer_of};
