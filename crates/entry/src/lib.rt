@@ -1,5 +1,6 @@
 // The digest of an entry.
 #![tactic(auto)]
+
 ghost use Rattle.std.specs.Prelude.{◌≡◌, ◌+◌, ◌^◌, ◌≤◌, ◌<◌, length};
 ghost use Rattle.bigendian.specs.BigEndian.{be};
 ghost use Rattle.sha256_digest.specs.Absorbed.{absorbed};

@@ -1,5 +1,6 @@
 // The constants, and the compression of FIPS 180-4, 6.2.2.
 #![tactic(auto)]
+
 ghost use Rattle.std.specs.Prelude.{◌≡◌, ◌+◌, ◌*◌, ◌^◌, ◌<◌, ◌≤◌, length};
 ghost use Rattle.sha256.specs.Sha256.{K as Ks, words, added, compress as compress_of, blocks as blocks_after};
 

@@ -1,5 +1,6 @@
 // A running digest by SHA-256 (FIPS 180-4), of parts fed in turn.
 #![tactic(auto)]
+
 ghost use Rattle.std.specs.Prelude.{◌≡◌, ◌+◌, ◌/◌, ◌^◌, ◌≤◌, ◌<◌, length};
 ghost use Rattle.sha256.specs.Sha256.{blocks as blocks_after};
 ghost use Rattle.sha256_digest.specs.Absorbed.{start, absorbed, finished, finished_blocks};
