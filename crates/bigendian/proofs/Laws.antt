@@ -1,14 +1,13 @@
 -- The laws of big-endian numbers, each over all widths.
 use mathlib.Core.Path.{◌≡◌, refl, sym, ap, ap₂, ◌∙◌, subst}
 use Prim.Native.Nat.{ℕ, zero, suc, ◌+◌, ◌*◌, ◌/◌, ◌%◌, ◌^◌, ◌≤◌, ◌<◌, zero-le}
-use native.Mathlib.Nat.{mod-one, mod-lt, mod-eq_of_lt, pow-suc, pow-succ', pow-le-pow_right, mul-add-div_right, mul-add-mod_self_right, mul_assoc, mul_comm, add_assoc, div-div-eq-div-mul, div-add-mod', zero-add, suc-add, add_comm, div-one}
+use native.Mathlib.Nat.{mod-one, mod-lt, mod-eq_of_lt, pow-succ', pow-le-pow_right, mul-add-div_right, mul-add-mod_self_right, mul_assoc, div-div-eq-div-mul, div-add-mod', zero-add, suc-add, add_comm, div-one}
 use native.Mathlib.Omega.{arith}
-use mathlib.Core.List.{List, [], ◌∷◌, ◌++◌, append_assoc}
+use mathlib.Core.List.{List, [], ◌∷◌, ◌++◌}
 use lib.Dec.{lit<}
 use lib.ListN.{length, get_or, set, length-append, length-take, length-set}
-use lib.Arith.{digits_lt, digits_div, digits_mod, mod-mul}
+use lib.Arith.{digits_lt, digits_div, mod-mul}
 use lib.Pow.{pow-add}
-use native.Mathlib.Numerals.{towards_suc}
 use Rattle.octets.specs.Octets.{Bytes, part, splice}
 use Rattle.octets.proofs.Parts.{part-run, part-add, length_part, bytes-part, splice-append, splice-byte}
 use Rattle.bigendian.specs.BigEndian.{be, unbe}

@@ -9,7 +9,7 @@ use Rattle.octets.proofs.Parts.{length_part, part-part, bytes-part}
 use Rattle.octets.proofs.Zeros.{length-zeros}
 use Rattle.bigendian.proofs.Laws.{unbe-part-lt}
 use Rattle.layout.specs.Image.{Slot, slot_at, free_slot}
-use Rattle.layout.specs.Lists.{tabulate, flat}
+use Rattle.layout.specs.Lists.{flat}
 use Rattle.layout.specs.Layout.{Plan, row_offset_in, slot_size, read_slot, slot_bytes, cells_from}
 use Rattle.layout.specs.Fits.{SlotFits, CountedIn, Slotted}
 use Rattle.layout.proofs.ListLaws.{length-tabulate, get_d_tabulate, tabulate-ext, tabulate-getD, every-tabulate, length-flat, part-flat, flat-tabulate}

@@ -9,7 +9,7 @@ use lib.Dec.{eqb, leb}
 use lib.ListN.{length}
 use Rattle.octets.specs.Octets.{Bytes, part, same, zeros}
 use Rattle.bigendian.specs.BigEndian.{unbe}
-use Rattle.layout.specs.Layout.{mark, mark_number, header_size, zero_offset, table_size, logs_of, slots_of}
+use Rattle.layout.specs.Layout.{mark_number, header_size, zero_offset, table_size, logs_of, slots_of}
 use Rattle.layout.specs.Fits.{Counted}
 use Rattle.layout.proofs.CodeLaws.{zero_one, mark-four}
 use Rattle.layout.specs.Fits.{Range}

@@ -1,5 +1,5 @@
 -- Bytes and images determine each other: what was written is read back, and bytes of a table's length and constants are what their image and stock write.
-use Prim.Native.Nat.{ℕ, ◌+◌, ◌-◌, ◌*◌, ◌^◌, ◌≤◌, ◌<◌}
+use Prim.Native.Nat.{ℕ, ◌+◌, ◌*◌, ◌^◌, ◌≤◌, ◌<◌}
 use mathlib.Core.Path.{◌≡◌, sym, ap, ap₂, ◌∙◌, subst}
 use mathlib.Core.List.{List, ◌++◌, append_assoc}
 use native.Mathlib.Omega.{arith}
@@ -12,7 +12,7 @@ use Rattle.bigendian.proofs.Laws.{unbe-be, unbe-part-lt}
 use Rattle.layout.specs.Image.{Image, slot_at, row_at, fresh_row, free_slot}
 use Rattle.layout.specs.Lists.{tabulate, flat}
 use Rattle.layout.specs.Layout.{Stock, header_size, row_size, slot_size, free_offset, zero_offset, count_offset, last_offset, row_offset, slot_offset, pad_offset, table_size, logs_of, slots_of, keeper_of, free_of, key_of, read_row, row_bytes, read_slot, slot_bytes, rows_of, cells_from, cells_of, read_table, stock_of, header_bytes, write_with}
-use Rattle.layout.specs.Fits.{RowFits, SlotFits, StockFits, Fits, Formed, Counted}
+use Rattle.layout.specs.Fits.{RowFits, StockFits, Fits, Formed, Counted}
 use Rattle.layout.proofs.ListLaws.{length-tabulate, get_d_tabulate, tabulate-ext, tabulate-getD, every-tabulate, length-flat, part-flat, flat-tabulate}
 use Rattle.layout.proofs.FieldLaws.{length-row_bytes, length-slot_bytes, length-header_bytes, skip, read-row, write-row, mark-header, logs-header, zero-header, slots-header, keeper-header, free-header, count-header, key-header, last-header, write-header}
 use Rattle.layout.proofs.CellLaws.{length-cells, cell-read, cells_fit, cells-bytes, cells-written, pads-written}

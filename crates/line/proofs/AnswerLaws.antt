@@ -9,7 +9,7 @@ use lib.Seq.{take-suc}
 use Rattle.decimal.proofs.Theorems.{length-decimal}
 use Rattle.line.specs.declared.Cell.{Cell}
 use Rattle.line.specs.declared.Cell.TheVariants.{Dash, Number, Letter}
-use Rattle.line.specs.Answer.{cell_text, mark, line_text}
+use Rattle.line.specs.Answer.{cell_text, line_text}
 
 pub cell-length : (c : Cell) → length (cell_text c) ≤ 20
 cell-length Dash = omega arith

@@ -1,6 +1,7 @@
 // Why a call is refused: document 01's "Numbers returned" and those of document 02, a variant for each of their words but "nothing
 // held", which no call answers any more (document 02 [6]). Its number, 6, "is not used again".
 #![tactic(auto)]
+
 ghost use Rattle.std.specs.Prelude.{◌≡◌};
 ghost use Rattle.refusal.specs.Number.{number_of, outcome_number};
 ghost use Rattle.refusal.specs.Work.{worked_number, worked_blocks};

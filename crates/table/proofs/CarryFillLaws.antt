@@ -1,6 +1,6 @@
 -- Laws for code that writes a carried table: the rows one after the other, and the slots at once.
 use Prim.Native.Nat.{ℕ, ◌+◌, ◌-◌, ◌*◌, ◌≤◌, ◌<◌}
-use mathlib.Core.Path.{◌≡◌, sym, ap, ap₂, ◌∙◌, subst}
+use mathlib.Core.Path.{◌≡◌, sym, ap, ap₂, ◌∙◌}
 use mathlib.Core.List.{List}
 use mathlib.Core.Bool.{true}
 use native.Mathlib.Omega.{arith}
@@ -13,7 +13,7 @@ use Rattle.layout.specs.Image.{Image, row_at, fresh_row, free_slot}
 use Rattle.layout.specs.Lists.{flat}
 use Rattle.layout.specs.Layout.{plan01, stocked, header_size, row_size, slot_size, row_offset, row_offset_in, table_size, logs_of, slots_of, keeper_of, free_of, key_of, row_bytes, slot_bytes, header_bytes}
 use Rattle.layout.specs.Layout01.{cells_of01, read01}
-use Rattle.layout.specs.Fits.{RowFits, Fits, Counted01}
+use Rattle.layout.specs.Fits.{Fits, Counted01}
 use Rattle.layout.proofs.ListLaws.{length-flat}
 use Rattle.layout.proofs.FieldLaws.{length-row_bytes, length-slot_bytes, length-header_bytes}
 use Rattle.layout.proofs.CellLaws.{cells-bytes}

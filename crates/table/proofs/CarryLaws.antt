@@ -1,6 +1,6 @@
 -- Request [8]: what an accepted carry has passed and writes, and what a refused one leaves.
-use Prim.Native.Nat.{ℕ, ◌≤◌, ◌<◌}
-use mathlib.Core.Path.{◌≡◌, refl, sym, ap, ap₂, ◌∙◌, subst}
+use Prim.Native.Nat.{ℕ}
+use mathlib.Core.Path.{◌≡◌, refl, sym, ap, ◌∙◌, subst}
 use mathlib.Core.List.{List, [], ◌∷◌}
 use mathlib.Core.Bool.{Bool, true, false, cond, not}
 use mathlib.Core.Logic.{◌≢◌}
@@ -9,20 +9,19 @@ use native.Mathlib.Omega.{arith}
 use borrow.Author.Tests.{ne_eqb, eq-eqb, eqb-true, not-false}
 use lib.Dec.{eqb}
 use lib.ListN.{length}
-use Rattle.octets.specs.Octets.{Bytes, part}
-use Rattle.refusal.specs.Order.{fault, first_fault, answer_of, afterwards}
+use Rattle.octets.specs.Octets.{Bytes}
+use Rattle.refusal.specs.Order.{fault, first_fault, answer_of}
 use Rattle.refusal.proofs.OrderLaws.{found_first, passes, peel, refused-is, done-is}
-use Rattle.layout.specs.Layout.{Stock, plan01, mark, logs_of, slots_of, table_size, read_table, stock_of}
+use Rattle.layout.specs.Layout.{plan01, mark, logs_of, slots_of, table_size, read_table, stock_of}
 use Rattle.layout.specs.Layout01.{read01}
 use Rattle.layout.specs.Fits.{Fits, Range}
 use Rattle.layout.proofs.Layout01Laws.{length_rows01, length_slots01, unreserved01}
-use Rattle.table.specs.Chains.{last_of}
 use Rattle.table.specs.Free.{free_chain, stock_in, write_table}
 use Rattle.table.specs.Whole.{whole}
 use Rattle.table.specs.Whole01.{whole01}
 use Rattle.table.specs.Carry.{carry_refusal, carry_bytes}
 use Rattle.table.proofs.ConditionLaws.{whole_conditions}
-use Rattle.table.proofs.ConditionLaws01.{Formed01, whole01-formed, whole01-linked, whole01-fits}
+use Rattle.table.proofs.ConditionLaws01.{whole01-formed, whole01-linked, whole01-fits}
 use Rattle.table.proofs.ReserveLaws.{unreserved-whole}
 use Rattle.table.proofs.WholeLaws.{read-write, stock-write, written-whole}
 

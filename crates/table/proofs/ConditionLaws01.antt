@@ -1,10 +1,9 @@
 -- Document 01's own test `whole01` and its conditions `Whole01` agree, both ways; and bytes that an image writes in its layout are whole as the image is linked.
-use Prim.Native.Nat.{ℕ, ◌+◌, ◌≤◌, ◌<◌}
+use Prim.Native.Nat.{ℕ}
 use mathlib.Core.Path.{◌≡◌, sym, ap, ap₂, ◌∙◌, subst}
 use mathlib.Core.Logic.{◌↔◌}
 use mathlib.Core.List.{List}
-use mathlib.Core.Bool.{Bool, true, ◌&&◌}
-use native.Mathlib.Omega.{arith}
+use mathlib.Core.Bool.{true, ◌&&◌}
 use borrow.Author.Tests.{eq-eqb, eqb-true}
 use lib.Dec.{eqb}
 use lib.ListN.{length}

@@ -1,5 +1,5 @@
 -- The tests on the header of an A2MT table, test by test as the code makes them, and what they tell when passed.
-use Prim.Native.Nat.{ℕ, ◌+◌, ◌≤◌, ◌<◌}
+use Prim.Native.Nat.{ℕ, ◌≤◌, ◌<◌}
 use mathlib.Core.Path.{◌≡◌, refl, sym, ap, ap₂, ◌∙◌}
 use mathlib.Core.Bool.{Bool, true, false, not, ◌&&◌}
 use mathlib.Core.List.{List}
@@ -13,12 +13,12 @@ use Rattle.octets.proofs.Parts.{length_part}
 use Rattle.bigendian.specs.BigEndian.{be, unbe}
 use Rattle.layout.specs.Layout.{plan01, header_size, zero_offset, count_offset, logs_of, slots_of}
 use Rattle.layout.specs.Layout01.{table_size01}
-use Rattle.layout.specs.Fits.{Range, Counted01}
+use Rattle.layout.specs.Fits.{Counted01}
 use Rattle.layout.specs.Tests.{in_range}
 use Rattle.layout.proofs.HeaderLaws.{in-range, zero_test}
 use Rattle.layout.proofs.TestLaws.{and_yes, and_no, and-not, field-same, zero-bytes}
 use Rattle.table.specs.Whole01.{constants_fit01, header_fits01}
-use Rattle.table.proofs.ConditionLaws01.{Formed01, header-conditions01}
+use Rattle.table.proofs.ConditionLaws01.{header-conditions01}
 
 -- the mark "A2MT" as a big-endian number
 abbrev pub mark_number01 : ℕ

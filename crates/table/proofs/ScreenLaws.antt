@@ -1,15 +1,15 @@
 -- What the screen reads off any bytes, whole or torn; and that no other mark is whole.
 use Prim.Native.Nat.{ℕ, ◌≤◌, ◌<◌}
-use mathlib.Core.Path.{◌≡◌, refl, sym, ap, ◌∙◌}
+use mathlib.Core.Path.{◌≡◌, refl, ap, ◌∙◌}
 use mathlib.Core.List.{List, [], ◌∷◌}
 use mathlib.Core.Bool.{Bool, true, false, not}
 use mathlib.Core.Logic.{◌≢◌}
 use mathlib.Core.Option.{Option, none, some}
 use native.Mathlib.Omega.{arith}
-use borrow.Author.Tests.{lt-ltb, le-ltb, not-true, not-false}
+use borrow.Author.Tests.{lt-ltb, le-ltb}
 use lib.Dec.{ltb}
 use lib.ListN.{length}
-use Rattle.octets.specs.Octets.{part, same}
+use Rattle.octets.specs.Octets.{part}
 use Rattle.octets.proofs.Same.{eq-same}
 use Rattle.refusal.specs.Answer.{Answer, answer, answer_with}
 use Rattle.refusal.specs.Order.{fault, first_fault}

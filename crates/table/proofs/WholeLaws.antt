@@ -9,7 +9,7 @@ use Rattle.octets.specs.Octets.{Bytes}
 use lib.Dec.{eqb}
 use lib.ListN.{length}
 use Rattle.layout.specs.Image.{Image}
-use Rattle.layout.specs.Layout.{Stock, stocked, row_offset, logs_of, slots_of, read_table, stock_of, write_with}
+use Rattle.layout.specs.Layout.{Stock, row_offset, logs_of, slots_of, read_table, stock_of, write_with}
 use Rattle.layout.specs.Fits.{Fits, StockFits, Formed}
 use Rattle.layout.proofs.TableLaws.{logs-written, slots-written, read-with, stock-with, formed-with, write_read as write-with}
 use Rattle.table.specs.declared.Check.TheVariants as check
@@ -19,7 +19,6 @@ use Rattle.table.specs.Reserve.{lack_but}
 use Rattle.table.specs.WholeImage.{whole_image}
 use Rattle.table.specs.Whole.{whole, stock_fits, checked, check_of}
 use Rattle.layout.specs.Tests.{header_fits, pads_fit}
-use Rattle.table.specs.Conditions.{Whole}
 use Rattle.layout.specs.Fits.{Range}
 use Rattle.layout.proofs.TestLaws.{and_yes, and_split}
 use Rattle.table.proofs.WalkLaws.{chain-short}

@@ -1,7 +1,6 @@
 -- `layout_header::header_fits` meets its contract.
 use mathlib.Core.Bool.{not}
 use mathlib.Core.Path.{sym, ◌∙◌, ap}
-use borrow.Author.Tests.{not-false}
 use Rattle.layout.proofs.HeaderLaws.{too_short, other-constants, other-counts, by_length, in-range}
 use Rattle.layout_header.proofs.header_fits.Goals as goal
 

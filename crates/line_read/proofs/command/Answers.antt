@@ -1,7 +1,6 @@
 -- `line_read::command` meets its contract.
 use mathlib.Core.List.{[], ◌∷◌}
 use Prim.Native.Nat.{ℕ, ◌+◌}
-use mathlib.Core.Logic.{⊎_elim}
 use lib.ListN.{get_or}
 use native.Mathlib.Omega.{arith}
 use mathlib.Core.Path.{◌≡◌, refl, sym, ap, ◌∙◌}
@@ -46,13 +45,13 @@ pub returns : goal.returns
 returns c = let f : ℕ = get_or c.args.v 0 0 in
     let m : made c.args.w c.args.n c.args.v ≡ Malformed =
     elim c.match-w.branch [
-      in-Format+then-n-ge3+else-n-v w ↦ not_made c.args.w word.Format c.args.n (3 + f) c.args.v _ w.in-Format.is refl (λ q. w.if-n-v.false (omega arith))
-    | in-Format+else-n-ge3 w ↦ not_made c.args.w word.Format c.args.n (3 + f) c.args.v _ w.in-Format.is refl (λ q. omega (arith, w.if-n-ge3.false))
-    | in-Append+else-n-eq2 w ↦ not_made c.args.w word.Append c.args.n 2 c.args.v _ w.in-Append.is refl w.if-n-eq2.false
-    | in-Advance+else-n-eq4 w ↦ not_made c.args.w word.Advance c.args.n 4 c.args.v _ w.in-Advance.is refl w.if-n-eq4.false
-    | in-Truncate+else-n-eq2-2 w ↦ not_made c.args.w word.Truncate c.args.n 2 c.args.v _ w.in-Truncate.is refl w.if-n-eq2-2.false
-    | in-Lookup+else-n-eq2-3 w ↦ not_made c.args.w word.Lookup c.args.n 2 c.args.v _ w.in-Lookup.is refl w.if-n-eq2-3.false
-    | in-End+else-n-eq1 w ↦ not_made c.args.w word.End c.args.n 1 c.args.v _ w.in-End.is refl w.if-n-eq1.false
-    | in-Unknown w ↦ ap (λ (x : Word). made x c.args.n c.args.v) w.in-Unknown.is
+      | in-Format+then-n-ge3+else-n-v w ↦ not_made c.args.w word.Format c.args.n (3 + f) c.args.v _ w.in-Format.is refl (λ q. w.if-n-v.false (omega arith))
+      | in-Format+else-n-ge3 w ↦ not_made c.args.w word.Format c.args.n (3 + f) c.args.v _ w.in-Format.is refl (λ q. omega (arith, w.if-n-ge3.false))
+      | in-Append+else-n-eq2 w ↦ not_made c.args.w word.Append c.args.n 2 c.args.v _ w.in-Append.is refl w.if-n-eq2.false
+      | in-Advance+else-n-eq4 w ↦ not_made c.args.w word.Advance c.args.n 4 c.args.v _ w.in-Advance.is refl w.if-n-eq4.false
+      | in-Truncate+else-n-eq2-2 w ↦ not_made c.args.w word.Truncate c.args.n 2 c.args.v _ w.in-Truncate.is refl w.if-n-eq2-2.false
+      | in-Lookup+else-n-eq2-3 w ↦ not_made c.args.w word.Lookup c.args.n 2 c.args.v _ w.in-Lookup.is refl w.if-n-eq2-3.false
+      | in-End+else-n-eq1 w ↦ not_made c.args.w word.End c.args.n 1 c.args.v _ w.in-End.is refl w.if-n-eq1.false
+      | in-Unknown w ↦ ap (λ (x : Word). made x c.args.n c.args.v) w.in-Unknown.is
     ] in
     c.alone-2.ensures ∙ alone-line c.args.w c.args.w c.args.n c.args.v Malformed refl (sym m) refl

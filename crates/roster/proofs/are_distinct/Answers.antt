@@ -1,9 +1,7 @@
 -- `roster::are_distinct` meets its contract.
-use mathlib.Core.Bool.{not}
 use Rattle.roster.proofs.RosterLaws.{repeated, new, all}
-use borrow.Author.Tests.{not-true, not-false}
 use native.Mathlib.Omega.{arith}
-use mathlib.Core.Path.{refl, sym, ◌∙◌, ap}
+use mathlib.Core.Path.{refl, sym, ◌∙◌}
 use Rattle.roster.proofs.are_distinct.Goals as goal
 
 pub loop-i-init : goal.loop-i-init

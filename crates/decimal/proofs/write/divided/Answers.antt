@@ -2,7 +2,6 @@
 use mathlib.Core.List.{[], ◌∷◌}
 use mathlib.Core.Path.{refl}
 use Rattle.decimal.proofs.Laws.{parted}
-use Rattle.decimal.proofs.write.often.Reads as often-reads
 use Rattle.octets.specs.Undivided.{Undivided}
 use Rattle.decimal.proofs.write.divided.Code.Mir.{function}
 use Rattle.decimal.proofs.write.divided.Goals as goal

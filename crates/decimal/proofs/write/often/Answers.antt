@@ -2,7 +2,6 @@
 use mathlib.Core.List.{[], ◌∷◌}
 use mathlib.Core.Path.{refl}
 use Rattle.decimal.proofs.Laws.{counted}
-use Rattle.decimal.proofs.write.fits.Reads as fits-reads
 use Rattle.octets.specs.Undivided.{Undivided}
 use Rattle.decimal.proofs.write.often.Code.Mir.{function}
 use Rattle.decimal.proofs.write.often.Goals as goal

@@ -8,9 +8,6 @@ use Rattle.decimal.proofs.Laws.{length-digits_of, wide-as, twenty}
 use Rattle.decimal.specs.Decimal.{digits_of, decimal_of}
 use Rattle.octets.specs.Octets.{splice}
 use Rattle.octets.proofs.Parts.{byte-before}
-use Rattle.decimal.proofs.write.power.Reads as power-reads
-use Rattle.decimal.proofs.write.put_digits.Reads as put-digits-reads
-use Rattle.decimal.proofs.write.width.Reads as width-reads
 use Rattle.octets.specs.Undivided.{Undivided}
 use Rattle.decimal.proofs.write.put.Code.Mir.{function}
 use Rattle.decimal.proofs.write.put.Goals as goal
