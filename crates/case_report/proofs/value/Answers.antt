@@ -1,0 +1,6 @@
+use Rattle.std.proofs.Common.{refl, [], ◌∷◌}
+use Rattle.octets.specs.Undivided.{Undivided}
+use Rattle.case_report.proofs.value.Code.Mir.{function}
+
+pub undivided : Undivided ("bigendian::put_u64" ∷ "printing::hex" ∷ "printing::number" ∷ []) function
+undivided = refl
