@@ -1,6 +1,6 @@
 /* The keeper: an attested append-only memory, for C and C++ on x86-64 (the System V calling convention, SSE2).
  *
- * `rt staticlib capi` writes the archive to link with, target/staticlib/libcapi.a (README.md, "From C"). Of the C library it
+ * `rt lib` in crates/capi writes the archive to link with, crates/capi/out/libcapi.a (README.md, "From C"). Of the C library it
  * needs memcpy, and nothing else. include/check compares this file with the exported functions.
  *
  * What every function keeps:
