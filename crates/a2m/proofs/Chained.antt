@@ -1,6 +1,6 @@
 -- The chains of an image after a slot was taken or released: none loses a slot, and none gains one that it did not get.
 use Prim.Native.Nat.{ℕ, suc, ◌<◌}
-use mathlib.Core.Path.{◌≡◌, refl, sym, ap, ◌∙◌}
+use mathlib.Core.Path.{◌≡◌, refl, sym, ap}
 use mathlib.Core.List.{List, [], ◌∷◌, ◌++◌, tail-eq_of_cons-eq}
 use mathlib.Core.Bool.{true}
 use native.Mathlib.Omega.{arith}

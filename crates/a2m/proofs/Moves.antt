@@ -25,9 +25,9 @@ length-joined slots t last x = go (eqb last 0)
     go false = length-set_slot (set_slot slots t x) last (with_next (slot_at slots last) t) ∙ length-set_slot slots t x
 
 module _ (slots : List Slot) (t last : ℕ) (x : Slot) (t1 : 1 ≤ t) (t_s : t ≤ length slots) (l_s : last ≤ length slots) (apart : last ≢ t) where
-  pub joined_at : slot_at (joined slots t last x) t ≡ x
+  pub joined_at_lem : slot_at (joined slots t last x) t ≡ x
   unfolding joined
-  joined_at = go (eqb last 0)
+  joined_at_lem = go (eqb last 0)
     where
       go : (b : Bool) → slot_at (cond b (set_slot slots t x) (set_slot (set_slot slots t x) last (with_next (slot_at slots last) t))) t ≡ x
       go true = slot_at-same slots t x t1 t_s
@@ -108,12 +108,12 @@ module _ (slots : List Slot) (a b t : ℕ) (A : List ℕ) (s : ℕ) (B : List �
 
   after-t : Links (joined slots t last x) b t (t ∷ []) 0
   after-t =
-      let q : slot_at (joined slots t last x) t ≡ x = joined_at slots t last x M.from.1 M.from.2 reach hook-apart in
+      let q : slot_at (joined slots t last x) t ≡ x = joined_at_lem slots t last x M.from.1 M.from.2 reach hook-apart in
       (refl, M.from.1, rw (length-joined slots t last x) M.from.2, rw q M.owner, rw q M.stops)
 
   entries-snoc : (es : List Entry) → entries_of (joined slots t last x) B ≡ es → entries_of (joined slots t last x) (B ++ (t ∷ [])) ≡ es ++ (entry_of x ∷ [])
   entries-snoc es h =
-      let q : slot_at (joined slots t last x) t ≡ x = joined_at slots t last x M.from.1 M.from.2 reach hook-apart in
+      let q : slot_at (joined slots t last x) t ≡ x = joined_at_lem slots t last x M.from.1 M.from.2 reach hook-apart in
       map-append (λ (u : ℕ). entry_of (slot_at (joined slots t last x) u)) B (t ∷ []) ∙ ap₂ (λ (es : List Entry) (y : Slot). es ++ (entry_of y ∷ [])) h q
 
   -- the chain that got a new last slot

@@ -1,5 +1,5 @@
 -- Document 02, [6]: "Refusal 6 is shown never to occur": no call on any table answers it.
-use mathlib.Core.Path.{◌≡◌, refl}
+use mathlib.Core.Path.{refl}
 use mathlib.Core.Logic.{◌≢◌}
 use Prim.Native.Nat.{ℕ}
 use mathlib.Core.List.{List}

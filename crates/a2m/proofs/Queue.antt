@@ -8,7 +8,6 @@ use lib.ListN.{length}
 use lib.Dec.{leb, ltb}
 use borrow.Author.Tests.{lt-ltb, le-ltb, leb-true, leb-false}
 use Rattle.octets.proofs.Tests.{and_left, and_right}
-use Rattle.layout.specs.declared.Row.{Row}
 use Rattle.layout.specs.Image.{Entry, Slot, Image, entry_of, slot_at}
 use Rattle.table.proofs.ReserveLaws.{whole-linked}
 use Rattle.table.specs.Chains.{chain, last_of, positions_of, entries_of}
@@ -17,7 +16,7 @@ use Rattle.table.specs.Free.{free_chain, below}
 use Rattle.table.specs.WholeImage.{rising_from, whole_image}
 use Rattle.a2m.specs.ImageCalls.{row_in, entries_in, held_slot, put, release, releases, lowered}
 use Rattle.table.proofs.Links.{links-fit, chain_links}
-use Rattle.a2m.proofs.Moves.{joined_at, hook-apart, reach}
+use Rattle.a2m.proofs.Moves.{joined_at_lem, hook-apart, reach}
 use Rattle.a2m.proofs.Chained.{Chained, whole-chained, put-move, put-chained, release-chained}
 use Rattle.a2m.proofs.Releases.{releases-stop, releases-go}
 use Rattle.a2m.proofs.ReleaseLaws.{release-keeps}
@@ -39,7 +38,7 @@ module _ (m : Image) (w : whole_image m ≡ true) (g : ℕ) (g_g : g < length m.
   unfolding put
   put-slot x =
       let M = put-move m g _ _ q before x in
-      ap (slot_at (put m g x).slots) (sym first-is) ∙ joined_at m.slots m.free (row_in m g).last (held_slot g x) M.from.1 M.from.2 (reach _ _ _ _ _ _ _ _ _ M) (hook-apart _ _ _ _ _ _ _ _ _ M)
+      ap (slot_at (put m g x).slots) (sym first-is) ∙ joined_at_lem m.slots m.free (row_in m g).last (held_slot g x) M.from.1 M.from.2 (reach _ _ _ _ _ _ _ _ _ M) (hook-apart _ _ _ _ _ _ _ _ _ M)
 
 -- ---- "truncate queues its slots by rising position"
 

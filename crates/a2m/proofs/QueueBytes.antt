@@ -1,16 +1,15 @@
 -- Request [4] on bytes: what an accepted call on any table does to its free queue. With the row, the slot and the header these determine every byte.
-use Prim.Native.Nat.{ℕ, suc, ◌+◌, ◌<◌}
+use Prim.Native.Nat.{ℕ, suc, ◌+◌}
 use mathlib.Core.Path.{◌≡◌, ap, ◌∙◌}
 use mathlib.Core.List.{List, ◌∷◌, ◌++◌}
 use mathlib.Core.Bool.{true, not, ◌&&◌}
 use mathlib.Core.Option.{none}
-use native.Mathlib.Omega.{arith}
 use lib.ListN.{length}
 use lib.Dec.{leb, ltb}
 use borrow.Author.Tests.{leb-false, leb-true, ltb-true, not-false}
 use Rattle.octets.specs.Octets.{Bytes}
 use Rattle.octets.proofs.Tests.{and_left, and_right}
-use Rattle.layout.specs.Image.{Entry, Image, slot_at}
+use Rattle.layout.specs.Image.{Image, slot_at}
 use Rattle.layout.specs.Layout.{read_table}
 use Rattle.layout.proofs.TableLaws.{fits_read}
 use Rattle.table.specs.Chains.{chain}

@@ -30,7 +30,7 @@ use Rattle.a2m.specs.Opened.{Opened, joined_at}
 use Rattle.table.proofs.Lists.{In, in-last, last_of_snoc}
 use Rattle.table.proofs.Links.{links-in, links-fit, links-frame, chain_links, slot_at-same, slot_at-other, length-set_slot}
 use Rattle.table.specs.Conditions.{Links}
-use Rattle.a2m.proofs.Moves.{joined_at}
+use Rattle.a2m.proofs.Moves.{joined_at_lem}
 use Rattle.a2m.proofs.Chained.{Chained, joint-is, release-chained}
 use Rattle.a2m.proofs.Releases.{releases-stop, releases-go}
 use Rattle.table.proofs.WholeLaws.{whole-image}
@@ -78,7 +78,7 @@ hooked-freed : (slots : List Slot) (last s n : ℕ) → 1 ≤ s → s ≤ length
 unfolding joined
 hooked-freed slots last s n s1 s_s l_s apart =
     go (eqb last 0)
-    ∙ ap (λ (x : Slot). set_slot (joined slots s last (free_slot 0)) s (with_next x n)) (sym (joined_at slots s last (free_slot 0) s1 s_s l_s apart))
+    ∙ ap (λ (x : Slot). set_slot (joined slots s last (free_slot 0)) s (with_next x n)) (sym (joined_at_lem slots s last (free_slot 0) s1 s_s l_s apart))
     ∙ ap (λ (z : Bool). cond z (joined slots s last (free_slot 0)) (set_slot (joined slots s last (free_slot 0)) s (with_next (slot_at (joined slots s last (free_slot 0)) s) n))) (sym (ne_eqb s 0 (λ (e : s ≡ 0). omega arith)))
   where
     go : (z : Bool) → set_slot (cond z slots (set_slot slots last (with_next (slot_at slots last) s))) s (free_slot n)

@@ -1,18 +1,18 @@
 -- Request [5]: which append or advance gets a slot, and which of 5 and 16 answers where none may be taken.
-use Prim.Native.Nat.{ℕ, zero, suc, ◌≤◌, ◌<◌}
+use Prim.Native.Nat.{ℕ, suc, ◌≤◌, ◌<◌}
 use mathlib.Core.Path.{◌≡◌, refl, sym, ap, ◌∙◌}
 use mathlib.Core.Logic.{◌≢◌, ◌⊎◌, inl, inr, ◌↔◌}
 use mathlib.Core.List.{List, [], ◌∷◌}
-use mathlib.Core.Bool.{Bool, true, false, not, ◌&&◌}
+use mathlib.Core.Bool.{Bool, true, false, not}
 use mathlib.Core.Option.{Option, none, some}
 use native.Mathlib.Omega.{arith}
-use borrow.Author.Tests.{eq-eqb, ne_eqb, lt-leb, lt-ltb, le-ltb, le-leb, eqb-true, leb-true, leb-false, ltb-true, ltb-false}
+use borrow.Author.Tests.{eq-eqb, ne_eqb, lt-leb, le-ltb, le-leb, leb-true, leb-false, ltb-true, ltb-false}
 use lib.Dec.{eqb, leb, ltb}
 use lib.ListN.{length}
 use Rattle.layout.specs.Image.{Image}
 use Rattle.layout.specs.Layout.{read_table}
 use Rattle.layout.proofs.TableLaws.{length-rows}
-use Rattle.layout.proofs.TestLaws.{and_yes, and_no, and-not}
+use Rattle.layout.proofs.TestLaws.{and_yes, and-not}
 use Rattle.table.specs.Free.{free_chain}
 use Rattle.table.specs.Reserve.{held_in, lack_but}
 use Rattle.table.specs.Conditions.{Links}

@@ -45,6 +45,9 @@ Reads (end g c r) = Unit {0}
 
 read_same : (m : Image) (call : Call) → Reads call → (image_accept m call).state ≡ m
 unfolding image_accept
+read_same m (append g x) h = elim h [ ]
+read_same m (advance g n d x) h = elim h [ ]
+read_same m (truncate g n) h = elim h [ ]
 read_same m (lookup g n c r) h = refl
 read_same m (end g c r) h = refl
 

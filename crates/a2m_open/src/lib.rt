@@ -1,5 +1,6 @@
 // Opening a table at a log: refusals 1 and 2, and what the calls need of the table.
 #![tactic(auto)]
+
 ghost use Rattle.std.specs.Prelude.{◌≡◌};
 ghost use Rattle.a2m.specs.Opened.{opening_of};
 

@@ -1,5 +1,6 @@
 // The entries of a log below a position struck: what truncate is made of.
 #![tactic(auto)]
+
 ghost use Rattle.std.specs.Prelude.{◌≡◌, ◌≤◌};
 ghost use Rattle.layout.specs.Layout.{read_table};
 ghost use Rattle.table.specs.Free.{write_table};

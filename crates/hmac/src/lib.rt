@@ -1,5 +1,6 @@
 // HMAC (RFC 2104) with SHA-256, for a key of any length.
 #![tactic(auto)]
+
 ghost use Rattle.std.specs.Prelude.{◌≡◌, ◌+◌, ◌^◌, ◌<◌, length};
 ghost use Rattle.refusal.specs.Order.{answer_of, afterwards};
 ghost use Rattle.refusal.specs.Work.{worked_number, worked_blocks};

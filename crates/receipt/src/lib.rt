@@ -1,5 +1,6 @@
 // Receipts (document 01, "Receipt bytes"): what their bytes say, which are possible, and the verdict on one. No code.
 #![tactic(auto)]
+
 use refusal::Refusal;
 
 // The size of a receipt.

@@ -1,5 +1,6 @@
 // The fields of a receipt, read from its bytes.
 #![tactic(auto)]
+
 ghost use Rattle.std.specs.Prelude.{◌≡◌, length};
 ghost use Rattle.octets.specs.Octets.{same};
 ghost use Rattle.receipt.specs.Attestation.{receipt_size, LOOKUP, END, read_attestation, pair_in, attested_in, tag_in};

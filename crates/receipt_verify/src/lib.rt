@@ -1,5 +1,6 @@
 // The verifier of receipts.
 #![tactic(auto)]
+
 mod answers;
 mod possible;
 

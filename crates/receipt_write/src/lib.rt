@@ -1,5 +1,6 @@
 // The writer of receipts: each part into its place, the tag last.
 #![tactic(auto)]
+
 ghost use Rattle.std.specs.Prelude.{◌≡◌, ◌++◌, ◌∷◌, [], length};
 ghost use Rattle.refusal.specs.Order.{answer_of, afterwards};
 ghost use Rattle.refusal.specs.Work.{worked_number, worked_blocks};

@@ -1,0 +1,14 @@
+use lib.ListN.{length}
+use Prim.Native.Nat.{ℕ, suc}
+use mathlib.Core.List.{List}
+use Rattle.table.specs.Chains.{chain}
+use Rattle.layout.specs.Layout.{read_table}
+use Rattle.a2m.proofs.ReleaseLaws.{Releasing, Begins}
+use mathlib.Core.Path.{◌≡◌}
+use Rattle.a2m_strike.proofs.strike.Given as given
+
+abbrev pub invariant-loop-none : given.invariant-loop-none
+invariant-loop-none l = (length l.table ≡ length l.initial.table) × ((b : List ℕ) → Begins b l.view l.n l.initial.table → Releasing b l.view l.n l.table l.last l.count l.s)
+
+abbrev pub decreases-loop-none : given.decreases-loop-none
+decreases-loop-none l = length (chain (read_table l.table).slots (suc l.view.log) l.s)

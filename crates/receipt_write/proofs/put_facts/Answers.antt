@@ -1,0 +1,6 @@
+-- `receipt_write::put_facts` meets its contract.
+use Rattle.receipt.proofs.Writing.{facts-written}
+use Rattle.receipt_write.proofs.put_facts.Goals as goal
+
+pub returns : goal.returns
+returns c = facts-written c.args.out.now c.args.f c.requires c.put_name.ensures c.put.ensures c.put_u64.ensures c.put_u64-2.ensures c.put_u64-3.ensures
