@@ -1,5 +1,5 @@
 -- The answer beside a certificate's: its refusals and its blocks; and that no two answers are alike.
-use mathlib.Core.Path.{◌≡◌, refl, sym, ap, ap₂}
+use mathlib.Core.Path.{◌≡◌, sym, ap, ap₂}
 use mathlib.Core.Logic.{◌↔◌, ◌≢◌}
 use Prim.Native.Nat.{ℕ}
 use native.Mathlib.Omega.{arith}
@@ -15,7 +15,7 @@ use Rattle.refusal.proofs.NumberLaws.{number_of-injective, number_of-positive}
 use Rattle.roster.specs.Profile.{permitted}
 use Rattle.roster.specs.Roster.{is_roster}
 use Rattle.quorum.specs.Certificate.{is_certificate, unread, is_none, first_place, certificate_refusal, certificate_blocks}
-use Rattle.equivocation.specs.Pairs.{first_pair, places_of, contradiction_answer, contradiction_blocks, contradiction_refusal, contradiction, contradiction_blocks_of}
+use Rattle.equivocation.specs.Pairs.{contradiction_answer, contradiction_blocks, contradiction_refusal, contradiction_blocks_of}
 use Rattle.equivocation.specs.declared.Contradiction.{Contradiction}
 use Rattle.equivocation.specs.declared.Contradiction.TheVariants.{Pair, Nothing, Refused}
 

@@ -1,30 +1,22 @@
 -- Document 02 [13]: "answer the first pair, by first then second place"; "If there is none, say so"; "whenever the pile has one it is found".
 use mathlib.Core.Path.{◌≡◌, refl, sym, ap, ap₂, subst, ◌∙◌}
-use mathlib.Core.Logic.{◌↔◌, ◌⊎◌, ◌≢◌, ⊎_elim, inl, inr}
+use mathlib.Core.Logic.{◌↔◌, ◌⊎◌, ⊎_elim, inl, inr}
 use Prim.Native.Nat.{ℕ, zero, suc, ◌+◌, ◌≤◌, ◌<◌}
 use native.Mathlib.Omega.{arith}
-use mathlib.Core.Bool.{Bool, true, false, not, ◌&&◌, cond}
+use mathlib.Core.Bool.{Bool, true, false, not, cond}
 use mathlib.Core.List.{List, [], ◌∷◌}
 use mathlib.Core.Option.{Option, none, some, none-ne-some, some-ne-none, some-injective}
-use lib.ListN.{length}
-use lib.Dec.{eqb}
-use borrow.Author.Tests.{eq-eqb, not-false}
+use borrow.Author.Tests.{not-false}
 use Rattle.octets.proofs.Tests.{equal_or_not}
-use Rattle.refusal.specs.Number.{number_of}
-use Rattle.refusal.specs.Order.{first_fault, afterwards}
-use Rattle.refusal.specs.Answer.{Answer, answer, answer_with}
+use Rattle.refusal.specs.Answer.{Answer, answer}
 use Rattle.refusal.proofs.AnswerLaws.{no-fault}
-use Rattle.refusal.proofs.NumberLaws.{number_of-injective, number_of-positive}
-use Rattle.refusal.proofs.UnusedLaws.{never, never-numbered}
 use Rattle.roster.specs.Profile.{permitted}
 use Rattle.roster.specs.Roster.{is_roster}
 use Rattle.roster.proofs.Profiles.{permitted-exactly}
 use Rattle.roster.proofs.RosterLaws.{roster-exactly}
-use Rattle.quorum.specs.Certificate.{receipt_count, is_certificate, unread, is_none, first_place, certificate_refusal, certificate_blocks}
+use Rattle.quorum.specs.Certificate.{receipt_count, is_certificate}
 use Rattle.quorum.proofs.Tallies.{receipts-exactly}
-use Rattle.equivocation.specs.Pairs.{is_pair, second_of, or_later, first_of, first_pair, places_of, contradiction_answer, contradiction_blocks, contradiction_refusal, contradiction, contradiction_blocks_of, Admitted, IsPair, FirstPair, FindsExactly}
-use Rattle.equivocation.specs.declared.Contradiction.{Contradiction}
-use Rattle.equivocation.specs.declared.Contradiction.TheVariants.{Pair, Nothing, Refused}
+use Rattle.equivocation.specs.Pairs.{is_pair, second_of, or_later, first_of, first_pair, places_of, contradiction_refusal, contradiction, contradiction_blocks_of, Admitted, IsPair, FirstPair, FindsExactly}
 use Rattle.equivocation.proofs.Answers.{looked-at}
 use Rattle.equivocation.proofs.PairLaws.{is-pair}
 

@@ -1,15 +1,15 @@
 -- The tests of document 02 [13] are its conditions: accepted receipts, and two that contradict each other.
-use mathlib.Core.Path.{◌≡◌, refl, sym, ap, ap₂, subst, ◌∙◌}
+use mathlib.Core.Path.{◌≡◌, refl, sym, ap, ◌∙◌}
 use mathlib.Core.Logic.{◌↔◌, ◌≢◌, ◌⊎◌, ⊎_elim, inl, inr}
 use Prim.Native.Nat.{ℕ, ◌<◌}
 use native.Mathlib.Omega.{arith}
-use mathlib.Core.Bool.{Bool, true, false, not, ◌&&◌, ◌||◌, cond}
+use mathlib.Core.Bool.{Bool, true, false, not, ◌&&◌, cond}
 use mathlib.Core.List.{List}
 use lib.ListN.{length}
 use lib.Dec.{eqb}
-use borrow.Author.Tests.{eqb-true, eq-eqb, not-true, not-false}
+use borrow.Author.Tests.{eqb-true, eq-eqb}
 use Rattle.octets.specs.Octets.{Bytes, same}
-use Rattle.octets.proofs.Tests.{and_left, and_right, and_both, and-false, or_left, or_right, or_cases, equal_or_not}
+use Rattle.octets.proofs.Tests.{and_left, and_right, and_both, equal_or_not}
 use Rattle.octets.proofs.Same.{same-eq, eq-same, same_not}
 use Rattle.refusal.specs.Answer.{Answer}
 use Rattle.receipt.specs.Attestation.{Attestation, LOOKUP, END, read_attestation}
@@ -20,12 +20,10 @@ use Rattle.receipt.specs.declared.Question.{Question}
 use Rattle.receipt.proofs.Cases.{by-ask, key-length, nonce-length, receipt-length, impossible, wrong-tag, accepts}
 use Rattle.receipt.proofs.PossibleLaws.{possible-sound, asks-complete}
 use Rattle.receipt.proofs.Verifier.{says, complete, sound, passes}
-use Rattle.roster.specs.Roster.{size, keeper_at, key_at}
-use Rattle.roster.specs.declared.Found.TheVariants.{At}
+use Rattle.roster.specs.Roster.{size, key_at}
 use Rattle.quorum.specs.Certificate.{receipt_count, receipt_at}
 use Rattle.quorum.proofs.Masks.{any_at, any_some}
 use Rattle.equivocation.specs.Pairs.{own_question, accepted_by, accepted_at, stories_differ, conflicting, is_pair, AcceptedBy, EntryOf, AcceptedAt, Differ, Skips, Conflicting, IsPair}
-use Rattle.equivocation.specs.Marks.{checked_under}
 use Rattle.equivocation.proofs.CheckLaws.{nonce-size, accepted-apart, accepted-both}
 use Rattle.equivocation.proofs.StoryLaws.{both-assigned, assigned-first, skipped-first, no-story, by-stories}
 

@@ -1,5 +1,6 @@
 // A keeper that contradicts itself (document 02, [13]): the first two receipts of a pile that show it.
 #![tactic(auto)]
+
 mod checking;
 mod pairs;
 

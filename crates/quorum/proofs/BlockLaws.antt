@@ -30,15 +30,15 @@ receipt-few roster r = go (possible (read_attestation r) && is_member roster (re
 
 module _ (roster r : List ℕ) (k : ℕ) (e : k ≡ (read_attestation r).keeper) where
   -- what the search finds tells whether a member has the keeper number
-  is_member : (f : Found) → member roster k (length roster / 40) ≡ f → is_member roster (read_attestation r).keeper ≡ not (is_nothing f)
+  is_member_lem : (f : Found) → member roster k (length roster / 40) ≡ f → is_member roster (read_attestation r).keeper ≡ not (is_nothing f)
   unfolding is_member size
-  is_member f h =
+  is_member_lem f h =
       ap not (sym (absent-is roster (read_attestation r).keeper (length roster / 40)) ∙ ap is_nothing (ap (λ (x : ℕ). member roster x (length roster / 40)) (sym e) ∙ h))
 
   -- a stranger's receipt adds none
   pub stranger-blocks : member roster k (length roster / 40) ≡ Nothing → (b : ℕ) → b ≡ b + receipt_blocks roster r
   unfolding receipt_blocks
-  stranger-blocks h b = simp (is_member Nothing h, and-false (possible (read_attestation r))) (omega arith)
+  stranger-blocks h b = simp (is_member_lem Nothing h, and-false (possible (read_attestation r))) (omega arith)
 
   -- a member's adds what its verification reports
   pub member-blocks : (nonce : List ℕ) (i n : ℕ) {b : ℕ} → member roster k (length roster / 40) ≡ At i → n ≡ 32 → length nonce ≡ 32 → length r ≡ 160
@@ -47,7 +47,7 @@ module _ (roster r : List ℕ) (k : ℕ) (e : k ≡ (read_attestation r).keeper)
   member-blocks nonce i n h s m l v =
       let key : List ℕ = take n (drop (i * 40 + 8) roster) in
       let size : length key ≡ 32 = ap (λ (x : ℕ). length (take x (drop (i * 40 + 8) roster))) s ∙ length_part roster (i * 40 + 8) 32 (omega (arith, (member_below roster k (length roster / 40) i h).0)) in
-      v ∙ blocks-by key r nonce size m l ∙ simp (is_member (At i) h, and-true (possible (read_attestation r)))
+      v ∙ blocks-by key r nonce size m l ∙ simp (is_member_lem (At i) h, and-true (possible (read_attestation r)))
 
 module _ (roster cert : List ℕ) where
   pub blocks_start : 0 ≡ blocks_below roster cert 0

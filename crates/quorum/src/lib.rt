@@ -1,6 +1,7 @@
 // Station certificates (document 01, "Certificates"; profiles: document 02, [7]): the paper, and what is proved of it. No code but readers
 // of receipts and verdicts.
 #![tactic(auto)]
+
 mod receipts;
 
 pub use receipts::{blocks_of, pair_at, receipt_at};

@@ -1,5 +1,6 @@
 // The verdict on a certificate: the refusals, the tally, and the first place whose pair is certified.
 #![tactic(auto)]
+
 mod places;
 
 ghost use Rattle.std.specs.Prelude.{◌≡◌};

@@ -1,5 +1,6 @@
 // The tally of a certificate: each receipt is verified once.
 #![tactic(auto)]
+
 ghost use Rattle.std.specs.Prelude.{◌≡◌, ◌+◌, ◌*◌, ◌≤◌, ◌<◌, length};
 ghost use Rattle.receipt.specs.Attestation.{receipt_size};
 ghost use Rattle.roster.specs.Roster.{size};

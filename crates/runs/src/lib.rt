@@ -1,5 +1,6 @@
 // Runs and their comparison (document 01, "Runs"). No code.
 #![tactic(auto)]
+
 use refusal::Refusal;
 
 // The verdict, or why there is none, each with the blocks hashed (document 02 [2]).
