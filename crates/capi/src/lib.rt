@@ -1,6 +1,7 @@
 // The keeper's calls for C, as include/keeper.h declares them. Each hands its arguments on unchanged, returns document 01's
 // number, with the blocks hashed where it counts them, and writes results where the number is 0, and only there.
 #![tactic(auto)]
+
 pub mod calls;
 pub mod comparing;
 pub mod contradictions;

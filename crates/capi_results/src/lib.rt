@@ -1,5 +1,6 @@
 // What C gets of an answer: its number and the blocks hashed, and the results of an accepted call.
 #![tactic(auto)]
+
 ghost use Rattle.std.specs.Prelude.{◌≡◌, []};
 ghost use Rattle.refusal.specs.Number.{number_of};
 ghost use Rattle.refusal.specs.Work.{worked_number, worked_blocks};

@@ -1,5 +1,6 @@
 // The calls of a script on its table. Its answers have no column for the blocks hashed.
 #![tactic(auto)]
+
 ghost use Rattle.std.specs.Prelude.{◌≡◌, true, ◌<◌, length};
 ghost use Rattle.octets.specs.Octets.{zeros};
 ghost use Rattle.bigendian.specs.BigEndian.{placed as placed_in};

@@ -1,5 +1,6 @@
 // A script line answered.
 #![tactic(auto)]
+
 mod lines;
 mod tables;
 

@@ -1,5 +1,6 @@
 // The lines of a script that comes in pieces.
 #![tactic(auto)]
+
 ghost use Rattle.std.specs.Prelude.{◌≡◌, ◌+◌, ◌*◌, ◌≤◌, ◌<◌, ◌^◌, min, length};
 ghost use Rattle.layout.specs.Layout.{largest};
 ghost use Rattle.script.specs.Stream.{Keeps, Feeds, Finishes};
