@@ -32,6 +32,8 @@ last-in (e ∷ f ∷ es) h = inr (last-in (f ∷ es) refl)
 -- the position of an entry lies between low and high
 pub rising-in : (w : ℕ) (es : List Entry) → Rising w es → (e : Entry) → In e es → (w ≤ e.position) × (e.position ≤ (last_entry es).position)
 unfolding last_entry
+rising-in w [] r e x'' = elim x'' [ ]
+rising-in w (x ∷ []) r e (inr m) = elim m [ ]
 rising-in w (x ∷ []) r e (inl q) = let p : e.position ≡ x.position = ap (λ (y : Entry). y.position) q in let h : w ≤ x.position = r.0 in omega arith
 rising-in w (x ∷ y ∷ es) r e (inl q) =
     let p : e.position ≡ x.position = ap (λ (z : Entry). z.position) q in
@@ -52,6 +54,7 @@ in_bounds l ok e m = let r = rising-in l.low l.entries ok.rising e m in let a = 
 
 -- one position has one entry
 pub rising-one : (w : ℕ) (es : List Entry) → Rising w es → (e f : Entry) → In e es → In f es → e.position ≡ f.position → e ≡ f
+rising-one w [] r e f x4 _ h = elim x4 [ ]
 rising-one w (x ∷ es) r e f (inl p) (inl q) h = p ∙ sym q
 rising-one w (x ∷ es) r e f (inl p) (inr q) h =
     absurd (let k = (rising-in (suc x.position) es r.1 f q).0 in let a : e.position ≡ x.position = ap (λ (z : Entry). z.position) p in omega arith)
@@ -76,6 +79,7 @@ change-fit Ok l k v (entering e hi w lv ld q) f = rw q (record { high = w v f.hi
   where
     go : (x : Entry) → In x l.entries ⊎ In x (e ∷ []) → (length x.value ≡ 32) × (length x.digest ≡ 32)
     go x (inl m) = f.sized x m
+    go x (inr (inr x5)) = elim x5 [ ]
     go x (inr (inl p)) = (rw p lv, rw p ld)
 change-fit Ok l k v (cutting n lo hi q) f = rw q (record { high = f.high; sized = λ (x : Entry) (m : In x (keep_from n l.entries)). f.sized x (in-keep_from n x l.entries m) })
 

@@ -51,6 +51,7 @@ gap-stays l k ok ok' e later p above below low = go (standing k p) (standing-mea
   where
     only : (f : Entry) → p ≤ f.position → In f l.entries ⊎ In f (e ∷ []) → f ≡ e
     only f up (inl m) = let h = (in_bounds l ok f m).1 in absurd (omega arith)
+    only f up (inr (inr x'')) = elim x'' [ ]
     only f up (inr (inl z)) = z
 
     is : (f : Entry) → In f k.entries → p ≤ f.position → f.position ≤ e.position → f ≡ e

@@ -65,6 +65,7 @@ module _ (b : Model) (keeps : Keeps b) (ts : List Turn) (w : Each WideTurn ts) w
           let q = e.position in
           let c = (in_bounds (at j) ((at-keeps b keeps ts w j).sound g) e.entry m).1 in
           omega arith
+      cases (inr (inr x'')) = elim x'' [ ]
       cases (inr (inl z)) =
           let a = k.below in
           let q = e.position in

@@ -65,6 +65,7 @@ module _ (b : Model) (keeps : Keeps b) (ts : List Turn) (wide : Each WideTurn ts
       jumper = new_entry k.n k.value k.given
 
       cases : In s.entry (at j).entries ⊎ In s.entry (jumper ∷ []) → s.entry ≡ jumper
+      cases (inr (inr x'')) = elim x'' [ ]
       cases (inr (inl z)) = z
       cases (inl m) =
           let h = (in_bounds (at j) ((at-keeps b keeps ts wide j).sound g) s.entry m).1 in

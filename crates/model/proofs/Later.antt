@@ -31,6 +31,7 @@ later_trans l k j p q = record { low = le_trans p.low q.low; high = le_trans p.h
 
 pub in-keep_from : (n : ℕ) (e : Entry) (es : List Entry) → In e (keep_from n es) → In e es
 unfolding keep_from
+in-keep_from n e [] m = elim m [ ]
 in-keep_from n e (x ∷ es) m = go (leb n x.position) m (λ (q : In e (keep_from n es)). in-keep_from n e es q)
   where
     go : (t : Bool) → In e (cond t (x ∷ keep_from n es) (keep_from n es)) → (In e (keep_from n es) → In e es) → In e (x ∷ es)
@@ -41,6 +42,7 @@ in-keep_from n e (x ∷ es) m = go (leb n x.position) m (λ (q : In e (keep_from
 -- an entry at n or above is kept
 pub in_kept : (n : ℕ) (e : Entry) (es : List Entry) → In e es → n ≤ e.position → In e (keep_from n es)
 unfolding keep_from
+in_kept n e [] x'' h = elim x'' [ ]
 in_kept n e (x ∷ es) (inl p) h = rw (keep_from, le-leb n x.position (subst (λ (y : Entry). n ≤ y.position) p h)) (inl p)
 in_kept n e (x ∷ es) (inr m) h = go (leb n x.position) (in_kept n e es m h)
   where
@@ -54,6 +56,7 @@ later-entered l e h = record { low = le_refl _; high = omega arith; old = λ (x 
   where
     go : (x : Entry) → x.position ≤ l.high → In x l.entries ⊎ In x (e ∷ []) → In x l.entries
     go x k (inl m) = m
+    go x k (inr (inr x3)) = elim x3 [ ]
     go x k (inr (inl q)) = absurd (let p : x.position ≡ e.position = ap (λ (y : Entry). y.position) q in omega arith)
 
 later-cut : (l : Log) (n : ℕ) → l.low < n → Later l (cut_at n l)

@@ -28,6 +28,7 @@ use Rattle.model.proofs.TableClaim.{Stands, table-claim}
 
 -- the entries along a chain have the sizes of their slots
 entries-sized : (slots : List Slot) → SlotsFit slots → (c : List ℕ) (e : Entry) → In e (entries_of slots c) → (length e.value ≡ 32) × (length e.digest ≡ 32)
+entries-sized slots h [] e x' = elim x' [ ]
 entries-sized slots h (t ∷ c) e (inl p) = let f = slot-fits slots h t in (rw p f.value, rw p f.digest)
 entries-sized slots h (t ∷ c) e (inr q) = entries-sized slots h c e q
 

@@ -43,9 +43,9 @@ module _ (b : List ℕ) (h : Bytes b) (w : whole b ≡ true) where
     pub model : model_of (read_table (table_step b call).state) ≡ (model_step rules (model_of (read_table b)) call).state
     pub whole : whole (table_step b call).state ≡ true
 
-  pub table_step : (call : Call) → Wide call → Follows call
+  pub table_step_lem : (call : Call) → Wide call → Follows call
   unfolding after early request_step
-  table_step call wide =
+  table_step_lem call wide =
       let m = read_table b in
       let s = stands in
       let f = whole-step m (whole-image b w) call in

@@ -1,6 +1,6 @@
 -- The chains of an image that says a model meet every slot exactly once.
 use Prim.Native.Nat.{ℕ, suc, ◌≤◌}
-use mathlib.Core.Path.{◌≡◌, refl, ap}
+use mathlib.Core.Path.{subst, ◌≡◌, refl, ap}
 use mathlib.Core.Logic.{inl, inr}
 use mathlib.Core.List.{List, [], ◌∷◌}
 use lib.ListN.{length}
@@ -21,9 +21,10 @@ times-out s (x ∷ c) n = rw (times, ne_eqb s x (λ (e : s ≡ x). n (inl e))) (
 
 times-in : (s : ℕ) (c : List ℕ) → Distinct c → In s c → times s c ≡ 1
 unfolding times
-times-in s (x ∷ c) d (inl e) = rw (times, eq-eqb s x e) (ap suc (times-out s c (λ (m : In s c). d.0 (rw e at m))))
+times-in s [] d x'' = elim x'' [ ]
+times-in s (x ∷ c) d (inl e) = rw (times, eq-eqb s x e) (ap suc (times-out s c (λ (m : In s c). d.0 (subst (λ (y : ℕ). In y c) e m))))
 times-in s (x ∷ c) d (inr m) =
-    rw (times, ne_eqb s x (λ (e : s ≡ x). d.0 (rw e at m))) (times-in s c d.1 m)
+    rw (times, ne_eqb s x (λ (e : s ≡ x). d.0 (subst (λ (y : ℕ). In y c) e m))) (times-in s c d.1 m)
 
 -- every slot of the table, once
 pub meets-once : (m : Image) (b : Model) → Rep m b → Sound b → (s : ℕ) → 1 ≤ s → s ≤ length m.slots → times s (meets m) ≡ 1

@@ -29,6 +29,9 @@ use Rattle.model.proofs.Demand3.{stands, bytes-are, list_claim, stays_whole}
 
 accept-same : (m : Image) (call : Call) → Reads call → (image_accept m call).state ≡ m
 unfolding image_accept
+accept-same m (append log value) h = elim h [ ]
+accept-same m (advance log n digest value) h = elim h [ ]
+accept-same m (truncate log n) h = elim h [ ]
 accept-same m (lookup g n c k) h = refl
 accept-same m (end g c k) h = refl
 

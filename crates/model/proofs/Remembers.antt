@@ -50,6 +50,9 @@ stored ru b g n low x c s r = go c s r (stepped ru b c)
   where
     go : (c : Call) → Stores g x c → (model_step ru b c).reply ≡ done low n → Stepped ru b c → Stored b (model_step ru b c).state g n x
     go c s r (turned k e) = absurd (let q : refused k ≡ done low n = rw e at r in let z : ◌≡◌ {A = ℕ} 0 1 = cc in omega arith)
+    go (truncate log _) s r (taken a e) = elim s [ ]
+    go (lookup log _ nonce lent) s r (taken a e) = elim s [ ]
+    go (Rattle.a2m.specs.Call.end log nonce lent) s r (taken a e) = elim s [ ]
     go (append k y) s r (taken a e) = put_stored ru b g n low x (append k y) 2 k _ a.log s.0 s.1 e r
     go (advance k m d y) s r (taken a e) = put_stored ru b g n low x (advance k m d y) 2 k _ a.log s.0 s.1 e r
 
@@ -57,6 +60,7 @@ stored ru b g n low x c s r = go c s r (stepped ru b c)
 
 among-is : (n w : ℕ) (es : List Entry) → Rising w es → (e : Entry) → In e es → e.position ≡ n → standing_among n (keep_from n es) ≡ assigned e
 unfolding keep_from standing_among
+among-is n w [] r e x3 h = elim x3 [ ]
 among-is n w (x ∷ es) r e (inl p) h =
     let q : x.position ≡ n = ap (λ (y : Entry). y.position) (sym p) ∙ h in
     rw (keep_from, le-leb n x.position (omega arith), standing_among, eq-eqb x.position n q) (ap assigned (sym p))

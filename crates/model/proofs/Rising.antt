@@ -30,6 +30,9 @@ raised ru b n low c p r = go c p r (stepped ru b c)
   where
     go : (c : Call) → Puts c → (model_step ru b c).reply ≡ done low n → Stepped ru b c → Raised b (model_step ru b c).state (log_of c) n
     go c p r (turned k e) = absurd (let q : refused k ≡ done low n = rw e at r in let z : ◌≡◌ {A = ℕ} 0 1 = cc in omega arith)
+    go (Rattle.a2m.specs.Call.truncate log _) p r (taken a e) = elim p [ ]
+    go (Rattle.a2m.specs.Call.lookup log _ nonce lent) p r (taken a e) = elim p [ ]
+    go (Rattle.a2m.specs.Call.end log nonce lent) p r (taken a e) = elim p [ ]
     go (append k y) p r (taken a e) =
         let q : done (log_at b.logs k).low (suc (log_at b.logs k).high) ≡ done low n = rw e at r in
         let at : suc (log_at b.logs k).high ≡ n = cc in

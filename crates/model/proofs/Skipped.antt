@@ -34,7 +34,7 @@ use Rattle.model.proofs.Passed.{Stepped, turned, taken, stepped}
 use Rattle.model.proofs.Shown.{shown-kind, length-LOOKUP}
 use Rattle.model.proofs.Along.{Keeps}
 use Rattle.model.proofs.Lookups.{found_as}
-use Rattle.model.proofs.OfTable.{table_step}
+use Rattle.model.proofs.OfTable.{table_step_lem}
 use Rattle.model.proofs.OfWhole.{log-in, model-sound}
 use Rattle.model.proofs.Verified.{whole-keeps, found_in}
 
@@ -119,5 +119,5 @@ skipped-receipt b h g n c k n64 r q two = go (table_refusal b (lookup g n c k)) 
         let m = read_table b in
         let w : whole b ≡ true = not-false (whole b) (clear _ m (lookup g n c k) e).whole in
         let keeps = whole-keeps m (whole-image b w) (fits_read b h (whole_formed b w)) in
-        let there : receipt_in (model_step rules (model_of m) (lookup g n c k)).reply ≡ some r = ap receipt_in (sym (table_step b h w (lookup g n c k) n64).reply) ∙ q in
+        let there : receipt_in (model_step rules (model_of m) (lookup g n c k)).reply ≡ some r = ap receipt_in (sym (table_step_lem b h w (lookup g n c k) n64).reply) ∙ q in
         subst (λ (l : Log). ShowsNext l n (read_attestation r)) (log-in m g) (model-skipped (model_of m) keeps g n n64 c k r there two)

@@ -25,6 +25,7 @@ Means l n (skipped e) = In e l.entries × (n < e.position) × (l.low ≤ n) × (
 
 kept_above : (n : ℕ) (e : Entry) (es : List Entry) → In e (keep_from n es) → n ≤ e.position
 unfolding keep_from
+kept_above n e [] m = elim m [ ]
 kept_above n e (x ∷ es) m = go (leb n x.position) refl m (λ (q : In e (keep_from n es)). kept_above n e es q)
   where
     go : (t : Bool) → leb n x.position ≡ t → In e (cond t (x ∷ keep_from n es) (keep_from n es)) → (In e (keep_from n es) → n ≤ e.position) → n ≤ e.position

@@ -37,13 +37,14 @@ use Rattle.model.proofs.Lookups.{found_as, lookup-is}
 use Rattle.model.proofs.Along.{Keeps}
 use Rattle.model.proofs.Reading.{empty-is}
 use Rattle.model.proofs.OfWhole.{log-in, model-says, model-sound}
-use Rattle.model.proofs.OfTable.{table_step}
+use Rattle.model.proofs.OfTable.{table_step_lem}
 use Rattle.model.proofs.Accepted.{attests, step-verified}
 
 -- ---- the model that a whole table says keeps what the verifier asks
 
 -- what every slot of a chain has
 in_map : (f : ℕ → Entry) (P : Entry → Type 0) → ((s : ℕ) → P (f s)) → (c : List ℕ) (e : Entry) → In e (map f c) → P e
+in_map f P h [] e x' = elim x' [ ]
 in_map f P h (s ∷ c) e (inl q) = subst P (sym q) (h s)
 in_map f P h (s ∷ c) e (inr m) = in_map f P h c e m
 
@@ -106,7 +107,7 @@ written-accepted b h call wide r q = go (table_refusal b call) refl
         let f = fits_read b h (whole_formed b w) in
         let n = (whole-range b w).logs-most in
         let few : length (model_of (read_table b)).logs ≤ 16 = subst (λ (k : ℕ). k ≤ 16) (sym (length-tabulate (length (read_table b).rows) (log_in (read_table b)) ∙ length-rows b)) n in
-        let there : receipt_in (model_step rules (model_of (read_table b)) call).reply ≡ some r = ap receipt_in (sym (table_step b h w call wide).reply) ∙ q in
+        let there : receipt_in (model_step rules (model_of (read_table b)) call).reply ≡ some r = ap receipt_in (sym (table_step_lem b h w call wide).reply) ∙ q in
         step-verified (model_of (read_table b)) (whole-keeps (read_table b) (whole-image b w) f) f.key few rules attests call wide r there
         ∙ ap (answer 0) (values-are (read_table b) (whole-image b w) call c.position)
     go (some k) e = absurd (none-ne-some r (rw (table_step, e) at q))
