@@ -1,5 +1,6 @@
 // Truncate.
 #![tactic(auto)]
+
 ghost use Rattle.std.specs.Prelude.{◌≡◌};
 ghost use Rattle.a2m.specs.Call.{truncate as truncates};
 ghost use Rattle.a2m.specs.TableCalls.{table_step};
