@@ -1,4 +1,5 @@
 // Lookup and end: receipts of what a log holds.
 #![tactic(auto)]
+
 pub mod end;
 pub mod lookup;
