@@ -1,5 +1,6 @@
 // Surveys: a survey number of 24 bits and a reading number of 40 bits make a position.
 #![tactic(auto)]
+
 ghost use Rattle.std.specs.Prelude.{◌≡◌};
 ghost use Rattle.survey.specs.Packing.{packing, packing_answer, last_reading, survey_of, reading_of};
 
