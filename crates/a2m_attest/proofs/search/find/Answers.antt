@@ -1,0 +1,24 @@
+-- `a2m_attest::search::find` meets its contract. Assumes nothing.
+use Rattle.a2m.specs.Opened.{found_of}
+use Rattle.a2m.specs.Search.{search}
+use Rattle.a2m.specs.ImageCalls.{entries_in}
+use mathlib.Core.List.{List}
+use Rattle.layout.specs.Layout.{read_table}
+use Rattle.layout.specs.Image.{Entry}
+use Rattle.a2m.proofs.SearchLaws.{is-unassigned, is-forgotten, is-searched}
+use Rattle.a2m.proofs.OpenedLaws.{opened-counted, opened-reaches, entries-are}
+use native.Mathlib.Omega.{arith}
+use mathlib.Core.Path.{ap, ◌∙◌}
+use Rattle.a2m_attest.proofs.search.find.Goals as goal
+
+pub returns-then-row-n : goal.returns-then-row-n
+returns-then-row-n c = record { within = omega arith; found = is-unassigned (read_table c.args.table.now).slots c.args.view.row (entries_in (read_table c.args.table.now) c.args.view.log) c.args.n c.if-row-n.true }
+
+pub returns-then-n-row : goal.returns-then-n-row
+returns-then-n-row c = record { within = omega arith; found = is-forgotten (read_table c.args.table.now).slots c.args.view.row (entries_in (read_table c.args.table.now) c.args.view.log) c.args.n c.if-row-n.false c.if-n-row.true }
+
+pub search-requires : goal.search-requires
+search-requires c = record { counted = opened-counted c.args.table.now c.args.view c.requires; first_value = opened-reaches c.args.table.now c.args.view c.requires }
+
+pub returns : goal.returns
+returns c = record { within = c.search.ensures.within; found = is-searched (read_table c.args.table.now).slots c.args.view.row (entries_in (read_table c.args.table.now) c.args.view.log) c.args.n c.if-row-n.false c.if-n-row.false (found_of (read_table c.args.table.now).slots c.search.result) (c.search.ensures.found ∙ ap (λ (es : List Entry). search c.args.n 0 es) (entries-are c.args.table.now c.args.view c.requires)) }
