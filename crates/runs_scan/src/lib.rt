@@ -1,5 +1,6 @@
 // The one forward pass over two runs, which hashes each value once.
 #![tactic(auto)]
+
 ghost use Rattle.std.specs.Prelude.{◌≡◌, ◌+◌, ◌*◌, ◌/◌, min, length};
 ghost use Rattle.octets.specs.Octets.{same};
 ghost use Rattle.sha256.specs.Sha256.{sha256};
