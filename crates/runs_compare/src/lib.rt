@@ -1,5 +1,6 @@
 // The comparison of two runs (document 01, "Runs"): the refusals, the pass, and its verdict.
 #![tactic(auto)]
+
 ghost use Rattle.std.specs.Prelude.{◌≡◌, ◌+◌, ◌≤◌, length};
 ghost use Rattle.octets.specs.Octets.{splice};
 ghost use Rattle.runs.specs.Run.{run};
