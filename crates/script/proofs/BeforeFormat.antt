@@ -1,15 +1,13 @@
 -- Document 01: "before a format the table is torn".
-use Prim.Native.Nat.{ℕ}
-use mathlib.Core.Path.{◌≡◌, refl, ap, ◌∙◌}
-use mathlib.Core.Bool.{Bool, false, cond, not}
-use mathlib.Core.List.{List, []}
-use mathlib.Core.Option.{Option, some}
+use mathlib.Core.Path.{◌≡◌, refl}
+use mathlib.Core.Bool.{false}
+use mathlib.Core.List.{[]}
+use mathlib.Core.Option.{some}
 use Rattle.octets.specs.Octets.{same}
 use Rattle.refusal.specs.Order.{first_fault}
-use Rattle.layout.specs.Layout.{read_table}
 use Rattle.table.specs.Whole.{whole}
 use Rattle.layout.specs.Tests.{constants_fit, header_fits}
-use Rattle.a2m.specs.Call.{Call, Reply, refused}
+use Rattle.a2m.specs.Call.{Call}
 use Rattle.a2m.specs.ImageCalls.{wrong_length, faults}
 use Rattle.a2m.specs.TableCalls.{table_refusal, table_step}
 use Rattle.script.specs.declared.Answer.TheVariants.{Plain}

@@ -16,7 +16,7 @@ use Rattle.layout.specs.Layout.{logs_of, read_table}
 use Rattle.layout.specs.Fits.{Fits}
 use Rattle.layout.proofs.TableLaws.{length-rows, fits_read}
 use Rattle.table.specs.Whole.{whole}
-use Rattle.a2m.specs.Call.{Call, append, advance, truncate, log_of, Wide, refused, done, found}
+use Rattle.a2m.specs.Call.{Call, append, advance, truncate, log_of, Wide, refused, done}
 use Rattle.a2m.specs.ImageCalls.{row_in, wrong_length, misplaced, spent, full, promised, faults, image_done, image_accept, image_refusal, image_step}
 use Rattle.a2m.specs.TableCalls.{table_refusal, table_step}
 use Rattle.a2m.proofs.Clear.{clear}
