@@ -1,5 +1,5 @@
 -- Document 02 [9]: a sentence shows exactly the verdict's numbers, and no two verdicts have one sentence, nor one buffer.
-use Prim.Native.Nat.{ℕ, zero, suc, ◌+◌, ◌-◌}
+use Prim.Native.Nat.{ℕ, zero, suc, ◌-◌}
 use mathlib.Core.Path.{◌≡◌, refl, sym, ap, ap₂, ◌∙◌}
 use mathlib.Core.Bool.{true, false}
 use mathlib.Core.List.{List, [], ◌∷◌, ◌++◌}
@@ -7,7 +7,7 @@ use native.Mathlib.Omega.{arith}
 use lib.ListN.{length, get_or}
 use Rattle.octets.specs.Octets.{zeros}
 use Rattle.octets.proofs.Tests.{and_both}
-use Rattle.sentence.specs.Text.{ascii, words, number, text_of, numbers_in}
+use Rattle.sentence.specs.Text.{ascii, words, text_of, numbers_in}
 use Rattle.sentence.specs.Words.{receipt, certificate, word_at, kind_words, reason}
 use Rattle.sentence.specs.Sentence.{Said, accepted, certified, refused, members_below, others, agreed, pieces_of, sentence_of, numbers_said, Fits, padded}
 use Rattle.sentence.proofs.TextLaws.{wordless, is_words, numbers_of, parted, Small, shown, Printed, text_printed}

@@ -13,7 +13,7 @@ use Rattle.octets.proofs.Tests.{and_left, and_right, equal_or_not}
 use Rattle.decimal.specs.Decimal.{decimal_of, decimal_from, digits_of}
 use Rattle.decimal.proofs.Laws.{of_width, length-digits_of}
 use Rattle.decimal.proofs.Theorems.{length-decimal}
-use Rattle.sentence.specs.Text.{ascii, words, number, text_of}
+use Rattle.sentence.specs.Text.{ascii, words, text_of}
 use Rattle.sentence.specs.Words.{Subject, receipt, certificate, word_at, kind_words, refusal_words, meanings, meaning_in, reason}
 use Rattle.sentence.specs.Sentence.{Said, accepted, certified, refused, members_below, others, agreed, pieces_of, sentence_of}
 use Rattle.sentence.proofs.WordLaws.{kind-short, reason-short}
