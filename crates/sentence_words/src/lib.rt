@@ -1,5 +1,6 @@
 // Words and numbers, written one after the other; each writer gives the place after what it wrote.
 #![tactic(auto)]
+
 ghost use Rattle.std.specs.Prelude.{◌≡◌, ◌++◌, ◌+◌, ◌≤◌, length};
 ghost use Rattle.octets.specs.Octets.{splice};
 ghost use Rattle.decimal.specs.Decimal.{decimal_of};
