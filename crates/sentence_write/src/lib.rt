@@ -1,5 +1,6 @@
 // Verdicts written as sentences (document 02 [9]).
 #![tactic(auto)]
+
 mod members;
 mod sentences;
 
