@@ -14,7 +14,7 @@ use Rattle.octets.proofs.Zeros.{length-zeros}
 use Rattle.refusal.specs.Order.{first_fault, answer_of, afterwards}
 use Rattle.decimal.specs.Decimal.{decimal_of}
 use Rattle.decimal.proofs.Theorems.{decimal-zero, length-decimal}
-use Rattle.sentence.specs.Text.{ascii, Piece, words, number, piece_text, text_of}
+use Rattle.sentence.specs.Text.{ascii, Piece, words, piece_text, text_of}
 use Rattle.sentence.specs.Words.{Subject, receipt, certificate, reason}
 use Rattle.sentence.specs.Sentence.{Said, accepted, certified, refused, receipt_said, station_said, members_below, agreed, pieces_of, sentence_of, sentence_refusal, padded, beginning}
 use Rattle.refusal.specs.Answer.{answer}
