@@ -1,0 +1,7 @@
+-- `vectors::field` meets its contract.
+use Rattle.std.proofs.Common.{[], ◌∷◌, refl}
+use Rattle.octets.specs.Undivided.{Undivided}
+use Rattle.vectors.proofs.field.Code.Mir.{function}
+
+pub undivided : Undivided ("core::convert::AnyFrom::from" ∷ "core::result::ResultFromResidualErrResidual::from_residual" ∷ "core::result::ResultTry::branch" ∷ "printing::hex" ∷ "printing::number" ∷ "printing::text" ∷ []) function
+undivided = refl
