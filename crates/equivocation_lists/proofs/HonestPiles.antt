@@ -1,16 +1,15 @@
 -- Document 02 [13]: "Receipts that one list of calls as in demand 3 wrote are never such a pair", of two receipts and of a pile; and that a roster which has
 -- the keeper accepts each of them, so that this is said of receipts that count.
 use Prim.Native.Nat.{ℕ, zero, suc, ◌<◌}
-use mathlib.Core.Path.{◌≡◌, refl, sym, ap, subst, ◌∙◌}
+use mathlib.Core.Path.{◌≡◌, refl, sym, ap, ◌∙◌}
 use mathlib.Core.Logic.{◌⊎◌, inl, inr}
 use native.Mathlib.Omega.{arith}
-use mathlib.Core.Bool.{Bool, true, false, ◌&&◌}
+use mathlib.Core.Bool.{Bool, true, false}
 use mathlib.Core.List.{List, [], ◌∷◌}
 use mathlib.Core.Option.{Option, none, some, none-ne-some, some-ne-none}
-use lib.ListN.{get_elem?}
 use lib.Dec.{eqb}
 use borrow.Author.Tests.{eqb-true}
-use Rattle.octets.proofs.Tests.{and_left, and_right}
+use Rattle.octets.proofs.Tests.{and_left}
 use Rattle.refusal.specs.Answer.{Answer, answer}
 use Rattle.receipt.specs.Attestation.{read_attestation}
 use Rattle.receipt.specs.Verdict.{answers, verdict}
@@ -18,7 +17,7 @@ use Rattle.receipt.specs.declared.Question.{Question}
 use Rattle.receipt.proofs.Verifier.{passes}
 use Rattle.roster.specs.Roster.{size, keeper_at, key_at}
 use Rattle.quorum.specs.Certificate.{receipt_count, receipt_at}
-use Rattle.quorum.proofs.Masks.{any_at, any_some}
+use Rattle.quorum.proofs.Masks.{any_at}
 use Rattle.equivocation.specs.Pairs.{own_question, accepted_by, accepted_at, Differ, Skips, Conflicting, conflicting, is_pair, first_pair, contradiction, Admitted, IsPair}
 use Rattle.equivocation.proofs.PairLaws.{own-accepted, accepted-by, accepted-at, conflicting-exactly, is-pair}
 use Rattle.equivocation.proofs.FirstPairs.{none-exactly, pair-exactly, nothing-exactly}

@@ -15,7 +15,7 @@ use Rattle.model.specs.Log.{last_entry, keep_from, keep_below, entered, standing
 use Rattle.model.specs.Model.{rules01, rules, Model, total, lacks, lacks_but, slot_rule, is_nil, model_refusal, model_receipt, shown_for, model_lookup, model_end, model_done, model_accept, model_step}
 use Rattle.model.specs.Claim.{model_turn, call_at, SkipsAt, ForgetsAt, ShowsAt}
 use Rattle.model.specs.Carried.{model01, carried_turns}
-use Rattle.model.specs.Marked.{Columns, dashes, shown, columns_of, A, S, zero32}
+use Rattle.model.specs.Marked.{dashes, shown, columns_of, A, S, zero32}
 use Rattle.model.proofs.Gaps.{GapAsked}
 
 abbrev start : Model

@@ -18,7 +18,7 @@ use Rattle.receipt.proofs.Fields.{read-receipt}
 use Rattle.layout.specs.Image.{Entry}
 use Rattle.table.specs.Format.{format_refusal, format_bytes}
 use Rattle.table.proofs.Lists.{In, in_right, in-cases}
-use Rattle.a2m.specs.Call.{Call, advance, truncate, lookup, Reply, replies, after, receipt_in}
+use Rattle.a2m.specs.Call.{Call, lookup, Reply, replies, after, receipt_in}
 use Rattle.a2m.specs.NewEntry.{new_entry}
 use Rattle.survey.specs.Requests.{Request, request_step, AllWideRequests}
 use Rattle.survey.proofs.RequestLaws.{made_wide}

@@ -17,7 +17,7 @@ use Rattle.a2m.specs.NewEntry.{new_entry}
 use Rattle.a2m.specs.Search.{looked_up}
 use Rattle.a2m.specs.ImageCalls.{row_in, entries_in, put, previous_in, lookup_attested, end_kind, end_attested, image_done, image_accept, image_step}
 use Rattle.model.specs.Log.{Log, fresh_log, last_entry, entered, standing, examined_for}
-use Rattle.model.specs.Model.{rules01, slot_rule, rules, Model, log_at, total, with_log, model_refusal, model_receipt, model_lookup, model_end, model_done, model_accept, model_step}
+use Rattle.model.specs.Model.{slot_rule, rules, Model, log_at, total, with_log, model_refusal, model_receipt, model_lookup, model_end, model_done, model_accept, model_step}
 use Rattle.model.proofs.Represents.{Rep, Sound}
 use Rattle.model.proofs.Reading.{entries-are, empty-is, full_is, last-is}
 use Rattle.model.proofs.Backed.{Backed}
