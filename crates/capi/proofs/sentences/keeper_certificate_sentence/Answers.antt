@@ -1,0 +1,8 @@
+-- `capi::sentences::keeper_certificate_sentence` meets its contract.
+use mathlib.Core.List.{[], ◌∷◌}
+use mathlib.Core.Path.{refl}
+use Rattle.octets.specs.Undivided.{Undivided}
+use Rattle.capi.proofs.sentences.keeper_certificate_sentence.Code.Mir.{function}
+
+pub undivided : Undivided ("refusal::Outcome::number" ∷ "sentence_write::write_certificate_values" ∷ []) function
+undivided = refl
