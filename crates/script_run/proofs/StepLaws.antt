@@ -1,6 +1,6 @@
 -- From read to read.
 use Prim.Native.Nat.{ℕ, ◌+◌, ◌-◌, ◌*◌, ◌≤◌, ◌<◌}
-use mathlib.Core.Path.{◌≡◌, sym, ap, ap₂, subst, ◌∙◌}
+use mathlib.Core.Path.{◌≡◌, ap, ap₂, subst, ◌∙◌}
 use mathlib.Core.Logic.{◌≢◌}
 use mathlib.Core.List.{List, [], ◌++◌}
 use native.Mathlib.Omega.{arith}
@@ -11,11 +11,10 @@ use Rattle.script.specs.declared.Progress.{Progress}
 use Rattle.script.specs.Stream.{held_after, newlines, answered, table_read, table_in, Feeds, After}
 use Rattle.script.proofs.StreamLaws.{newlines-most, newlines-one, newlines-none}
 use Rattle.script.proofs.Reading.{after_more}
-use Rattle.script_run.specs.declared.Ending.{Ending}
 use Rattle.script_run.specs.declared.Ending.TheVariants.{Input, Unread, Unwritten}
 use Rattle.script_run.specs.declared.Step.{Step}
 use Rattle.script_run.specs.declared.Step.TheVariants.{More, Over}
-use Rattle.script_run.specs.Steps.{Ready, Missing, Answers, answers_to, Ends, Stepped}
+use Rattle.script_run.specs.Steps.{Ready, Missing, Answers, answers_to, Stepped}
 
 -- lines counted: a newline, and another byte
 module _ (l : List ℕ) (first n m i : ℕ) (more : i < length l) (small : n ≤ first + i) (same : first + newlines l ≡ n + newlines (drop i l)) where

@@ -1,0 +1,8 @@
+-- `keeper::usage` meets its contract.
+use mathlib.Core.List.{[], ◌∷◌}
+use mathlib.Core.Path.{refl}
+use Rattle.octets.specs.Undivided.{Undivided}
+use Rattle.keeper.proofs.usage.Code.Mir.{function}
+
+pub undivided : Undivided ("program::write_out" ∷ []) function
+undivided = refl
