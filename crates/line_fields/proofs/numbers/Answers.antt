@@ -52,10 +52,10 @@ returns-then-e-s c = let i = sym c.parse.ensures ∙ c.in-Value.is in
 
 pub loop-v-preserved : goal.loop-v-preserved
 loop-v-preserved c = let i = sym c.parse.ensures ∙ c.in-Value.is in
-    let k = reading-kept c.args.s.now c.args.from c.loop-v.at c.loop-v.n c.loop-v.values c.loop-v.invariant.3 c.find-e.result c.find-e.ensures.0 c.in-Value.v i c.if-n-lt19.values (elim c.if-n-lt19.branch [ then-n-lt19 w ↦ inl (omega (arith, w.if-n-lt19.true), w.values-is) | else-n-lt19 w ↦ inr (omega (arith, w.if-n-lt19.false), w.values-is) ]) in
+    let kept = reading-kept c.args.s.now c.args.from c.loop-v.at c.loop-v.n c.loop-v.values c.loop-v.invariant.3 c.find-e.result c.find-e.ensures.0 c.in-Value.v i c.if-n-lt19.values (elim c.if-n-lt19.branch [ then-n-lt19 w ↦ inl (omega (arith, w.if-n-lt19.true), w.values-is) | else-n-lt19 w ↦ inr (omega (arith, w.if-n-lt19.false), w.values-is) ]) in
     let h : c.find-e.result < length c.args.s.now = omega arith in (
       omega arith,
       omega arith,
-      ap length k ∙ length-padded 19 (c.loop-v.invariant.3.ns ++ (c.in-Value.v ∷ [])),
-      reading-more c.args.s.now c.args.from c.loop-v.at c.loop-v.n c.loop-v.values c.loop-v.invariant.3 c.find-e.result c.find-e.ensures.0 c.in-Value.v i c.if-n-lt19.values k h,
+      ap length kept ∙ length-padded 19 (c.loop-v.invariant.3.ns ++ (c.in-Value.v ∷ [])),
+      reading-more c.args.s.now c.args.from c.loop-v.at c.loop-v.n c.loop-v.values c.loop-v.invariant.3 c.find-e.result c.find-e.ensures.0 c.in-Value.v i c.if-n-lt19.values kept h,
     )
