@@ -1,0 +1,8 @@
+-- `script_cases::answers` meets its contract.
+use mathlib.Core.List.{[], ◌∷◌}
+use mathlib.Core.Path.{refl}
+use Rattle.octets.specs.Undivided.{Undivided}
+use Rattle.script_cases.proofs.answers.Code.Mir.{function}
+
+pub undivided : Undivided ("script_cases::room" ∷ "script_pieces::feed" ∷ []) function
+undivided = refl
