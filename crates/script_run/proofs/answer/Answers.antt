@@ -22,3 +22,6 @@ line_after-requires g c = let k = length-take-le c.feed-q.result.to c.feed-q.new
 
 pub returns-in-Err : goal.returns-in-Err
 returns-in-Err g c = let k = length-take-le c.feed-q.result.to c.feed-q.new.out (omega arith) in missing c.in-Err.field-0.done c.line_after.result c.feed-q.ensures (omega (arith, c.in-Err.ensures.short, k)) c.line_after.ensures
+
+pub returns : goal.returns
+returns g c = c.feed-q.ensures
