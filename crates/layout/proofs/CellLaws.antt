@@ -12,7 +12,7 @@ use Rattle.layout.specs.Image.{Slot, slot_at, free_slot}
 use Rattle.layout.specs.Lists.{flat}
 use Rattle.layout.specs.Layout.{Plan, row_offset_in, slot_size, read_slot, slot_bytes, cells_from}
 use Rattle.layout.specs.Fits.{SlotFits, CountedIn, Slotted}
-use Rattle.layout.proofs.ListLaws.{length-tabulate, get_d_tabulate, tabulate-ext, tabulate-getD, every-tabulate, length-flat, part-flat, flat-tabulate}
+use Rattle.layout.proofs.ListLaws.{length-tabulate, get_or-tabulate, tabulate-ext, tabulate-get_or, every-tabulate, length-flat, part-flat, flat-tabulate}
 use Rattle.layout.proofs.FieldLaws.{length-slot_bytes, skip, read-slot, write-slot, pad-written}
 
 pub free-fits : (n : ℕ) → n < 256 ^ 2 → SlotFits (free_slot n)
@@ -45,7 +45,7 @@ module _ (b : List ℕ) (start slots : ℕ) where
   cell-read zero h k = absurd (omega arith)
   cell-read (suc i) h k =
       let e : suc i - 1 ≡ i = omega arith in
-      get_d_tabulate slots (λ j. read_slot (part b (start + slot_size * j) slot_size)) i (free_slot 0) (omega arith)
+      get_or-tabulate slots (λ j. read_slot (part b (start + slot_size * j) slot_size)) i (free_slot 0) (omega arith)
       ∙ ap (λ (j : ℕ). read_slot (part b (start + slot_size * j) slot_size)) (sym e)
 
   module _ (bytes : Bytes b) (sized : length b ≡ start + slot_size * slots) where
@@ -82,7 +82,7 @@ module _ (p : List ℕ) (start : ℕ) (h : length p ≡ start) (slots : List Slo
   cells-written =
       tabulate-ext (length slots) (λ i. read_slot (part (p ++ flat slot_bytes slots) (start + slot_size * i) slot_size)) (λ i. get_or slots i (free_slot 0))
       (λ i k. ap read_slot (cell-written i k) ∙ read-slot (get_or slots i (free_slot 0)) (fits i))
-      ∙ tabulate-getD slots (free_slot 0)
+      ∙ tabulate-get_or slots (free_slot 0)
 
   pub pads-written : (i : ℕ) → i < length slots → part (p ++ flat slot_bytes slots) (start + slot_size * i + 1) 1 ≡ zeros 1
   pads-written i k =

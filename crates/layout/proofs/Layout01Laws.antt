@@ -15,7 +15,7 @@ use Rattle.layout.specs.Lists.{tabulate, flat}
 use Rattle.layout.specs.Layout.{plan01, stocked, mark, slot_size, free_offset, zero_offset, count_offset, row_offset_in, logs_of, slots_of, keeper_of, free_of, key_of, slot_bytes, header_bytes, cells_from}
 use Rattle.layout.specs.Layout01.{read_row01, row_bytes01, rows_of01, cells_of01, read01, table_size01, header_bytes01, write01}
 use Rattle.layout.specs.Fits.{RowFits, Fits, Unreserved, Counted01}
-use Rattle.layout.proofs.ListLaws.{length-tabulate, get_d_tabulate, tabulate-ext, tabulate-getD, every-tabulate, length-flat, part-flat}
+use Rattle.layout.proofs.ListLaws.{length-tabulate, get_or-tabulate, tabulate-ext, tabulate-get_or, every-tabulate, length-flat, part-flat}
 use Rattle.layout.proofs.FieldLaws.{skip, here, only, logs-header, zero-header, slots-header, keeper-header, free-header, count-header, key-header}
 use Rattle.layout.proofs.CellLaws.{length-cells, cells_fit, length-cells-written, cells-written, pads-written}
 use Rattle.layout.proofs.TableLaws.{fresh-fits}
@@ -152,7 +152,7 @@ module _ (m : Image) (h : Fits m) where
   rows_written u =
       ap (λ (k : ℕ). tabulate k (λ g. read_row01 (part (write01 m) (row_offset_in plan01 g) plan01.row))) logs-write01
       ∙ tabulate-ext (length m.rows) (λ g. read_row01 (part (write01 m) (row_offset_in plan01 g) plan01.row)) (λ g. row_at m.rows g) (λ g k. ap read_row01 (row_written g k) ∙ read_row01_lem (row_at m.rows g) (h.rows g) (u g))
-      ∙ tabulate-getD m.rows (fresh_row 0)
+      ∙ tabulate-get_or m.rows (fresh_row 0)
 
   table-cells : cells_of01 (write01 m) ≡ m.slots
   unfolding cells_of01
@@ -189,7 +189,7 @@ cells_are01 b logs slots c = ap₂ (λ (g s : ℕ). cells_from b (row_offset_in 
 
 pub row-read01 : (b : List ℕ) (g : ℕ) → g < logs_of b → row_at (read01 b).rows g ≡ read_row01 (part b (row_offset_in plan01 g) plan01.row)
 unfolding read01 rows_of01
-row-read01 b g h = get_d_tabulate (logs_of b) (λ j. read_row01 (part b (row_offset_in plan01 j) plan01.row)) g (fresh_row 0) h
+row-read01 b g h = get_or-tabulate (logs_of b) (λ j. read_row01 (part b (row_offset_in plan01 j) plan01.row)) g (fresh_row 0) h
 
 -- a row's part of the bytes, as code lends it
 pub row_there01 : (b : List ℕ) (logs slots g : ℕ) → Counted01 b logs slots → g < logs

@@ -16,11 +16,11 @@ module _ {ℓ} {A : Type ℓ} where
   length-tabulate zero f = refl
   length-tabulate (suc n) f = ap suc (length-tabulate n (λ k. f (suc k)))
 
-  pub get_d_tabulate : (n : ℕ) (f : ℕ → A) (i : ℕ) (d : A) → i < n → get_or (tabulate n f) i d ≡ f i
+  pub get_or-tabulate : (n : ℕ) (f : ℕ → A) (i : ℕ) (d : A) → i < n → get_or (tabulate n f) i d ≡ f i
   unfolding tabulate
-  get_d_tabulate zero f i d h = absurd (not-suc-le-zero h)
-  get_d_tabulate (suc n) f zero d h = refl
-  get_d_tabulate (suc n) f (suc i) d h = get_d_tabulate n (λ k. f (suc k)) i d (le_of_suc-le-suc h)
+  get_or-tabulate zero f i d h = absurd (not-suc-le-zero h)
+  get_or-tabulate (suc n) f zero d h = refl
+  get_or-tabulate (suc n) f (suc i) d h = get_or-tabulate n (λ k. f (suc k)) i d (le_of_suc-le-suc h)
 
   pub tabulate-ext : (n : ℕ) (f g : ℕ → A) → ((i : ℕ) → i < n → f i ≡ g i) → tabulate n f ≡ tabulate n g
   unfolding tabulate
@@ -28,10 +28,10 @@ module _ {ℓ} {A : Type ℓ} where
   tabulate-ext (suc n) f g h =
       ap₂ {C = List A} (λ (x : A) (l : List A). x ∷ l) (h zero (omega arith)) (tabulate-ext n (λ k. f (suc k)) (λ k. g (suc k)) (λ i k. h (suc i) (omega arith)))
 
-  pub tabulate-getD : (l : List A) (d : A) → tabulate (length l) (λ i. get_or l i d) ≡ l
+  pub tabulate-get_or : (l : List A) (d : A) → tabulate (length l) (λ i. get_or l i d) ≡ l
   unfolding tabulate
-  tabulate-getD [] d = refl
-  tabulate-getD (x ∷ l) d = ap {B = List A} (λ (t : List A). x ∷ t) (tabulate-getD l d)
+  tabulate-get_or [] d = refl
+  tabulate-get_or (x ∷ l) d = ap {B = List A} (λ (t : List A). x ∷ t) (tabulate-get_or l d)
 
   -- what holds of every element holds of them after one is set
   pub every_set : (P : A → Type 0) (l : List A) (i : ℕ) (x d : A) → ((j : ℕ) → P (get_or l j d)) → P x → (j : ℕ) → P (get_or (set l i x) j d)

@@ -137,23 +137,23 @@ module _ (b : List ℕ) (bytes : Bytes b) (h : Formed b) where
   through : (put : List ℕ → List ℕ) (m : Image) → Fits m → put (write_with (stock_of b) (read_table b)) ≡ write_with (stock_of b) m → read_table (put b) ≡ m
   through put m f e = ap read_table (ap put (sym (write_read b bytes h)) ∙ e) ∙ read-with (stock_of b) m f
 
-  pub read-putRow : (g : ℕ) (r : Row) → g < logs_of b → RowFits r → read_table (put_row b g r) ≡ with_row (read_table b) g r
-  read-putRow g r k f =
+  pub read-put_row : (g : ℕ) (r : Row) → g < logs_of b → RowFits r → read_table (put_row b g r) ≡ with_row (read_table b) g r
+  read-put_row g r k f =
       let F = fits_read b bytes h in
       through (λ (l : List ℕ). put_row l g r) (with_row (read_table b) g r) (fits-row (read_table b) F g r f) (write-row (stock_of b) (read_table b) F g r (omega (arith, length-rows b)))
 
-  pub read-putSlot : (s : ℕ) (x : Slot) → 1 ≤ s → s ≤ slots_of b → SlotFits x → read_table (put_slot b s x) ≡ with_slot (read_table b) s x
-  read-putSlot s x l k f =
+  pub read-put_slot : (s : ℕ) (x : Slot) → 1 ≤ s → s ≤ slots_of b → SlotFits x → read_table (put_slot b s x) ≡ with_slot (read_table b) s x
+  read-put_slot s x l k f =
       let F = fits_read b bytes h in
       through (λ (l : List ℕ). put_slot l s x) (with_slot (read_table b) s x) (fits-slot (read_table b) F s x f) (write-slot (stock_of b) (read_table b) F s x l (omega (arith, length-slots b)) f)
 
-  pub read-putNext : (s n : ℕ) → 1 ≤ s → s ≤ slots_of b → n < 256 ^ 2 → read_table (put_next b s n) ≡ with_slot (read_table b) s (with_next (slot_at (read_table b).slots s) n)
-  read-putNext s n l k f =
+  pub read-put_next : (s n : ℕ) → 1 ≤ s → s ≤ slots_of b → n < 256 ^ 2 → read_table (put_next b s n) ≡ with_slot (read_table b) s (with_next (slot_at (read_table b).slots s) n)
+  read-put_next s n l k f =
       let F = fits_read b bytes h in
       through (λ (l : List ℕ). put_next l s n) (with_slot (read_table b) s (with_next (slot_at (read_table b).slots s) n))
       (fits-slot (read_table b) F s (with_next (slot_at (read_table b).slots s) n) (next_fits (read_table b) F s n f)) (write-next (stock_of b) (read_table b) F s n l (omega (arith, length-slots b)))
 
-  pub read-putFree : (f : ℕ) → f < 256 ^ 2 → read_table (put_free b f) ≡ with_free (read_table b) f
-  read-putFree f k =
+  pub read-put_free : (f : ℕ) → f < 256 ^ 2 → read_table (put_free b f) ≡ with_free (read_table b) f
+  read-put_free f k =
       let F = fits_read b bytes h in
       through (λ (l : List ℕ). put_free l f) (with_free (read_table b) f) (fits-free (read_table b) F f k) (write-free (stock_of b) (read_table b) F f)

@@ -13,7 +13,7 @@ use Rattle.layout.specs.Image.{slot_at, free_slot}
 use Rattle.layout.specs.Layout.{plan01, slot_size, row_offset, row_offset_in, logs_of, slots_of, read_slot, cells_from}
 use Rattle.layout.specs.Fits.{Counted, Counted01, Slotted}
 use Rattle.layout.specs.Strict.{strict_slot, strict_from, strict_cells, strict_cells01}
-use Rattle.layout.proofs.ListLaws.{length-tabulate, get_d_tabulate, tabulate-ext}
+use Rattle.layout.proofs.ListLaws.{length-tabulate, get_or-tabulate, tabulate-ext}
 use Rattle.layout.proofs.TestLaws.{zero-bytes}
 
 module _ (b : List ℕ) (start slots : ℕ) where
@@ -26,7 +26,7 @@ module _ (b : List ℕ) (start slots : ℕ) where
   strict-read zero h k = absurd (omega arith)
   strict-read (suc i) h k =
       let e : suc i - 1 ≡ i = omega arith in
-      get_d_tabulate slots (λ j. strict_slot (part b (start + slot_size * j) slot_size)) i (free_slot 0) (omega arith)
+      get_or-tabulate slots (λ j. strict_slot (part b (start + slot_size * j) slot_size)) i (free_slot 0) (omega arith)
       ∙ ap (λ (j : ℕ). strict_slot (part b (start + slot_size * j) slot_size)) (sym e)
 
   -- as the code reads it

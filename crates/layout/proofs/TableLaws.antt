@@ -13,7 +13,7 @@ use Rattle.layout.specs.Image.{Image, slot_at, row_at, fresh_row, free_slot}
 use Rattle.layout.specs.Lists.{tabulate, flat}
 use Rattle.layout.specs.Layout.{Stock, header_size, row_size, slot_size, free_offset, zero_offset, count_offset, last_offset, row_offset, slot_offset, pad_offset, table_size, logs_of, slots_of, keeper_of, free_of, key_of, read_row, row_bytes, read_slot, slot_bytes, rows_of, cells_from, cells_of, read_table, stock_of, header_bytes, write_with}
 use Rattle.layout.specs.Fits.{RowFits, StockFits, Fits, Formed, Counted}
-use Rattle.layout.proofs.ListLaws.{length-tabulate, get_d_tabulate, tabulate-ext, tabulate-getD, every-tabulate, length-flat, part-flat, flat-tabulate}
+use Rattle.layout.proofs.ListLaws.{length-tabulate, get_or-tabulate, tabulate-ext, tabulate-get_or, every-tabulate, length-flat, part-flat, flat-tabulate}
 use Rattle.layout.proofs.FieldLaws.{length-row_bytes, length-slot_bytes, length-header_bytes, skip, read-row, write-row, mark-header, logs-header, zero-header, slots-header, keeper-header, free-header, count-header, key-header, last-header, write-header}
 use Rattle.layout.proofs.CellLaws.{length-cells, cell-read, cells_fit, cells-bytes, cells-written, pads-written}
 
@@ -33,7 +33,7 @@ cells_are b logs slots start c e = ap (λ (a : ℕ). cells_from b a slots) e ∙
 
 pub row_read : (b : List ℕ) (g : ℕ) → g < logs_of b → row_at (read_table b).rows g ≡ read_row (part b (row_offset g) row_size)
 unfolding read_table rows_of
-row_read b g h = get_d_tabulate (logs_of b) (λ j. read_row (part b (row_offset j) row_size)) g (fresh_row 0) h
+row_read b g h = get_or-tabulate (logs_of b) (λ j. read_row (part b (row_offset j) row_size)) g (fresh_row 0) h
 
 pub slot_read : (b : List ℕ) (s : ℕ) → 1 ≤ s → s ≤ slots_of b → slot_at (read_table b).slots s ≡ read_slot (part b (slot_offset (logs_of b) s) slot_size)
 unfolding read_table cells_of
@@ -97,7 +97,7 @@ module _ (stock : Stock) (m : Image) (h : Fits m) where
   rows_written =
       ap (λ (k : ℕ). tabulate k (λ g. read_row (part (write_with stock m) (row_offset g) row_size))) logs-written
       ∙ tabulate-ext (length m.rows) (λ g. read_row (part (write_with stock m) (row_offset g) row_size)) (λ g. row_at m.rows g) (λ g k. ap read_row (row_written g k) ∙ read-row (row_at m.rows g) (h.rows g))
-      ∙ tabulate-getD m.rows (fresh_row 0)
+      ∙ tabulate-get_or m.rows (fresh_row 0)
 
   table-cells : cells_of (write_with stock m) ≡ m.slots
   unfolding cells_of

@@ -83,8 +83,8 @@ module _ (mark : ℕ) where
         fields-more (drop at s) (omega (arith, length-drop at s))
         ∙ ap (λ (l : List ℕ). up_to mark (drop at s) ∷ parts_of mark l) (drop-drop (suc (length (up_to mark (drop at s)))) at s ∙ ap (λ (k : ℕ). drop k s) q)
 
-  pub length-upTo : (l : List ℕ) → length (up_to mark l) ≤ length l
-  length-upTo l = omega (arith, ap length (take-first l), length-take (length (up_to mark l)) l)
+  pub length-up_to : (l : List ℕ) → length (up_to mark l) ≤ length l
+  length-up_to l = omega (arith, ap length (take-first l), length-take (length (up_to mark l)) l)
 
 -- ---- numbers, some of them read
 
@@ -121,7 +121,7 @@ pub parts-cons : (mark : ℕ) (l : List ℕ) → (fs : List (List ℕ)) × (part
 parts-cons mark l = go (dec_le (length l) (length (up_to mark l)))
   where
     go : Dec (length l ≤ length (up_to mark l)) → (fs : List (List ℕ)) × (parts_of mark l ≡ up_to mark l ∷ fs)
-    go (yes q) = ([], fields-last mark l (omega (arith, length-upTo mark l)))
+    go (yes q) = ([], fields-last mark l (omega (arith, length-up_to mark l)))
     go (no q) = (parts_of mark (drop (suc (length (up_to mark l))) l), fields-more mark l (omega arith))
 
 pub some_inj : (xs ys : List ℕ) → some xs ≡ some ys → xs ≡ ys

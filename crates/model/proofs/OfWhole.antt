@@ -12,7 +12,7 @@ use borrow.Author.Tests.{ltb-true, ltb-false}
 use Rattle.layout.specs.declared.Row.{Row}
 use Rattle.layout.specs.Lists.{tabulate}
 use Rattle.layout.specs.Image.{Image, entry_of, slot_at, fresh_row}
-use Rattle.layout.proofs.ListLaws.{length-tabulate, get_d_tabulate}
+use Rattle.layout.proofs.ListLaws.{length-tabulate, get_or-tabulate}
 use Rattle.table.specs.Chains.{chain, last_of, entries_of}
 use Rattle.table.specs.Free.{free_chain}
 use Rattle.table.specs.WholeImage.{held_by, meets, linked, whole_image}
@@ -45,7 +45,7 @@ unfolding model_of log_in entries_in
 log-in m g = go (ltb g (length m.rows)) refl
   where
     go : (t : Bool) → ltb g (length m.rows) ≡ t → log_at (model_of m).logs g ≡ log_in m g
-    go true e = get_d_tabulate (length m.rows) (log_in m) g (fresh_log 0) (ltb-true g (length m.rows) e)
+    go true e = get_or-tabulate (length m.rows) (log_in m) g (fresh_log 0) (ltb-true g (length m.rows) e)
     go false e =
         let le : length m.rows ≤ g = ltb-false g (length m.rows) e in
         let row : row_in m g ≡ fresh_row 0 = get_or-eq_default m.rows (fresh_row 0) le in

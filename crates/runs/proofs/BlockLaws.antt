@@ -32,9 +32,9 @@ module _ (first : ℕ) (values : List ℕ) (k : ℕ) (digest : List ℕ) where
     value-size : length (part values (k * 32) 32) ≡ 32
     value-size = length_part values (k * 32) 32 (omega (arith, h.bytes))
 
-    pub size-blockFrom : length digest ≡ 32 → length (block_from first values k digest) ≡ 72
+    pub size-block_from : length digest ≡ 32 → length (block_from first values k digest) ≡ 72
     unfolding block_from
-    size-blockFrom n = length-block (first + k) (part values (k * 32) 32) digest value-size n
+    size-block_from n = length-block (first + k) (part values (k * 32) 32) digest value-size n
 
     -- position, value and digest written one behind the other
     pub put_is : (l a b d : List ℕ) (at : ℕ) → length digest ≡ 32 → at + 72 ≤ length l → a ≡ splice l at (be 8 (first + k))

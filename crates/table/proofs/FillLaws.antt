@@ -16,7 +16,7 @@ use Rattle.bigendian.proofs.Laws.{length-be}
 use Rattle.layout.specs.Lists.{flat}
 use Rattle.layout.specs.Image.{Slot, Image, fresh_row, free_slot}
 use Rattle.layout.specs.Layout.{header_size, row_size, slot_size, row_offset, table_size, Stock, stocked, row_bytes, slot_bytes, header_bytes, write_with}
-use Rattle.layout.proofs.ListLaws.{length-flat, length-tabulate, get_d_tabulate, every-tabulate}
+use Rattle.layout.proofs.ListLaws.{length-flat, length-tabulate, get_or-tabulate, every-tabulate}
 use Rattle.layout.proofs.FieldLaws.{length-row_bytes, length-header_bytes}
 use Rattle.octets.proofs.Zeros.{length-zeros}
 use Rattle.table.specs.Free.{queued_next, queue}
@@ -83,7 +83,7 @@ length-queue slots = length-tabulate slots (λ i. free_slot (queued_next slots (
 
 pub get_or-queue : (slots i : ℕ) → i < slots → get_or (queue slots) i (free_slot 0) ≡ free_slot (queued_next slots (suc i))
 unfolding queue
-get_or-queue slots i h = get_d_tabulate slots (λ i. free_slot (queued_next slots (suc i))) i (free_slot 0) h
+get_or-queue slots i h = get_or-tabulate slots (λ i. free_slot (queued_next slots (suc i))) i (free_slot 0) h
 
 length-free : (n : ℕ) → length (slot_bytes (free_slot n)) ≡ slot_size
 unfolding slot_bytes

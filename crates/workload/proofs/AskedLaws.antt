@@ -14,7 +14,7 @@ use Rattle.decimal.specs.Decimal.{number_of}
 use Rattle.line.specs.Fields.{on_first, parts_of, fields_of, numbers_of, up_to}
 use Rattle.line.specs.Lines.{last_line, ended_lines, lines_of}
 use Rattle.line.specs.Command.{padded}
-use Rattle.line.proofs.FieldLaws.{fields-last, fields-more, parts-cons, length-upTo, take-first}
+use Rattle.line.proofs.FieldLaws.{fields-last, fields-more, parts-cons, length-up_to, take-first}
 use Rattle.line.proofs.PaddedLaws.{padded-at}
 use Rattle.workload.specs.declared.Asked.TheVariants.{Script, Refused}
 use Rattle.workload.specs.Asked.{asked_by, of_numbers, of_line, of_lines, asked_of}
@@ -76,7 +76,7 @@ module _ (t : List ℕ) where
   one_line h = go (dec_le (length t) (length (up_to 10 t)))
     where
       go : Dec (length t ≤ length (up_to 10 t)) → of_lines (ended_lines (parts_of 10 t)) ≡ of_line (up_to 10 t)
-      go (yes q) = ap (λ (ps : List (List ℕ)). of_lines (ended_lines ps)) (fields-last 10 t (omega (arith, length-upTo 10 t))) ∙ last-asked (up_to 10 t)
+      go (yes q) = ap (λ (ps : List (List ℕ)). of_lines (ended_lines ps)) (fields-last 10 t (omega (arith, length-up_to 10 t))) ∙ last-asked (up_to 10 t)
       go (no q) =
           let z : length t ≤ suc (length (up_to 10 t)) = omega arith in
           ap (λ (ps : List (List ℕ)). of_lines (ended_lines ps)) (fields-more 10 t (omega arith))
