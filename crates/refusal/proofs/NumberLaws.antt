@@ -8,8 +8,7 @@ use lib.ListN.{get_or}
 use Rattle.refusal.specs.Number.{number_of, outcome_number}
 use Rattle.refusal.specs.declared.Refusal.{Refusal}
 use Rattle.refusal.specs.declared.Refusal.TheVariants.{Torn, NoLog, Position, Spent, Full, Length, Counts, NoReceipt, Tag, OtherQuestion, Roster, TooFew, NoRun, Line, Promised, Profile, Survey, Seed}
-use Rattle.refusal.specs.declared.Outcome.{Outcome}
-use Rattle.refusal.specs.declared.Outcome.TheVariants.{Done, Refused}
+use Rattle.std.specs.Prelude.{Result, Ok, Err}
 
 -- the words in the order of their numbers, the first of number 1; nobody has 6, so any word may stand in its place
 abbrev words : List Refusal
@@ -17,12 +16,15 @@ words =
     Torn ∷ NoLog ∷ Position ∷ Spent ∷ Full ∷ Torn ∷ Length ∷ Counts ∷ NoReceipt ∷ Tag ∷
     OtherQuestion ∷ Roster ∷ TooFew ∷ NoRun ∷ Line ∷ Promised ∷ Profile ∷ Survey ∷ Seed ∷ []
 
+abbrev Outcome : Type 0
+Outcome = Result Unit Refusal
+
 -- the outcome of a number
 abbrev outcome_of : ℕ → Outcome
-outcome_of zero = Done
-outcome_of (suc n) = Refused (get_or words n Torn)
+outcome_of zero = Ok tt
+outcome_of (suc n) = Err (get_or words n Torn)
 
-refused-back : (r : Refusal) → outcome_of (number_of r) ≡ Refused r
+refused-back : (r : Refusal) → outcome_of (number_of r) ≡ Err r
 refused-back Torn = refl
 refused-back NoLog = refl
 refused-back Position = refl
@@ -43,30 +45,30 @@ refused-back Survey = refl
 refused-back Seed = refl
 
 outcome-back : (o : Outcome) → outcome_of (outcome_number o) ≡ o
-outcome-back Done = refl
-outcome-back (Refused r) = refused-back r
+outcome-back (Ok tt) = refl
+outcome-back (Err r) = refused-back r
 
 pub outcome_number-injective : (o p : Outcome) → outcome_number o ≡ outcome_number p → o ≡ p
 outcome_number-injective o p e = sym (outcome-back o) ∙ ap outcome_of e ∙ outcome-back p
 
 pub number_of-injective : (r s : Refusal) → number_of r ≡ number_of s → r ≡ s
-number_of-injective r s e = let h : Refused r ≡ Refused s = outcome_number-injective (Refused r) (Refused s) e in cc
+number_of-injective r s e = let h : Err r ≡ Err s = outcome_number-injective (Err r) (Err s) e in cc
 
 abbrev is_refused : Outcome → ℕ
-is_refused Done = 0
-is_refused (Refused r) = 1
+is_refused (Ok tt) = 0
+is_refused (Err r) = 1
 
 pub number_of-positive : (r : Refusal) → 1 ≤ number_of r
 number_of-positive r = go (number_of r) refl
   where
     go : (n : ℕ) → number_of r ≡ n → 1 ≤ n
-    go zero e = let h : is_refused Done ≡ is_refused (Refused r) = ap is_refused (sym (ap outcome_of e) ∙ refused-back r) in omega arith
+    go zero e = let h : is_refused (Ok tt) ≡ is_refused (Err r) = ap is_refused (sym (ap outcome_of e) ∙ refused-back r) in omega arith
     go (suc n) e = omega arith
 
 -- document 02 [6]: "Refusal 6 is shown never to occur and its number is not used again."
 pub never_six : (r : Refusal) → number_of r ≢ 6
 never_six r e =
-    let h : Refused r ≡ Refused Torn = sym (refused-back r) ∙ ap outcome_of e in
+    let h : Err r ≡ Err Torn = sym (refused-back r) ∙ ap outcome_of e in
     let q : r ≡ Torn = cc in
     let n : number_of r ≡ 1 = ap number_of q in
     omega arith

@@ -5,29 +5,32 @@ use mathlib.Core.Option.{Option, none, some}
 use Rattle.refusal.specs.Number.{outcome_number}
 use Rattle.refusal.specs.Order.{answer_of, afterwards}
 use Rattle.refusal.specs.Work.{worked_number, worked_blocks}
-use Rattle.refusal.specs.declared.Outcome.{Outcome}
-use Rattle.refusal.specs.declared.Outcome.TheVariants as outcome
-use Rattle.refusal.specs.declared.Worked.{Worked}
-use Rattle.refusal.specs.declared.Worked.TheVariants.{Done, Refused}
+use Rattle.std.specs.Prelude.{Result, Ok, Err}
+use Rattle.refusal.specs.declared.Refusal.{Refusal}
+use Rattle.refusal.specs.declared.Hashed.{Hashed}
+use Rattle.refusal.specs.declared.Refused.{Refused}
 use Rattle.refusal.proofs.NumberLaws.{outcome_number-injective}
 use Rattle.refusal.proofs.OrderLaws.{refused-is, done-is}
 
+abbrev Worked : Type 0
+Worked = Result (Hashed Unit) Refused
+
 -- done or refused
-abbrev outcome_of : Worked → Outcome
-outcome_of (Done blocks) = outcome.Done
-outcome_of (Refused r blocks) = outcome.Refused r
+abbrev outcome_of : Worked → Result Unit Refusal
+outcome_of (Ok done) = Ok tt
+outcome_of (Err refused) = Err refused.why
 
 number_is : (w : Worked) → worked_number w ≡ outcome_number (outcome_of w)
-number_is (Done blocks) = refl
-number_is (Refused r blocks) = refl
+number_is (Ok done) = refl
+number_is (Err refused) = refl
 
-abbrev case_of : Outcome → ℕ → Worked
-case_of outcome.Done blocks = Done blocks
-case_of (outcome.Refused r) blocks = Refused r blocks
+abbrev case_of : Result Unit Refusal → ℕ → Worked
+case_of (Ok value) blocks = Ok (record { value = value; blocks = blocks })
+case_of (Err r) blocks = Err (record { why = r; blocks = blocks })
 
 back : (w : Worked) → case_of (outcome_of w) (worked_blocks w) ≡ w
-back (Done blocks) = refl
-back (Refused r blocks) = refl
+back (Ok done) = refl
+back (Err refused) = refl
 
 pub worked-injective : (v w : Worked) → worked_number v ≡ worked_number w → worked_blocks v ≡ worked_blocks w → v ≡ w
 worked-injective v w n b =

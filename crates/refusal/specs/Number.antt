@@ -1,10 +1,8 @@
 -- Document 01, "Numbers returned": the number of each word. Every contract that speaks of a refusal cites `number_of`. Document 02 [6], of 6, "nothing
 -- held": "its number is not used again".
-use Rattle.std.specs.Prelude.{ℕ}
+use Rattle.std.specs.Prelude.{ℕ, Result, Ok, Err}
 use Rattle.refusal.specs.declared.Refusal.{Refusal}
 use Rattle.refusal.specs.declared.Refusal.TheVariants.{Torn, NoLog, Position, Spent, Full, Length, Counts, NoReceipt, Tag, OtherQuestion, Roster, TooFew, NoRun, Line, Promised, Profile, Survey, Seed}
-use Rattle.refusal.specs.declared.Outcome.{Outcome}
-use Rattle.refusal.specs.declared.Outcome.TheVariants.{Done, Refused}
 
 abbrev pub number_of : Refusal → ℕ
 number_of Torn = 1
@@ -31,6 +29,6 @@ number_of Survey = 18
 number_of Seed = 19
 
 -- 0 "done", or the refusal's number
-abbrev pub outcome_number : Outcome → ℕ
-outcome_number Done = 0
-outcome_number (Refused r) = number_of r
+abbrev pub outcome_number : Result Unit Refusal → ℕ
+outcome_number (Ok done) = 0
+outcome_number (Err r) = number_of r

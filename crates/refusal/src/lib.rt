@@ -4,9 +4,9 @@
 
 ghost use Rattle.std.specs.Prelude.{◌≡◌};
 ghost use Rattle.refusal.specs.Number.{number_of, outcome_number};
-ghost use Rattle.refusal.specs.Work.{worked_number, worked_blocks};
+ghost use Rattle.refusal.specs.Work.{unhashed, worked_number, worked_blocks};
 
-#[derive(Clone, Copy)]
+#[derive(Clone, Copy, PartialEq, Eq)]
 pub enum Refusal {
     Torn,
     NoLog,
@@ -28,27 +28,12 @@ pub enum Refusal {
     Seed,
 }
 
-// The answer of a call that returns nothing but its number.
-#[derive(Clone, Copy)]
-pub enum Outcome {
-    Done,
-    Refused(Refusal),
-}
+// Document 01's number.
+impl From<Refusal> for u8 {
+    ghost from_gives = { λ why n. n ≡ number_of why };
 
-// The answer of a call that counts the blocks it hashed and returns nothing else: document 02 [2], "a refusal returns its
-// number with them".
-#[derive(Clone, Copy)]
-pub enum Worked {
-    Done { blocks: u64 },
-    Refused { why: Refusal, blocks: u64 },
-}
-
-impl Refusal {
-    // Document 01's number.
-    pub fn number(self) -> u8
-        ensures { result ≡ number_of self }
-    {
-        match self {
+    fn from(why: Refusal) -> u8 {
+        match why {
             Refusal::Torn => 1,
             Refusal::NoLog => 2,
             Refusal::Position => 3,
@@ -71,36 +56,56 @@ impl Refusal {
     }
 }
 
-impl Outcome {
-    // Document 01's number: 0 for done.
-    pub fn number(self) -> u8
-        ensures { result ≡ outcome_number self }
-    {
-        match self {
-            Outcome::Done => 0,
-            Outcome::Refused(why) => why.number(),
-        }
+// A value, and how many 64-byte blocks were compressed for it (document 02 [2]). A call that counts them and returns nothing else has
+// the value ().
+#[derive(Clone, Copy)]
+pub struct Hashed<T> {
+    pub value: T,
+    pub blocks: u64,
+}
+
+// Why a call that counts blocks is refused, and the blocks hashed until then: document 02 [2], "a refusal returns its number with them".
+#[derive(Clone, Copy, PartialEq, Eq)]
+pub struct Refused {
+    pub why: Refusal,
+    pub blocks: u64,
+}
+
+// "0 .. for whatever is refused before it hashes".
+impl From<Refusal> for Refused {
+    ghost from_gives = { λ why refused. refused ≡ unhashed why };
+
+    fn from(why: Refusal) -> Refused {
+        Refused { why, blocks: 0 }
     }
 }
 
-impl Worked {
-    // Document 01's number: 0 for done.
-    pub fn number(self) -> u8
-        ensures { result ≡ worked_number self }
-    {
-        match self {
-            Worked::Done { blocks: _ } => 0,
-            Worked::Refused { why, blocks: _ } => why.number(),
-        }
+// Document 01's number of a call that returns nothing else: 0 for done.
+pub fn outcome_number(outcome: Result<(), Refusal>) -> u8
+    ensures { result ≡ outcome_number outcome }
+{
+    match outcome {
+        Ok(()) => 0,
+        Err(why) => u8::from(why),
     }
+}
 
-    // The blocks hashed.
-    pub fn blocks(self) -> u64
-        ensures { result ≡ worked_blocks self }
-    {
-        match self {
-            Worked::Done { blocks } => blocks,
-            Worked::Refused { why: _, blocks } => blocks,
-        }
+// Document 01's number of a call that counts blocks: 0 for done.
+pub fn worked_number<T>(answer: &Result<Hashed<T>, Refused>) -> u8
+    ensures { result ≡ worked_number answer.now }
+{
+    match answer {
+        Ok(_) => 0,
+        Err(refused) => u8::from(refused.why),
+    }
+}
+
+// The blocks that it hashed, done or refused.
+pub fn worked_blocks<T>(answer: &Result<Hashed<T>, Refused>) -> u64
+    ensures { result ≡ worked_blocks answer.now }
+{
+    match answer {
+        Ok(done) => done.blocks,
+        Err(refused) => refused.blocks,
     }
 }
