@@ -14,8 +14,7 @@ use lib.Seq.{get_or-drop, drop-drop, drop-cons, paste, paste-suc, take_all}
 use native.Mathlib.Numerals.{add-one}
 use lib.Dec.{ltb}
 use borrow.Author.Tests.{eq-eqb, lt-ltb, le-ltb, le-leb, ltb-true, ne_eqb}
-use Rattle.decimal.specs.declared.Number.{Number}
-use Rattle.decimal.specs.declared.Number.TheVariants.{Value, Malformed}
+use Rattle.std.specs.Prelude.{Option, Some, None}
 use Rattle.decimal.specs.Decimal.{digits_of, decimal_from, decimal_of, is_digit, all_digits, value_after, starts_well, number_of, more_of, read_after}
 
 -- ---- division by subtraction
@@ -41,25 +40,6 @@ remainder n p d r e h =
 -- how often m goes into n, three times at most
 abbrev Often : ℕ → ℕ → ℕ → Type 0
 Often r n m = (r ≤ 3) × (r * m ≤ n) × (n < 4 * m → n < r * m + m)
-
--- a is 1 if m is at most n, otherwise 0
-abbrev Fits : ℕ → ℕ → ℕ → Type 0
-Fits a m n = (a ≤ 1) × (m ≤ n → a ≡ 1) × (n < m → a ≡ 0)
-
-pub counted : (n m a b c : ℕ) → Fits a m n → Fits b (m + m) n → Fits c (m + m + m) n → Often (a + b + c) n m
-counted n m a b c f g h = go (dec_le m n) (dec_le (m + m) n) (dec_le (m + m + m) n)
-  where
-    at : (r : ℕ) → a + b + c ≡ r → Often r n m → Often (a + b + c) n m
-    at r e o = subst (λ (r : ℕ). Often r n m) (sym e) o
-
-    go : Dec (m ≤ n) → Dec (m + m ≤ n) → Dec (m + m + m ≤ n) → Often (a + b + c) n m
-    go (yes p) (yes q) (yes r) = at 3 (omega (arith, f.1 p, g.1 q, h.1 r)) (omega arith, omega arith, λ z. omega arith)
-    go (yes p) (yes q) (no r) = at 2 (omega (arith, f.1 p, g.1 q, h.2 (omega arith))) (omega arith, omega arith, λ z. omega arith)
-    go (yes p) (no q) (yes r) = absurd (omega arith)
-    go (yes p) (no q) (no r) = at 1 (omega (arith, f.1 p, g.2 (omega arith), h.2 (omega arith))) (omega arith, omega arith, λ z. omega arith)
-    go (no p) (yes q) r = absurd (omega arith)
-    go (no p) (no q) (yes r) = absurd (omega arith)
-    go (no p) (no q) (no r) = at 0 (omega (arith, f.2 (omega arith), g.2 (omega arith), h.2 (omega arith))) (omega arith, omega arith, λ z. omega arith)
 
 fourfold : (a b p : ℕ) → (4 * a + b) * p ≡ a * (4 * p) + b * p
 fourfold a b p = add-mul (4 * a) b p ∙ ap (λ (m : ℕ). m + b * p) (ap (λ (m : ℕ). m * p) (mul_comm 4 a) ∙ mul_assoc a 4 p)
@@ -143,15 +123,15 @@ of_width k n z h l w =
 -- ---- what was read so far, and what is left
 
 -- the tests of a number after v, and what it is then
-abbrev pub after : ℕ → List ℕ → Number
-after v l = cond (all_digits l && ltb (value_after v l) (2 ^ 64)) (Value (value_after v l)) Malformed
+abbrev pub after : ℕ → List ℕ → Option ℕ
+after v l = cond (all_digits l && ltb (value_after v l) (2 ^ 64)) (Some (value_after v l)) None
 
 value_grows : (v : ℕ) (l : List ℕ) → v ≤ value_after v l
 unfolding value_after
 value_grows v [] = omega arith
 value_grows v (b ∷ l) = omega (arith, value_grows (v * 10 + (b - 48)) l)
 
-too_much : (v : ℕ) (l : List ℕ) → 2 ^ 64 ≤ v → after v l ≡ Malformed
+too_much : (v : ℕ) (l : List ℕ) → 2 ^ 64 ≤ v → after v l ≡ None
 too_much v l h = rw (le-ltb (value_after v l) (2 ^ 64) (omega (arith, value_grows v l)), and-false (all_digits l))
 
 pub read-after : (v : ℕ) (l : List ℕ) → v < 2 ^ 64 → read_after v l ≡ after v l
@@ -162,44 +142,44 @@ read-after v (b ∷ l) h = go (is_digit b) (ltb w (2 ^ 64)) refl (read-after w l
     w : ℕ
     w = v * 10 + (b - 48)
 
-    go : (d t : Bool) → ltb w (2 ^ 64) ≡ t → (w < 2 ^ 64 → read_after w l ≡ after w l) → cond (d && t) (read_after w l) Malformed ≡ cond ((d && all_digits l) && ltb (value_after w l) (2 ^ 64)) (Value (value_after w l)) Malformed
+    go : (d t : Bool) → ltb w (2 ^ 64) ≡ t → (w < 2 ^ 64 → read_after w l ≡ after w l) → cond (d && t) (read_after w l) None ≡ cond ((d && all_digits l) && ltb (value_after w l) (2 ^ 64)) (Some (value_after w l)) None
     go false t e ih = refl
     go true true e ih = ih (ltb-true w (2 ^ 64) e)
     go true false e ih = sym (too_much w l (omega (arith, borrow.Author.Tests.ltb-false w (2 ^ 64) e)))
 
-step-on : (t : Bool) (w n : ℕ) (l : List ℕ) → cond t (Value w) Malformed ≡ Value n → cond t (read_after w l) Malformed ≡ read_after n l
+step-on : (t : Bool) (w n : ℕ) (l : List ℕ) → cond t (Some w) None ≡ Some n → cond t (read_after w l) None ≡ read_after n l
 step-on true w n l e = let q : w ≡ n = cc in ap (λ (m : ℕ). read_after m l) q
 step-on false w n l e = let z : ◌≡◌ {A = ℕ} 0 1 = cc in absurd (omega arith)
 
-step-out : (t : Bool) (w : ℕ) (l : List ℕ) → cond t (Value w) Malformed ≡ Malformed → cond t (read_after w l) Malformed ≡ Malformed
+step-out : (t : Bool) (w : ℕ) (l : List ℕ) → cond t (Some w) None ≡ None → cond t (read_after w l) None ≡ None
 step-out true w l e = let z : ◌≡◌ {A = ℕ} 0 1 = cc in absurd (omega arith)
 step-out false w l e = refl
 
-pub read-on : (v n i : ℕ) (s : List ℕ) → i < length s → more_of v (get_or s i 0) ≡ Value n → read_after v (drop i s) ≡ read_after n (drop (i + 1) s)
+pub read-on : (v n i : ℕ) (s : List ℕ) → i < length s → more_of v (get_or s i 0) ≡ Some n → read_after v (drop i s) ≡ read_after n (drop (i + 1) s)
 unfolding more_of read_after
 read-on v n i s h e =
     ap (read_after v) (drop-cons s i 0 h)
     ∙ step-on (is_digit (get_or s i 0) && ltb (v * 10 + (get_or s i 0 - 48)) (2 ^ 64)) (v * 10 + (get_or s i 0 - 48)) n (drop (suc i) s) e
     ∙ ap (λ (k : ℕ). read_after n (drop k s)) (sym (add-one i))
 
-pub read_out : (v i : ℕ) (s : List ℕ) → i < length s → more_of v (get_or s i 0) ≡ Malformed → read_after v (drop i s) ≡ Malformed
+pub read_out : (v i : ℕ) (s : List ℕ) → i < length s → more_of v (get_or s i 0) ≡ None → read_after v (drop i s) ≡ None
 unfolding more_of read_after
 read_out v i s h e =
     ap (read_after v) (drop-cons s i 0 h)
     ∙ step-out (is_digit (get_or s i 0) && ltb (v * 10 + (get_or s i 0 - 48)) (2 ^ 64)) (v * 10 + (get_or s i 0 - 48)) (drop (suc i) s) e
 
-pub read-end : (v i : ℕ) (s : List ℕ) → length s ≤ i → read_after v (drop i s) ≡ Value v
+pub read-end : (v i : ℕ) (s : List ℕ) → length s ≤ i → read_after v (drop i s) ≡ Some v
 unfolding read_after
 read-end v i s h = ap (read_after v) (drop_of_length-le s h)
 
 -- ---- the strict reader
 
-pub number-none : (s : List ℕ) → length s ≡ 0 → number_of s ≡ Malformed
+pub number-none : (s : List ℕ) → length s ≡ 0 → number_of s ≡ None
 unfolding number_of
 number-none [] h = refl
 number-none (b ∷ s) h = absurd (omega arith)
 
-pub number-zero : (s : List ℕ) → 1 < length s → get_or s 0 0 ≡ 48 → number_of s ≡ Malformed
+pub number-zero : (s : List ℕ) → 1 < length s → get_or s 0 0 ≡ 48 → number_of s ≡ None
 unfolding number_of
 number-zero [] h e = absurd (omega arith)
 number-zero (b ∷ []) h e = absurd (omega arith)
@@ -220,30 +200,26 @@ pub digit-next : (d : List ℕ) (j m rest : ℕ) → drop j d ≡ digits_of (suc
 unfolding digits_of
 digit-next d j m rest e = ap (λ (k : ℕ). get_or d k 0) (sym (add-zero j)) ∙ sym (get_or-drop j d 0 0) ∙ ap (λ (l : List ℕ). get_or l 0 0) e
 
-pub digits-left : (d : List ℕ) (j m rest : ℕ) → drop j d ≡ digits_of (suc m) rest → drop (suc j) d ≡ digits_of m (rest % 10 ^ m)
+pub digits-left : (d : List ℕ) (j m rest : ℕ) → drop j d ≡ digits_of (suc m) rest → drop (j + 1) d ≡ digits_of m (rest % 10 ^ m)
 unfolding digits_of
-digits-left d j m rest e = ap (λ (k : ℕ). drop k d) (sym (add-one j)) ∙ sym (drop-drop 1 j d) ∙ ap (drop 1) e
+digits-left d j m rest e = sym (drop-drop 1 j d) ∙ ap (drop 1) e
 
 pub below : (n k : ℕ) → n < 2 ^ 64 → 20 ≤ k → n < 10 ^ k
 below n k h l = omega (arith, pow-le-pow_right {n = 10} (omega arith) {i = 20} {j = k} l)
 
--- the loop that writes the digits of n: left are to come, of rest
-pub put_next : (o d : List ℕ) (at k left rest : ℕ) → left < k → length d ≡ k → at + k ≤ length o → drop (k - suc left) d ≡ digits_of (suc left) rest
-    → set (paste o at d (k - suc left)) (at + (k - suc left)) (48 + rest / 10 ^ left) ≡ paste o at d (k - left)
-put_next o d at k left rest h e l q =
-    let j : ℕ = k - suc left in
-    let z : suc j ≡ k - left = omega arith in
-    ap (λ (b : ℕ). set (paste o at d j) (at + j) b) (sym (digit-next d j left rest q))
-    ∙ paste-suc o at d j 0 (omega arith) (omega arith)
-    ∙ ap (λ (m : ℕ). paste o at d m) z
+-- the loop that writes the digits d: m + 1 are to come, of rest
+pub put_next : (o d : List ℕ) (at i m rest : ℕ) → i < length d → at + length d ≤ length o → drop i d ≡ digits_of (suc m) rest
+    → set (paste o at d i) (at + i) (48 + rest / 10 ^ m) ≡ paste o at d (i + 1)
+put_next o d at i m rest h l q =
+    ap (λ (b : ℕ). set (paste o at d i) (at + i) b) (sym (digit-next d i m rest q))
+    ∙ paste-suc o at d i 0 (omega arith) h
+    ∙ ap (λ (n : ℕ). paste o at d n) (sym (add-one i))
 
-pub times_ten : (rest left p : ℕ) → 0 < left → rest < 10 ^ left → p ≡ 10 ^ (left - 1) → rest < 10 * p
-times_ten rest left p z h e =
-    let q : left ≡ suc (left - 1) = omega arith in
-    omega (arith, pow-suc 10 (left - 1), ap (λ (j : ℕ). 10 ^ j) q)
+pub times_ten : (rest m p : ℕ) → rest < 10 ^ suc m → p ≡ 10 ^ m → rest < 10 * p
+times_ten rest m p h e = omega (arith, pow-suc 10 m)
 
-pub small_power : (left p : ℕ) → left < 20 → 0 < left → p ≡ 10 ^ (left - 1) → p ≤ 10 ^ 18
-small_power left p h z e = omega (arith, pow-le-pow_right {n = 10} (omega arith) {i = left - 1} {j = 18} (omega arith))
+pub small_power : (m p : ℕ) → m < 19 → p ≡ 10 ^ m → p ≤ 10 ^ 18
+small_power m p h e = omega (arith, pow-le-pow_right {n = 10} (omega arith) {i = m} {j = 18} (omega arith))
 
 -- a number of k + 1 digits that begins with a 1
 pub leading-one : (k n : ℕ) → 10 ^ k ≤ n → n < 2 * 10 ^ k → digits_of (suc k) n ≡ 49 ∷ digits_of k (n - 10 ^ k)

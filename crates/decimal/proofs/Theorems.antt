@@ -12,7 +12,7 @@ use lib.Dec.{leb, ltb, eqb}
 use borrow.Author.Tests.{lt-ltb, ltb-true, leb-true, eq-eqb}
 use Rattle.octets.specs.Octets.{splice}
 use Rattle.octets.proofs.Parts.{length-splice}
-use Rattle.decimal.specs.declared.Number.TheVariants.{Value, Malformed}
+use Rattle.std.specs.Prelude.{Some, None}
 use Rattle.decimal.specs.Decimal.{digits_of, decimal_from, decimal_of, is_digit, all_digits, value_after, value_of, starts_well, is_number, number_of}
 use Rattle.decimal.proofs.Laws.{pow_pos, length-digits_of, digits_of-digits, value-digits_of, of_width, starts, quotient, remainder, below}
 
@@ -67,7 +67,7 @@ decimal_starts n h =
     ap starts_well (spelt n w) ∙ starts (digits_of w.k n) (omega (arith, w.some)) (λ p q. digits-head (w.k - 1) n (w.least (omega arith)) (ap (λ (j : ℕ). get_or (digits_of j n) 0 0) (sym e) ∙ q))
 
 -- reading the decimal of n gives n
-pub parse-decimal : (n : ℕ) → n < 2 ^ 64 → number_of (decimal_of n) ≡ Value n
+pub parse-decimal : (n : ℕ) → n < 2 ^ 64 → number_of (decimal_of n) ≡ Some n
 unfolding number_of
 parse-decimal n h =
     let v : value_of (decimal_of n) ≡ n = decimal-value n h in
@@ -89,7 +89,7 @@ value-split v (b ∷ l) =
     let e₅ : v * 10 * p ≡ v * 10 ^ suc (length l) = mul_assoc v 10 p ∙ ap (λ (m : ℕ). v * m) (mul_comm 10 p ∙ sym (pow-suc 10 (length l))) in
     omega arith
 
-both_true : (a b : Bool) → (a && b) ≡ true → (a ≡ true) × (b ≡ true)
+pub both_true : (a b : Bool) → (a && b) ≡ true → (a ≡ true) × (b ≡ true)
 both_true true b e = (refl, e)
 both_true false b e = let z : ◌≡◌ {A = ℕ} 0 1 = cc in absurd (omega arith)
 
@@ -167,11 +167,11 @@ decimal_exactly n l h = (
 )
 
 -- what reads as v is the decimal of v, and v is below 2^64
-pub parsed : (l : List ℕ) (v : ℕ) → number_of l ≡ Value v → (v < 2 ^ 64) × (l ≡ decimal_of v)
+pub parsed : (l : List ℕ) (v : ℕ) → number_of l ≡ Some v → (v < 2 ^ 64) × (l ≡ decimal_of v)
 unfolding number_of
 parsed l v e = go (is_number l) refl e
   where
-    go : (t : Bool) → is_number l ≡ t → cond t (Value (value_of l)) Malformed ≡ Value v → (v < 2 ^ 64) × (l ≡ decimal_of v)
+    go : (t : Bool) → is_number l ≡ t → cond t (Some (value_of l)) None ≡ Some v → (v < 2 ^ 64) × (l ≡ decimal_of v)
     go false p q = let z : ◌≡◌ {A = ℕ} 0 1 = cc in absurd (omega arith)
     go true p q =
         let x : value_of l ≡ v = cc in

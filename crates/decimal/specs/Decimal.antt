@@ -1,7 +1,5 @@
 -- Document 01: "Numbers are decimal below 2^64 without leading zeros."
-use Rattle.std.specs.Prelude.{ℕ, zero, suc, ◌+◌, ◌*◌, ◌-◌, ◌/◌, ◌%◌, ◌^◌, Bool, true, false, cond, ◌&&◌, List, [], ◌∷◌, leb, ltb, eqb}
-use Rattle.decimal.specs.declared.Number.{Number}
-use Rattle.decimal.specs.declared.Number.TheVariants.{Value, Malformed}
+use Rattle.std.specs.Prelude.{ℕ, zero, suc, ◌+◌, ◌*◌, ◌-◌, ◌/◌, ◌%◌, ◌^◌, Bool, true, false, cond, ◌&&◌, List, [], ◌∷◌, Option, Some, None, leb, ltb, eqb}
 
 -- k digits of a number below 10 ^ k, in ASCII, the most significant first
 unfoldable pub digits_of : ℕ → ℕ → List ℕ
@@ -46,14 +44,14 @@ abbrev pub is_number : List ℕ → Bool
 is_number l = starts_well l && (all_digits l && ltb (value_of l) (2 ^ 64))
 
 -- what a field of a script line says
-unfoldable pub number_of : List ℕ → Number
-number_of l = cond (is_number l) (Value (value_of l)) Malformed
+unfoldable pub number_of : List ℕ → Option ℕ
+number_of l = cond (is_number l) (Some (value_of l)) None
 
 -- the number v with the digit b after it
-unfoldable pub more_of : ℕ → ℕ → Number
-more_of v b = cond (is_digit b && ltb (v * 10 + (b - 48)) (2 ^ 64)) (Value (v * 10 + (b - 48))) Malformed
+unfoldable pub more_of : ℕ → ℕ → Option ℕ
+more_of v b = cond (is_digit b && ltb (v * 10 + (b - 48)) (2 ^ 64)) (Some (v * 10 + (b - 48))) None
 
 -- digit after digit, after digits that make v
-unfoldable pub read_after : ℕ → List ℕ → Number
-read_after v [] = Value v
-read_after v (b ∷ l) = cond (is_digit b && ltb (v * 10 + (b - 48)) (2 ^ 64)) (read_after (v * 10 + (b - 48)) l) Malformed
+unfoldable pub read_after : ℕ → List ℕ → Option ℕ
+read_after v [] = Some v
+read_after v (b ∷ l) = cond (is_digit b && ltb (v * 10 + (b - 48)) (2 ^ 64)) (read_after (v * 10 + (b - 48)) l) None

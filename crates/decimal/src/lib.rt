@@ -6,10 +6,3 @@ mod write;
 
 pub use read::parse;
 pub use write::put;
-
-// What a text says: a number, or none.
-#[derive(Drop)]
-pub enum Number {
-    Value(u64),
-    Malformed,
-}

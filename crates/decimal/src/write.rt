@@ -3,40 +3,36 @@ ghost use Rattle.std.specs.Prelude.{◌≡◌, ◌+◌, ◌-◌, ◌/◌, ◌%�
 ghost use Rattle.decimal.specs.Decimal.{digits_of, decimal_of};
 ghost use Rattle.octets.specs.Octets.{splice};
 
-// Ten to the power k. The compiler makes a table of the match; a constant array would be stored anew at each use.
+// The powers of ten below 2^64. A constant array would be stored anew at each use.
+static POWERS: [u64; 20] = [
+    1,
+    10,
+    100,
+    1000,
+    10000,
+    100000,
+    1000000,
+    10000000,
+    100000000,
+    1000000000,
+    10000000000,
+    100000000000,
+    1000000000000,
+    10000000000000,
+    100000000000000,
+    1000000000000000,
+    10000000000000000,
+    100000000000000000,
+    1000000000000000000,
+    10000000000000000000,
+];
+
+// Ten to the power k.
 fn power(k: usize) -> u64
     requires { k < 20 }
     ensures { result ≡ 10 ^ k }
 {
-    match k {
-        0 => 1,
-        1 => 10,
-        2 => 100,
-        3 => 1000,
-        4 => 10000,
-        5 => 100000,
-        6 => 1000000,
-        7 => 10000000,
-        8 => 100000000,
-        9 => 1000000000,
-        10 => 10000000000,
-        11 => 100000000000,
-        12 => 1000000000000,
-        13 => 10000000000000,
-        14 => 100000000000000,
-        15 => 1000000000000000,
-        16 => 10000000000000000,
-        17 => 100000000000000000,
-        18 => 1000000000000000000,
-        _ => 10000000000000000000,
-    }
-}
-
-// 1 if m is at most n, otherwise 0.
-fn fits(m: u64, n: u64) -> u64
-    ensures { (result ≤ 1) × (m ≤ n → result ≡ 1) × (n < m → result ≡ 0) }
-{
-    if m <= n { 1 } else { 0 }
+    POWERS[k]
 }
 
 // How often m goes into n, three times at most. Three tests without a branch, which no processor could foresee.
@@ -45,29 +41,19 @@ fn often(n: u64, m: u64) -> u64
     ensures { (result ≤ 3) × (result * m ≤ n) × (n < 4 * m → n < result * m + m) }
 {
     let twice = m + m;
-    fits(m, n) + fits(twice, n) + fits(twice + m, n)
+    (m <= n) as u64 + (twice <= n) as u64 + (twice + m <= n) as u64
 }
 
-// A digit, and what is left.
-#[derive(Drop)]
-struct Split {
-    digit: u8,
-    rest: u64,
-}
-
-// How often a power of ten goes into a number: first four of it at a time, then one.
-fn divided(n: u64, p: u64) -> Split
+// How often a power of ten goes into a number: first four of it at a time, then one; and what is left.
+fn divided(n: u64, p: u64) -> (u8, u64)
     requires { (n < 10 * p) × (p ≤ 10 ^ 18) }
-    ensures { (result.digit ≡ n / p) × (result.rest ≡ n % p) × (result.digit < 10) }
+    ensures { (result.0 ≡ n / p) × (result.1 ≡ n % p) × (result.0 < 10) }
 {
     let four = 4 * p;
     let fours = often(n, four);
     let left = n - fours * four;
     let ones = often(left, p);
-    Split {
-        digit: (4 * fours + ones) as u8,
-        rest: left - ones * p,
-    }
+    ((4 * fours + ones) as u8, left - ones * p)
 }
 
 // As many digits as n has, or some fewer.
@@ -75,26 +61,24 @@ fn least_width(n: u64) -> usize
     ensures { (0 < result) × (result < 20) × (1 < result → 10 ^ (result - 1) ≤ n) }
 {
     if n < 100000000 {
-        return 1;
+        1
+    } else if n < 10000000000000000 {
+        9
+    } else {
+        17
     }
-    if n < 10000000000000000 {
-        return 9;
-    }
-    17
 }
 
 // How many digits n has.
 fn width(n: u64) -> usize
     ensures { (0 < result) × (result < 21) × (n < 10 ^ result) × (decimal_of n ≡ digits_of result n) × (1 < result → 10 ^ (result - 1) ≤ n) }
 {
-    let mut k = least_width(n);
-    while k < 20 {
+    for k in least_width(n)..20 {
         if n < power(k) {
             return k;
         }
-        k += 1;
     }
-    k
+    20
 }
 
 // The last k digits of n, from place at.
@@ -103,14 +87,10 @@ fn put_digits(out: &mut [u8], at: usize, n: u64, k: usize)
     ensures { out.new ≡ splice out.old at (digits_of k n) }
 {
     let mut rest = n;
-    let mut i = at;
-    let mut left = k;
-    while 0 < left {
-        left -= 1;
-        let s = divided(rest, power(left));
-        out[i] = 48 + s.digit;
-        rest = s.rest;
-        i += 1;
+    for i in 0..k {
+        let (digit, left) = divided(rest, power(k - 1 - i));
+        out[at + i] = b'0' + digit;
+        rest = left;
     }
 }
 
@@ -122,10 +102,10 @@ pub fn put(out: &mut [u8], at: usize, n: u64) -> usize
 {
     let k = width(n);
     if k == 20 {
-        out[at] = 49;
+        out[at] = b'1';
         put_digits(out, at + 1, n - power(19), 19);
-        return at + 20;
+    } else {
+        put_digits(out, at, n, k);
     }
-    put_digits(out, at, n, k);
     at + k
 }

@@ -1,21 +1,30 @@
 -- `decimal::read::parse` meets its contract.
-use mathlib.Core.List.{[], ◌∷◌}
-use native.Mathlib.Omega.{arith}
-use Rattle.decimal.proofs.Laws.{number-none, number-zero, number_read}
-use mathlib.Core.Path.{sym, ◌∙◌, refl}
+use Rattle.std.proofs.Common.{◌≡◌, arith, sym, refl, ◌∙◌, [], ◌∷◌}
+use Rattle.decimal.specs.Decimal.{number_of, read_after}
+use Rattle.decimal.proofs.Laws.{number-none, number-zero, number_read, read-on, read_out, read-end}
 use Rattle.octets.specs.Undivided.{Undivided}
 use Rattle.decimal.proofs.read.parse.Code.Mir.{function}
 use Rattle.decimal.proofs.read.parse.Goals as goal
-use Rattle.decimal.proofs.read.parse.Goals.{then-s-gt1+else-s-eq48, else-s-gt1}
+use Rattle.decimal.proofs.read.parse.Goals.{in_default, in_default-2}
 
-pub undivided : Undivided ("decimal::read::digits" ∷ []) function
+pub undivided : Undivided ("core::option::OptionFromResidualNoValue::from_residual" ∷ "core::option::OptionTry::branch" ∷ "decimal::read::more" ∷ []) function
 undivided = refl
 
-pub returns-then-s-eq0 : goal.returns-then-s-eq0
-returns-then-s-eq0 c = sym (number-none c.args.s.now (omega arith))
+pub returns-in-empty : goal.returns-in-empty
+returns-in-empty c = sym (number-none c.args.s.now (omega arith))
 
-pub returns-then-s-eq48 : goal.returns-then-s-eq48
-returns-then-s-eq48 c = sym (number-zero c.args.s.now (omega arith) c.if-s-eq48.true)
+pub returns-in-empty-2 : goal.returns-in-empty-2
+returns-in-empty-2 c = sym (number-zero c.args.s.now (omega arith) (omega arith))
+
+pub returns-in_err-v : goal.returns-in_err-v
+returns-in_err-v c =
+    let r : number_of c.args.s.now ≡ read_after 0 c.args.s.now = elim c.if-s-lt2.branch [ in_default w ↦ number_read c.args.s.now (omega arith) (λ p q. omega arith) | in_default-2 w ↦ number_read c.args.s.now (omega arith) (λ p q. omega arith) ] in
+    c.from_residual.ensures ∙ sym (r ∙ c.loop-b.invariant ∙ read_out c.loop-b.v c.loop-b.b-index c.args.s.now (omega arith) (sym c.more.ensures ∙ c.in_err-v.was))
+
+pub loop-b-preserved : goal.loop-b-preserved
+loop-b-preserved c = c.loop-b.invariant ∙ read-on c.loop-b.v c.in_ok-v.v c.loop-b.b-index c.args.s.now (omega arith) (sym c.more.ensures ∙ c.in_ok-v.was)
 
 pub returns : goal.returns
-returns c = c.digits.ensures ∙ sym (number_read c.args.s.now (omega arith) (elim c.if-s-gt1.branch [ then-s-gt1+else-s-eq48 w ↦ λ p q. w.if-s-eq48.false q | else-s-gt1 w ↦ λ p q. omega arith ]))
+returns c =
+    let r : number_of c.args.s.now ≡ read_after 0 c.args.s.now = elim c.if-s-lt2.branch [ in_default w ↦ number_read c.args.s.now (omega arith) (λ p q. omega arith) | in_default-2 w ↦ number_read c.args.s.now (omega arith) (λ p q. omega arith) ] in
+    sym (r ∙ c.loop-b.invariant ∙ read-end c.loop-b.v c.loop-b.b-index c.args.s.now (omega arith))

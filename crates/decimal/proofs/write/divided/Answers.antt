@@ -1,6 +1,5 @@
 -- `decimal::write::divided` meets its contract.
-use mathlib.Core.List.{[], ◌∷◌}
-use mathlib.Core.Path.{refl}
+use Rattle.std.proofs.Common.{[], ◌∷◌, refl}
 use Rattle.decimal.proofs.Laws.{parted}
 use Rattle.octets.specs.Undivided.{Undivided}
 use Rattle.decimal.proofs.write.divided.Code.Mir.{function}

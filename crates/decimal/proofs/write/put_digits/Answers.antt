@@ -1,12 +1,8 @@
 -- `decimal::write::put_digits` meets its contract.
-use mathlib.Core.Path.{ap₂, ◌≡◌, refl, sym, ap, ◌∙◌, subst}
-use lib.ListN.{set, drop, length-set}
-use Prim.Native.Nat.{◌%◌, ◌/◌, ℕ, suc, ◌<◌, ◌-◌, ◌+◌, ◌^◌}
-use mathlib.Core.List.{List, [], ◌∷◌}
-use Rattle.decimal.proofs.Laws.{times_ten, small_power, rest_lt, digits-left, put_next, pasted, length-digits_of}
-use native.Mathlib.Omega.{arith}
+use Rattle.std.proofs.Common.{◌≡◌, ℕ, suc, ◌+◌, ◌-◌, ◌<◌, ◌^◌, ◌%◌, ◌/◌, List, [], ◌∷◌, drop, set, refl, ap, subst, ◌∙◌, arith}
+use Rattle.std.proofs.Math.Seq.{paste}
 use Rattle.decimal.specs.Decimal.{digits_of}
-use lib.Seq.{paste, paste-zero}
+use Rattle.decimal.proofs.Laws.{times_ten, small_power, rest_lt, digits-left, put_next, pasted, length-digits_of}
 use Rattle.octets.specs.Undivided.{Undivided}
 use Rattle.decimal.proofs.write.put_digits.Code.Mir.{function}
 use Rattle.decimal.proofs.write.put_digits.Goals as goal
@@ -14,35 +10,31 @@ use Rattle.decimal.proofs.write.put_digits.Goals as goal
 pub undivided : Undivided ("decimal::write::divided" ∷ "decimal::write::power" ∷ []) function
 undivided = refl
 
-pub loop-left-init : goal.loop-left-init
-loop-left-init c = let z : 0 ≡ c.args.k - c.args.k = omega arith in
+pub divided-digit-requires : goal.divided-digit-requires
+divided-digit-requires c =
+    let m : ℕ = c.args.k - 1 - c.loop-i.i in
+    let e : c.args.k - c.loop-i.i ≡ suc m = omega arith in
+    (times_ten c.loop-i.rest m c.power.result (subst (λ (j : ℕ). c.loop-i.rest < 10 ^ j) e c.loop-i.invariant.0) c.power.ensures, small_power m c.power.result (omega arith) c.power.ensures)
+
+pub loop-i-preserved : goal.loop-i-preserved
+loop-i-preserved c =
     let D : List ℕ = digits_of c.args.k c.args.n in
-    (omega arith, omega arith, omega arith, ap (λ (j : ℕ). drop j D) (sym z), paste-zero c.args.out.now c.args.at D ∙ ap (λ (j : ℕ). paste c.args.out.now c.args.at D j) z, refl)
-
-pub divided-s-requires : goal.divided-s-requires
-divided-s-requires c = (times_ten c.loop-left.rest c.loop-left.left c.power.result (omega arith) c.loop-left.invariant.2 c.power.ensures, small_power c.loop-left.left c.power.result (omega arith) (omega arith) c.power.ensures)
-
-pub loop-left-preserved : goal.loop-left-preserved
-loop-left-preserved c = let D : List ℕ = digits_of c.args.k c.args.n in
-    let m : ℕ = c.loop-left.left - 1 in
-    let e : c.loop-left.left ≡ suc m = omega arith in
-    let q : drop (c.args.k - suc m) D ≡ digits_of (suc m) c.loop-left.rest = subst (λ (j : ℕ). drop (c.args.k - j) D ≡ digits_of j c.loop-left.rest) e c.loop-left.invariant.3 in
-    let er : c.divided-s.result.rest ≡ c.loop-left.rest % 10 ^ m = c.divided-s.ensures.1 ∙ ap (λ (p : ℕ). c.loop-left.rest % p) c.power.ensures in
-    let ed : c.divided-s.result.digit ≡ c.loop-left.rest / 10 ^ m = c.divided-s.ensures.0 ∙ ap (λ (p : ℕ). c.loop-left.rest / p) c.power.ensures in
-    let ej : c.args.k - m ≡ suc (c.args.k - suc m) = omega arith in
-    let ei : c.loop-left.i ≡ c.args.at + (c.args.k - suc m) = omega arith in (
-      omega arith,
-      omega arith,
-      subst (λ (x : ℕ). x < 10 ^ m) (sym er) (rest_lt m c.loop-left.rest),
-      ap (λ (j : ℕ). drop j D) ej ∙ digits-left D (c.args.k - suc m) m c.loop-left.rest q ∙ ap (digits_of m) (sym er),
-      ap (λ (x : List ℕ). set x c.loop-left.i (48 + c.divided-s.result.digit)) c.loop-left.invariant.4
-          ∙ ap (λ (j : ℕ). set (paste c.args.out.now c.args.at D (c.args.k - j)) c.loop-left.i (48 + c.divided-s.result.digit)) e
-          ∙ ap₂ (λ (i d : ℕ). set (paste c.args.out.now c.args.at D (c.args.k - suc m)) i (48 + d)) ei ed
-          ∙ put_next c.args.out.now D c.args.at c.args.k m c.loop-left.rest (omega arith) (length-digits_of c.args.k c.args.n) (omega arith) q,
-      simp length-set c.loop-left.invariant.5,
+    let i : ℕ = c.loop-i.i in
+    let m : ℕ = c.args.k - 1 - i in
+    let e : c.args.k - i ≡ suc m = omega arith in
+    let n : c.args.k - (i + 1) ≡ m = omega arith in
+    let q : drop i D ≡ digits_of (suc m) c.loop-i.rest = c.loop-i.invariant.1 ∙ ap (λ (j : ℕ). digits_of j c.loop-i.rest) e in
+    let r : c.divided-digit.result.1 ≡ c.loop-i.rest % 10 ^ m = c.divided-digit.ensures.1 ∙ ap (λ (p : ℕ). c.loop-i.rest % p) c.power.ensures in
+    let d : c.divided-digit.result.0 ≡ c.loop-i.rest / 10 ^ m = c.divided-digit.ensures.0 ∙ ap (λ (p : ℕ). c.loop-i.rest / p) c.power.ensures in
+    rw (n, r, d) (
+      rest_lt m c.loop-i.rest,
+      digits-left D i m c.loop-i.rest q,
+      ap (λ (l : List ℕ). set l (c.args.at + i) (48 + c.loop-i.rest / 10 ^ m)) c.loop-i.invariant.2
+          ∙ put_next c.args.out.now D c.args.at i m c.loop-i.rest (omega (arith, length-digits_of c.args.k c.args.n)) (omega (arith, length-digits_of c.args.k c.args.n)) q,
     )
 
 pub returns : goal.returns
-returns c = let D : List ℕ = digits_of c.args.k c.args.n in
-    let e : c.args.k - c.loop-left.left ≡ c.args.k = omega arith in
-    c.loop-left.invariant.4 ∙ ap (λ (j : ℕ). paste c.args.out.now c.args.at D j) e ∙ pasted c.args.out.now D c.args.at c.args.k (length-digits_of c.args.k c.args.n)
+returns c =
+    let D : List ℕ = digits_of c.args.k c.args.n in
+    let e : c.loop-i.i ≡ c.args.k = omega arith in
+    c.loop-i.invariant.2 ∙ ap (paste c.args.out.now c.args.at D) e ∙ pasted c.args.out.now D c.args.at c.args.k (length-digits_of c.args.k c.args.n)
