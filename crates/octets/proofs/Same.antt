@@ -1,7 +1,8 @@
 -- `same` agrees with equality; and what the loop of `equal` keeps.
 use mathlib.Core.Path.{◌≡◌, refl, sym, ap, ap₂, ◌∙◌}
-use Prim.Native.Nat.{ℕ, zero, suc, ◌≤◌, ◌<◌}
+use Prim.Native.Nat.{ℕ, zero, suc, ◌+◌, ◌≤◌, ◌<◌}
 use native.Mathlib.Nat.{not-suc-le-zero}
+use native.Mathlib.Numerals.{add-one}
 use native.Mathlib.Omega.{arith}
 use mathlib.Core.Bool.{Bool, true, false, ◌&&◌}
 use mathlib.Core.List.{List, [], ◌∷◌}
@@ -78,9 +79,9 @@ unfolding same
 same_none a b = refl
 
 pub same_more : (a b : List ℕ) (i d : ℕ) → i < length a → i < length b → eqb d 0 ≡ same (take i a) (take i b)
-    → eqb (bit_or d (bit_xor (get_or a i 0) (get_or b i 0))) 0 ≡ same (take (suc i) a) (take (suc i) b)
+    → eqb (bit_or d (bit_xor (get_or a i 0) (get_or b i 0))) 0 ≡ same (take (i + 1) a) (take (i + 1) b)
 same_more a b i d h k e =
-    diff_step d (get_or a i 0) (get_or b i 0) ∙ ap (λ (t : Bool). t && eqb (get_or a i 0) (get_or b i 0)) e ∙ sym (same-take a b i h k)
+    rw add-one (diff_step d (get_or a i 0) (get_or b i 0) ∙ ap (λ (t : Bool). t && eqb (get_or a i 0) (get_or b i 0)) e ∙ sym (same-take a b i h k))
 
 pub same-all : (a b : List ℕ) (i : ℕ) → length a ≤ i → length b ≤ i → same (take i a) (take i b) ≡ same a b
 same-all a b i h k = ap₂ same (take_all i a h) (take_all i b k)

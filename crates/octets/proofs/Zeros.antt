@@ -2,7 +2,6 @@
 use Prim.Native.Nat.{ℕ, ◌+◌, ◌≤◌, ◌<◌}
 use mathlib.Core.Path.{◌≡◌, sym, ap, ◌∙◌}
 use mathlib.Core.List.{List}
-use native.Mathlib.Numerals.{add-one}
 use native.Mathlib.Omega.{arith}
 use lib.Bits.{bit_or, bit_xor, xor_zero_r}
 use lib.Dec.{eqb}
@@ -21,7 +20,7 @@ unfolding zeros
 zero_more s i d h e =
     let z : bit_xor (get_or s i 0) (get_or (zeros (length s)) i 0) ≡ get_or s i 0 = ap (bit_xor (get_or s i 0)) (get_or-replicate (length s) i 0 0 h) ∙ xor_zero_r (get_or s i 0) in
     let l : i < length (zeros (length s)) = omega (arith, length-zeros (length s)) in
-    ap (λ (x : ℕ). eqb (bit_or d x) 0) (sym z) ∙ same_more s (zeros (length s)) i d h l e ∙ ap (λ (k : ℕ). same (take k s) (take k (zeros (length s)))) (sym (add-one i))
+    ap (λ (x : ℕ). eqb (bit_or d x) 0) (sym z) ∙ same_more s (zeros (length s)) i d h l e
 
 pub zero-all : (s : List ℕ) (i : ℕ) → length s ≤ i → same (take i s) (take i (zeros (length s))) ≡ same s (zeros (length s))
 zero-all s i h = same-all s (zeros (length s)) i h (omega (arith, length-zeros (length s)))

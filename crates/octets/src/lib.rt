@@ -12,23 +12,20 @@ pub fn equal(a: &[u8], b: &[u8]) -> bool
         return false;
     }
     let mut diff: u8 = 0;
-    let mut i = 0;
-    while i < a.len() {
-        diff = diff | (a[i] ^ b[i]);
-        i += 1;
+    for (x, y) in a.iter().zip(b) {
+        diff |= x ^ y;
     }
     diff == 0
 }
 
-// Writes the bytes of part from at on.
+// Writes the bytes of part from at on. Not by copy_from_slice: where out and part are both lent and the length is not known, the
+// compiler makes a call of memmove of it, and the archive for C may call memcpy alone.
 pub fn put(out: &mut [u8], at: usize, part: &[u8])
     requires { at + length part.now ≤ length out.old }
     ensures { out.new ≡ splice out.old at part.now }
 {
-    let mut i = 0;
-    while i < part.len() {
-        out[at + i] = part[i];
-        i += 1;
+    for (i, byte) in part.iter().enumerate() {
+        out[at + i] = *byte;
     }
 }
 
@@ -44,10 +41,8 @@ pub fn is_zero(s: &[u8]) -> bool
     ensures { result ≡ same s.now (zeros (length s.now)) }
 {
     let mut any: u8 = 0;
-    let mut i = 0;
-    while i < s.len() {
-        any = any | s[i];
-        i += 1;
+    for b in s {
+        any |= b;
     }
     any == 0
 }

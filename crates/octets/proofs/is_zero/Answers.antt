@@ -7,11 +7,11 @@ use mathlib.Core.Path.{◌∙◌}
 use Rattle.octets.proofs.Zeros.{zero_more, zero-all}
 use Rattle.octets.proofs.is_zero.Goals as goal
 
-pub loop-i-init : goal.loop-i-init
-loop-i-init c = (omega arith, same_none c.args.s.now (zeros (length c.args.s.now)))
+pub loop-b-init : goal.loop-b-init
+loop-b-init c = same_none c.args.s.now (zeros (length c.args.s.now))
 
-pub loop-i-preserved : goal.loop-i-preserved
-loop-i-preserved c = (omega arith, zero_more c.args.s.now c.loop-i.i c.loop-i.any (omega arith) c.loop-i.invariant.1)
+pub loop-b-preserved : goal.loop-b-preserved
+loop-b-preserved c = zero_more c.args.s.now c.loop-b.b-index c.loop-b.any (omega arith) c.loop-b.invariant
 
 pub returns : goal.returns
-returns c = c.loop-i.invariant.1 ∙ zero-all c.args.s.now c.loop-i.i (omega arith)
+returns c = c.loop-b.invariant ∙ zero-all c.args.s.now c.loop-b.b-index (omega arith)

@@ -1,12 +1,8 @@
 use Rattle.octets.specs.Octets.{same, zeros}
 use lib.ListN.{length, take}
 use lib.Dec.{eqb}
-use Prim.Native.Nat.{◌≤◌, ◌-◌}
 use mathlib.Core.Path.{◌≡◌}
 use Rattle.octets.proofs.is_zero.Given as given
 
-abbrev pub invariant-loop-i : given.invariant-loop-i
-invariant-loop-i l = (l.i ≤ length l.s) × (eqb l.any 0 ≡ same (take l.i l.s) (take l.i (zeros (length l.s))))
-
-abbrev pub decreases-loop-i : given.decreases-loop-i
-decreases-loop-i l = length l.s - l.i
+abbrev pub invariant-loop-b : given.invariant-loop-b
+invariant-loop-b l = eqb l.any 0 ≡ same (take l.b-index l.s) (take l.b-index (zeros (length l.s)))

@@ -15,20 +15,19 @@ pub undivided : Undivided [] function
 undivided = refl
 
 pub loop-i-init : goal.loop-i-init
-loop-i-init c = (omega arith, refl, paste-zero c.args.out.now c.args.at c.args.part.now)
+loop-i-init c = (refl, paste-zero c.args.out.now c.args.at c.args.part.now)
 
 pub loop-i-preserved : goal.loop-i-preserved
 loop-i-preserved c = (
-  omega arith,
-  length-set c.loop-i.out (c.args.at + c.loop-i.i) (get_or c.args.part.now c.loop-i.i 0) ∙ c.loop-i.invariant.1,
-  rw add-one (ap (λ (b : List ℕ). set b (c.args.at + c.loop-i.i) (get_or c.args.part.now c.loop-i.i 0)) c.loop-i.invariant.2
+  length-set c.loop-i.out (c.args.at + c.loop-i.i) (get_or c.args.part.now c.loop-i.i 0) ∙ c.loop-i.invariant.0,
+  rw add-one (ap (λ (b : List ℕ). set b (c.args.at + c.loop-i.i) (get_or c.args.part.now c.loop-i.i 0)) c.loop-i.invariant.1
       ∙ paste-suc c.args.out.now c.args.at c.args.part.now c.loop-i.i 0 (omega arith) (omega arith)),
 )
 
 pub returns : goal.returns
 unfolding splice
 returns c = let e : c.loop-i.i ≡ length c.args.part.now = omega arith in
-    c.loop-i.invariant.2
+    c.loop-i.invariant.1
     ∙ ap (λ (n : ℕ). paste c.args.out.now c.args.at c.args.part.now n) e
     ∙ ap (λ (p : List ℕ). take c.args.at c.args.out.now ++ p ++ drop (c.args.at + length c.args.part.now) c.args.out.now) (take-length c.args.part.now)
     ∙ append_assoc (take c.args.at c.args.out.now) c.args.part.now (drop (c.args.at + length c.args.part.now) c.args.out.now)
