@@ -1,15 +1,20 @@
 -- The laws of big-endian numbers, each over all widths.
 use mathlib.Core.Path.{◌≡◌, refl, sym, ap, ap₂, ◌∙◌, subst}
-use Prim.Native.Nat.{ℕ, zero, suc, ◌+◌, ◌*◌, ◌/◌, ◌%◌, ◌^◌, ◌≤◌, ◌<◌, zero-le}
+use Prim.Native.Nat.{ℕ, zero, suc, ◌+◌, ◌-◌, ◌*◌, ◌/◌, ◌%◌, ◌^◌, ◌≤◌, ◌<◌, zero-le}
 use native.Mathlib.Nat.{mod-one, mod-lt, mod-eq_of_lt, pow-succ', pow-le-pow_right, mul-add-div_right, mul-add-mod_self_right, mul_assoc, div-div-eq-div-mul, div-add-mod', zero-add, suc-add, add_comm, div-one}
 use native.Mathlib.Omega.{arith}
-use mathlib.Core.List.{List, [], ◌∷◌, ◌++◌}
+use mathlib.Core.List.{List, [], ◌∷◌, ◌++◌, append-nil}
+use Rattle.std.proofs.lemmas.List.{take-replicate}
 use lib.Dec.{lit<}
-use lib.ListN.{length, get_or, set, length-append, length-take, length-set}
+use lib.ListN.{length, get_or, take, drop, replicate, set, length-append, length-take, length-drop, length-set, length-replicate, drop_of_length-le}
+use lib.Seq.{take_all, drop_at}
+use borrow.Rule.Slice.PartMut.{put_mid}
+use mir.Syntax.{w64}
+use Rattle.std.specs.Int.{from_be_bytes, to_be_bytes}
 use lib.Arith.{digits_lt, digits_div, mod-mul}
 use lib.Pow.{pow-add}
 use Rattle.octets.specs.Octets.{Bytes, part, splice}
-use Rattle.octets.proofs.Parts.{part-run, part-add, length_part, bytes-part, splice-append, splice-byte}
+use Rattle.octets.proofs.Parts.{run, part-run, part-add, length_part, bytes-part, splice-append, splice-byte}
 use Rattle.bigendian.specs.BigEndian.{be, unbe}
 
 pub base-pos : (w : ℕ) → 0 < 256 ^ w
@@ -137,3 +142,41 @@ put_two at n l h =
     put_byte (at + 1) n (set l at (n / 256 % 256)) k
     ∙ ap₂ (λ (a b : List ℕ). splice a (at + 1) b) (put_byte at (n / 256) l (omega arith)) (sym (be-mod 1 n))
     ∙ put-split 1 1 at n l h
+
+-- the library's numbers of eight bytes, and bytes of a number
+
+from_be_bytes-unbe : (l : List ℕ) → length l ≡ 8 → from_be_bytes w64 l ≡ unbe l
+unfolding unbe
+from_be_bytes-unbe l h =
+    let e : unbe l ≡ unbe (run 8 0 l) = ap unbe (sym (take_all 8 l (omega arith)) ∙ part-run 8 0 l (omega arith)) in
+    omega (arith, e)
+
+unbe-zeros : (n : ℕ) → unbe (replicate n 0) ≡ 0
+unfolding unbe
+unbe-zeros zero = refl
+unbe-zeros (suc n) = omega (arith, unbe-zeros n)
+
+-- bytes at the end of eight, behind zeros
+pub from_be_bytes-padded : (n : ℕ) (l : List ℕ) → length l ≡ n → n ≤ 8 → from_be_bytes w64 (put_mid (8 - n) (8 - (8 - n)) (replicate 8 0) l) ≡ unbe l
+from_be_bytes-padded n l h k =
+    let none : ◌≡◌ {A = List ℕ} (drop (8 - (8 - n)) (drop (8 - n) (replicate 8 0))) [] = drop_of_length-le (drop (8 - n) (replicate 8 0)) {i = 8 - (8 - n)} (simp (length-drop, length-replicate) (omega arith)) in
+    let front : ◌≡◌ {A = List ℕ} (take (8 - n) (replicate 8 0)) (replicate (8 - n) 0) = take-replicate (8 - n) 8 0 (omega arith) in
+    let eight : put_mid (8 - n) (8 - (8 - n)) (replicate 8 0) l ≡ replicate (8 - n) 0 ++ l = ap₂ (λ (p q : List ℕ). p ++ (l ++ q)) front none ∙ ap (λ (t : List ℕ). replicate (8 - n) 0 ++ t) (append-nil l) in
+    ap (from_be_bytes w64) eight
+    ∙ from_be_bytes-unbe (replicate (8 - n) 0 ++ l) (simp (length-append, length-replicate) (omega arith))
+    ∙ unbe-append (replicate (8 - n) 0) l
+    ∙ ap (λ (u : ℕ). u * 256 ^ length l + unbe l) (unbe-zeros (8 - n))
+    ∙ omega arith
+
+pub to_be_bytes-be : (n : ℕ) → to_be_bytes w64 n ≡ be 8 n
+unfolding be
+to_be_bytes-be n = simp div-one
+
+-- the last of eight bytes
+pub be-low : (n x : ℕ) → n ≤ 8 → take (8 - (8 - n)) (drop (8 - n) (be 8 x)) ≡ be n x
+be-low n x k =
+    let e : 8 - n + n ≡ 8 = omega arith in
+    let all : be 8 x ≡ be (8 - n) (x / 256 ^ n) ++ be n x = ap (λ (w : ℕ). be w x) (sym e) ∙ be-add (8 - n) n x in
+    ap (λ (l : List ℕ). take (8 - (8 - n)) (drop (8 - n) l)) all
+    ∙ ap (take (8 - (8 - n))) (drop_at (be (8 - n) (x / 256 ^ n)) (be n x) (8 - n) (length-be (8 - n) (x / 256 ^ n)))
+    ∙ take_all (8 - (8 - n)) (be n x) (rw length-be (omega arith))
