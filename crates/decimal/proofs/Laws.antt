@@ -41,6 +41,25 @@ remainder n p d r e h =
 abbrev Often : ℕ → ℕ → ℕ → Type 0
 Often r n m = (r ≤ 3) × (r * m ≤ n) × (n < 4 * m → n < r * m + m)
 
+-- a is 1 if m is at most n, otherwise 0
+abbrev Fits : ℕ → ℕ → ℕ → Type 0
+Fits a m n = (a ≤ 1) × (m ≤ n → a ≡ 1) × (n < m → a ≡ 0)
+
+pub counted : (n m a b c : ℕ) → Fits a m n → Fits b (m + m) n → Fits c (m + m + m) n → Often (a + b + c) n m
+counted n m a b c f g h = go (dec_le m n) (dec_le (m + m) n) (dec_le (m + m + m) n)
+  where
+    at : (r : ℕ) → a + b + c ≡ r → Often r n m → Often (a + b + c) n m
+    at r e o = subst (λ (r : ℕ). Often r n m) (sym e) o
+
+    go : Dec (m ≤ n) → Dec (m + m ≤ n) → Dec (m + m + m ≤ n) → Often (a + b + c) n m
+    go (yes p) (yes q) (yes r) = at 3 (omega (arith, f.1 p, g.1 q, h.1 r)) (omega arith, omega arith, λ z. omega arith)
+    go (yes p) (yes q) (no r) = at 2 (omega (arith, f.1 p, g.1 q, h.2 (omega arith))) (omega arith, omega arith, λ z. omega arith)
+    go (yes p) (no q) (yes r) = absurd (omega arith)
+    go (yes p) (no q) (no r) = at 1 (omega (arith, f.1 p, g.2 (omega arith), h.2 (omega arith))) (omega arith, omega arith, λ z. omega arith)
+    go (no p) (yes q) r = absurd (omega arith)
+    go (no p) (no q) (yes r) = absurd (omega arith)
+    go (no p) (no q) (no r) = at 0 (omega (arith, f.2 (omega arith), g.2 (omega arith), h.2 (omega arith))) (omega arith, omega arith, λ z. omega arith)
+
 fourfold : (a b p : ℕ) → (4 * a + b) * p ≡ a * (4 * p) + b * p
 fourfold a b p = add-mul (4 * a) b p ∙ ap (λ (m : ℕ). m + b * p) (ap (λ (m : ℕ). m * p) (mul_comm 4 a) ∙ mul_assoc a 4 p)
 
