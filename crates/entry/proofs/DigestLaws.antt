@@ -14,7 +14,7 @@ use Rattle.octets.proofs.Same.{same-eq, eq-same}
 use Rattle.bigendian.specs.BigEndian.{be, unbe}
 use Rattle.bigendian.proofs.Laws.{length-be, unbe-be}
 use Rattle.sha256.specs.Sha256.{sha256, block_count}
-use Rattle.sha256.specs.declared.Digest.{Digest}
+use Rattle.refusal.specs.declared.Hashed.{Hashed}
 use Rattle.sha256.proofs.Padding.{count-is}
 use Rattle.sha256.proofs.Sizes.{length-sha256, bytes-sha256}
 use Rattle.entry.specs.Digest.{block, entry_digest}
@@ -74,9 +74,9 @@ same_block p q v w d e hp hq nv nw = go (same (block p v d) (block q w e)) (eqb 
     go false false h k = h ∙ sym k
 
 -- what the running digest is fed, part after part: 72 bytes, which with their padding are 2 blocks
-pub fed-is : (n : ℕ) (number x previous : List ℕ) (d : Digest) → number ≡ be 8 n → length x ≡ 32 → length previous ≡ 32
-    → (d.bytes ≡ sha256 ((([] ++ number) ++ x) ++ previous)) × (d.blocks ≡ block_count ((([] ++ number) ++ x) ++ previous))
-    → (d.bytes ≡ entry_digest n x previous) × (d.blocks ≡ 2)
+pub fed-is : (n : ℕ) (number x previous : List ℕ) (d : Hashed (List ℕ)) → number ≡ be 8 n → length x ≡ 32 → length previous ≡ 32
+    → (d.value ≡ sha256 ((([] ++ number) ++ x) ++ previous)) × (d.blocks ≡ block_count ((([] ++ number) ++ x) ++ previous))
+    → (d.value ≡ entry_digest n x previous) × (d.blocks ≡ 2)
 unfolding entry_digest block
 fed-is n number x previous d h nx np e =
     let fed : (number ++ x) ++ previous ≡ block n x previous = append_assoc number x previous ∙ ap (λ (l : List ℕ). l ++ (x ++ previous)) h in

@@ -8,7 +8,7 @@ ghost use Rattle.sha256_running.specs.Running.{state_of};
 ghost use Rattle.entry.specs.Digest.{entry_digest};
 
 use bigendian::put_u64;
-use sha256::Digest;
+use refusal::Hashed;
 use sha256_running::Running;
 
 // A position as 8 bytes.
@@ -29,26 +29,16 @@ fn feed(state: &mut Running, part: &[u8])
     *state = before.absorb(part);
 }
 
-// Document 01: "The running digest is fed position, value and previous digest in turn." The state is lent three times; the
-// contract speaks of a number and slices alone, so no caller's proof is a walk. The blocks are those that `finish` reports: of
+// The digest of an entry. Document 01: "The running digest is fed position, value and previous digest in turn." The state is lent three
+// times; the contract speaks of a number and arrays alone, so no caller's proof is a walk. The parts have 32 bytes by their type: the
+// compiler knows their lengths, and what each feeding copies comes down to a few moves. The blocks are those that `finish` reports: of
 // 72 bytes they are 2.
-fn fed_in_turn(position: u64, value: &[u8], previous: &[u8]) -> Digest
-    requires { (length value.now ≡ 32) × (length previous.now ≡ 32) }
-    ensures { (result.bytes ≡ entry_digest position value.now previous.now) × (result.blocks ≡ 2) }
+pub fn entry_digest(position: u64, value: &[u8; 32], previous: &[u8; 32]) -> Hashed<[u8; 32]>
+    ensures { (result.value ≡ entry_digest position value.now previous.now) × (result.blocks ≡ 2) }
 {
-    let head = number(position);
     let mut state = Running::new();
-    feed(&mut state, &head);
+    feed(&mut state, &number(position));
     feed(&mut state, value);
     feed(&mut state, previous);
     state.finish()
-}
-
-// The digest of an entry. The parts are cut to 32 bytes, which they have: the compiler then knows their lengths, and what each
-// feeding copies comes down to a few moves.
-pub fn entry_digest(position: u64, value: &[u8], previous: &[u8]) -> Digest
-    requires { (length value.now ≡ 32) × (length previous.now ≡ 32) }
-    ensures { (result.bytes ≡ entry_digest position value.now previous.now) × (result.blocks ≡ 2) }
-{
-    fed_in_turn(position, &value[0..32], &previous[0..32])
 }

@@ -5,6 +5,7 @@ ghost use Rattle.std.specs.Prelude.{◌≡◌, ◌+◌, ◌*◌, ◌^◌, ◌<�
 ghost use Rattle.sha256.specs.Sha256.{K as Ks, words, added, compress as compress_of, blocks as blocks_after};
 
 use bigendian::get_u32;
+use refusal::Hashed;
 use sha256_rounds::{Window, rounds16, turns48};
 use std::num::wrapping_add_u32;
 
@@ -123,15 +124,13 @@ fn compress(h: [u32; 8], block: &[u8], k: &[u32; 64]) -> [u32; 8]
     sum(h, rounds16(v, &w, k))
 }
 
-// A hash value, and how many blocks were compressed to make it.
-#[derive(Drop)]
-pub struct Compressed {
-    pub value: [u32; 8],
-    pub blocks: u64,
-}
-
 // The hash value after the first n blocks of s, each counted as it is compressed.
-pub fn compress_blocks(before: Compressed, s: &[u8], n: usize, k: &[u32; 64]) -> Compressed
+pub fn compress_blocks(
+    before: Hashed<[u32; 8]>,
+    s: &[u8],
+    n: usize,
+    k: &[u32; 64],
+) -> Hashed<[u32; 8]>
     requires { (k.now ≡ Ks) × ((n * 64 ≤ length s.now) × (before.blocks + n < 2 ^ 64)) }
     ensures { (result.value ≡ blocks_after n before.value s.now) × (result.blocks ≡ before.blocks + n) }
 {
@@ -146,5 +145,5 @@ pub fn compress_blocks(before: Compressed, s: &[u8], n: usize, k: &[u32; 64]) ->
         blocks += 1;
         i += 1;
     }
-    Compressed { value: h, blocks }
+    Hashed { value: h, blocks }
 }

@@ -9,8 +9,7 @@ use lib.ListN.{length, take, drop, set, replicate, length-append, length-take, l
 use lib.Seq.{take-append-le, drop-append-le, drop-drop, length-take-le}
 use Rattle.octets.specs.Octets.{splice}
 use Rattle.sha256.specs.Sha256.{H0, compress, blocks, padding, pad, bytes, block_count, sha256}
-use Rattle.sha256.specs.declared.Digest.{Digest}
-use Rattle.sha256_blocks.specs.declared.Compressed.{Compressed}
+use Rattle.refusal.specs.declared.Hashed.{Hashed}
 use Rattle.sha256_digest.specs.Absorbed.{State, after, start, absorbed, finished, finished_blocks}
 use Rattle.bigendian.specs.BigEndian.{be}
 use Rattle.sha256.proofs.Padding.{last_blocks, tail, length-tail, tail-is as tail-padded}
@@ -74,7 +73,7 @@ blocks-take n h m k =
 
 -- what `digest_from` computes, with f bytes after the whole blocks of p: v after those blocks, t the array of one or two blocks that
 -- was l, and d after its blocks
-pub closing : (h v d : Compressed) (p l t : List ℕ) (before f : ℕ) → before % 64 ≡ 0 → f ≡ length p % 64 → l ≡ replicate (length l) 0 → last_blocks f * 64 ≤ length l
+pub closing : (h v d : Hashed (List ℕ)) (p l t : List ℕ) (before f : ℕ) → before % 64 ≡ 0 → f ≡ length p % 64 → l ≡ replicate (length l) 0 → last_blocks f * 64 ≤ length l
     → (v.value ≡ blocks (length p / 64) h.value p) × (v.blocks ≡ h.blocks + length p / 64)
     → t ≡ splice (set (splice l 0 (drop (length p / 64 * 64) p)) f 128) (last_blocks f * 64 - 8) (be 8 ((before + length p) * 8))
     → (d.value ≡ blocks (last_blocks f) v.value t) × (d.blocks ≡ v.blocks + last_blocks f)
@@ -121,17 +120,17 @@ finished-is m =
     (ap (λ (s : State). bytes s.value) e, ap (λ (s : State). s.blocks) e ∙ zero-add _)
 
 -- what finishing gives, from a state that has absorbed m
-pub digest-is : (m : List ℕ) (s : State) (d : Digest) → s ≡ absorbed start m → (d.bytes ≡ finished s) × (d.blocks ≡ finished_blocks s)
-    → (d.bytes ≡ sha256 m) × (d.blocks ≡ block_count m)
+pub digest-is : (m : List ℕ) (s : State) (d : Hashed (List ℕ)) → s ≡ absorbed start m → (d.value ≡ finished s) × (d.blocks ≡ finished_blocks s)
+    → (d.value ≡ sha256 m) × (d.blocks ≡ block_count m)
 digest-is m s d h k = (k.0 ∙ ap finished h ∙ (finished-is m).0, k.1 ∙ ap finished_blocks h ∙ (finished-is m).1)
 
 -- nothing before a message
-pub from_initial : (i : Compressed) (m : List ℕ) → (i.value ≡ H0) × (i.blocks ≡ 0) → absorbed (after i 0) m ≡ absorbed start m
+pub from_initial : (i : Hashed (List ℕ)) (m : List ℕ) → (i.value ≡ H0) × (i.blocks ≡ 0) → absorbed (after i 0) m ≡ absorbed start m
 unfolding after start
 from_initial i m h = ap (λ (s : State). absorbed s m) (state-eq h.0 refl refl h.1)
 
 -- a block, and a text after it
-pub after_block : (i h : Compressed) (b m : List ℕ) → length b ≡ 64 → (i.value ≡ H0) × (i.blocks ≡ 0)
+pub after_block : (i h : Hashed (List ℕ)) (b m : List ℕ) → length b ≡ 64 → (i.value ≡ H0) × (i.blocks ≡ 0)
     → (h.value ≡ blocks 1 i.value b) × (h.blocks ≡ i.blocks + 1) → absorbed (after h 64) m ≡ absorbed start (b ++ m)
 unfolding absorbed after start
 after_block i h b m size e k =

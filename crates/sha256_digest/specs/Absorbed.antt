@@ -2,7 +2,7 @@
 --
 use Rattle.std.specs.Prelude.{ℕ, ◌+◌, ◌*◌, ◌/◌, List, [], ◌++◌, length, drop}
 use Rattle.sha256.specs.Sha256.{H0, blocks as blocks_after, padding, bytes}
-use Rattle.sha256_blocks.specs.declared.Compressed.{Compressed}
+use Rattle.refusal.specs.declared.Hashed.{Hashed}
 
 -- the hash value after the whole blocks, the bytes after them, the number of all bytes, and of the blocks compressed
 pub record State : Type 0 where
@@ -12,7 +12,7 @@ pub record State : Type 0 where
   pub blocks : ℕ
 
 -- whole blocks, n bytes of them, made the hash value h
-unfoldable pub after : Compressed → ℕ → State
+unfoldable pub after : Hashed (List ℕ) → ℕ → State
 after h n = record { value = h.value; rest = []; size = n; blocks = h.blocks }
 
 unfoldable pub start : State

@@ -10,9 +10,8 @@ ghost use Rattle.sha256.specs.Hash.{hash_refusal};
 
 use bigendian::{put_u32, put_u64};
 use octets::put;
-use refusal::{Refusal, Worked};
-use sha256::Digest;
-use sha256_blocks::{Compressed, compress_blocks, constants};
+use refusal::{Hashed, Refusal, Refused};
+use sha256_blocks::{compress_blocks, constants};
 
 pub fn wide(n: usize) -> u64
     ensures { result ≡ n }
@@ -21,10 +20,10 @@ pub fn wide(n: usize) -> u64
 }
 
 // The initial hash value, no block compressed.
-pub fn initial() -> Compressed
+pub fn initial() -> Hashed<[u32; 8]>
     ensures { (result.value ≡ H0) × (result.blocks ≡ 0) }
 {
-    Compressed {
+    Hashed {
         value: [
             0x6a09_e667,
             0xbb67_ae85,
@@ -41,10 +40,10 @@ pub fn initial() -> Compressed
 
 // The digest of a message of which whole blocks, before bytes of them, made the hash value h, and part is the rest. Its last
 // bytes and the padding make one block more, or two.
-pub fn digest_from(h: Compressed, before: u64, part: &[u8], k: &[u32; 64]) -> Digest
+pub fn digest_from(h: Hashed<[u32; 8]>, before: u64, part: &[u8], k: &[u32; 64]) -> Hashed<[u8; 32]>
     requires before_value { (before % 64 ≡ 0) × ((before + length part.now < 2 ^ 61) × (h.blocks < 2 ^ 61)) }
     requires k_value { k.now ≡ Ks }
-    ensures { (result.bytes ≡ finished (absorbed (after h before) part.now)) × (result.blocks ≡ finished_blocks (absorbed (after h before) part.now)) }
+    ensures { (result.value ≡ finished (absorbed (after h before) part.now)) × (result.blocks ≡ finished_blocks (absorbed (after h before) part.now)) }
 {
     let n = part.len();
     let whole = n / 64;
@@ -56,10 +55,8 @@ pub fn digest_from(h: Compressed, before: u64, part: &[u8], k: &[u32; 64]) -> Di
     let count = (fill + 72) / 64;
     put_u64(&mut tail, count * 64 - 8, (before + wide(n)) * 8);
     let last = compress_blocks(value, &tail, count, k);
-    let hash_value = last.value;
-    let bytes = digest(hash_value);
-    Digest {
-        bytes,
+    Hashed {
+        value: digest(last.value),
         blocks: last.blocks,
     }
 }
@@ -78,45 +75,44 @@ pub fn digest(h: [u32; 8]) -> [u8; 32]
 }
 
 // The digest of a message.
-pub fn digest_of(message: &[u8]) -> Digest
+pub fn digest_of(message: &[u8]) -> Hashed<[u8; 32]>
     requires { length message.now < 2 ^ 61 }
-    ensures { (result.bytes ≡ sha256 message.now) × (result.blocks ≡ block_count message.now) }
+    ensures { (result.value ≡ sha256 message.now) × (result.blocks ≡ block_count message.now) }
 {
     let k = constants();
     digest_from(initial(), 0, message, &k)
 }
 
 // The digest of a block and a text after it, of which nothing is copied but the last bytes.
-pub fn prefixed_digest(block: &[u8], text: &[u8]) -> Digest
-    requires { (length block.now ≡ 64) × (64 + length text.now < 2 ^ 61) }
-    ensures { (result.bytes ≡ sha256 (block.now ++ text.now)) × (result.blocks ≡ block_count (block.now ++ text.now)) }
+pub fn prefixed_digest(block: &[u8; 64], text: &[u8]) -> Hashed<[u8; 32]>
+    requires { 64 + length text.now < 2 ^ 61 }
+    ensures { (result.value ≡ sha256 (block.now ++ text.now)) × (result.blocks ≡ block_count (block.now ++ text.now)) }
 {
     let k = constants();
     let first = compress_blocks(initial(), block, 1, &k);
     digest_from(first, 64, text, &k)
 }
 
+// A message of so many bytes has 2^64 bits, more than FIPS 180-4 allows.
+const TOO_LONG: usize = 1 << 61;
+
 // Writes the digest of a message into a buffer of 32 bytes. Refused with 7, the buffer as it was: a buffer of another
 // length, or a message longer than FIPS 180-4 allows.
-pub fn hash(message: &[u8], out: &mut [u8]) -> Worked
+pub fn hash(message: &[u8], out: &mut [u8]) -> Result<Hashed<()>, Refused>
     ensures answer { worked_number result ≡ answer_of (hash_refusal message.now out.old) }
     ensures blocks { worked_blocks result ≡ afterwards (hash_refusal message.now out.old) (block_count message.now) 0 }
     ensures bytes { out.new ≡ afterwards (hash_refusal message.now out.old) (sha256 message.now) out.old }
 {
     if out.len() != 32 {
-        return Worked::Refused {
-            why: Refusal::Length,
-            blocks: 0,
-        };
+        return Err(Refusal::Length.into());
     }
-    if 2305843009213693952 <= message.len() {
-        return Worked::Refused {
-            why: Refusal::Length,
-            blocks: 0,
-        };
+    if TOO_LONG <= message.len() {
+        return Err(Refusal::Length.into());
     }
-    let d = digest_of(message);
-    let bytes = d.bytes;
-    put(out, 0, &bytes);
-    Worked::Done { blocks: d.blocks }
+    let digest = digest_of(message);
+    out.copy_from_slice(&digest.value);
+    Ok(Hashed {
+        value: (),
+        blocks: digest.blocks,
+    })
 }

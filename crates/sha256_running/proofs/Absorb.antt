@@ -12,7 +12,7 @@ use Rattle.octets.proofs.Parts.{splice_nested, length-splice}
 use Rattle.bigendian.specs.BigEndian.{be}
 use Rattle.sha256.specs.Sha256.{compress, blocks, bytes}
 use Rattle.sha256.proofs.Padding.{last_blocks}
-use Rattle.sha256_blocks.specs.declared.Compressed.{Compressed}
+use Rattle.refusal.specs.declared.Hashed.{Hashed}
 use Rattle.sha256_digest.specs.Absorbed.{State, after, start, absorbed, finished, finished_blocks}
 use Rattle.sha256_digest.proofs.Absorbed.{state-eq, blocks_more, closing, absorbed-append}
 use Rattle.sha256_running.specs.Running.{state_of}
@@ -38,7 +38,7 @@ unfolding blocks
 no_block p h k = let none : length p / 64 ≡ 0 = omega arith in ap (λ (i : ℕ). blocks i h p) (sym none)
 
 -- what `finish` computes where the block has room for the padding: t the block that was zero, and d after it, with nothing behind it
-pub padded : (s : Running) (d : Compressed) (t : List ℕ) → length s.block ≡ 64 → s.count % 64 < 56
+pub padded : (s : Running) (d : Hashed (List ℕ)) (t : List ℕ) → length s.block ≡ 64 → s.count % 64 < 56
     → t ≡ splice (set (splice (replicate 64 0) 0 (take (s.count % 64) s.block)) (s.count % 64) 128) 56 (be 8 (s.count * 8))
     → (d.value ≡ blocks (length {A = ℕ} [] / 64) (blocks 1 s.chain t) []) × (d.blocks ≡ s.blocks + 1 + length {A = ℕ} [] / 64)
     → (bytes d.value ≡ finished (state_of s)) × (d.blocks ≡ finished_blocks (state_of s))
@@ -46,7 +46,7 @@ padded s d t size k et ed =
     let f : ℕ = s.count % 64 in
     let z : List ℕ = replicate 64 0 in
     let p : List ℕ = take f s.block in
-    let h : Compressed = record { value = s.chain; blocks = s.blocks } in
+    let h : Hashed (List ℕ) = record { value = s.chain; blocks = s.blocks } in
     let lp : length p ≡ f = length-take-le f s.block (omega arith) in
     let none : length p / 64 ≡ 0 = omega arith in
     let one : last_blocks f ≡ 1 = omega arith in
@@ -163,7 +163,7 @@ module _ (s : Running) (part : List ℕ) (size : length s.block ≡ 64) (k : 64 
   times : length (rest s ++ part) / 64 ≡ 1 + more s part
   times = rw length-append (omega (arith, length_rest))
 
-  long : (n at : ℕ) (first last : Compressed) {next : List ℕ}
+  long : (n at : ℕ) (first last : Hashed (List ℕ)) {next : List ℕ}
       → (first.value ≡ blocks 1 s.chain (full s part)) × (first.blocks ≡ s.blocks + 1)
       → (last.value ≡ blocks (more s part) first.value (take (length part - room s) (drop (room s) part))) × (last.blocks ≡ first.blocks + more s part)
       → next ≡ splice (full s part) 0 (take (length part - at) (drop at part)) → at ≡ room s + more s part * 64 → n ≡ s.count + length part
@@ -194,7 +194,7 @@ module _ (s : Running) (part : List ℕ) (size : length s.block ≡ 64) (k : 64 
   over = take (length part - room s) (drop (room s) part)
 
   -- `long` as `pressed` tells it: b the block, filled
-  pub fills : (n at : ℕ) (last : Compressed) {b next : List ℕ} → b ≡ full s part
+  pub fills : (n at : ℕ) (last : Hashed (List ℕ)) {b next : List ℕ} → b ≡ full s part
       → (last.value ≡ blocks (length over / 64) (blocks 1 s.chain b) over) × (last.blocks ≡ s.blocks + 1 + length over / 64)
       → next ≡ splice b 0 (take (length part - at) (drop at part)) → at ≡ length part - (length part - room s) % 64 → n ≡ s.count + length part
       → state_of (record { chain = last.value; block = next; count = n; blocks = last.blocks }) ≡ absorbed (state_of s) part

@@ -8,8 +8,8 @@ ghost use Rattle.sha256_running.specs.Running.{state_of};
 
 use bigendian::put_u64;
 use octets::put;
-use sha256::Digest;
-use sha256_blocks::{Compressed, compress_blocks, constants};
+use refusal::Hashed;
+use sha256_blocks::{compress_blocks, constants};
 use sha256_digest::{digest, digest_from, initial, wide};
 
 // A running digest: the hash value after the whole blocks, the block being filled, the number of bytes absorbed, and the
@@ -58,7 +58,7 @@ impl Running {
             };
         }
         put(&mut block, fill, &part[..room]);
-        let before = Compressed {
+        let before = Hashed {
             value: chain,
             blocks: self.blocks,
         };
@@ -75,14 +75,14 @@ impl Running {
     }
 
     // The digest of all that was absorbed. What is left in the block mostly leaves room for the padding.
-    pub fn finish(self) -> Digest
+    pub fn finish(self) -> Hashed<[u8; 32]>
         requires { (self.count < 2 ^ 61) × (self.blocks ≤ self.count) }
-        ensures { (result.bytes ≡ finished (state_of self)) × (result.blocks ≡ finished_blocks (state_of self)) }
+        ensures { (result.value ≡ finished (state_of self)) × (result.blocks ≡ finished_blocks (state_of self)) }
     {
         let chain = self.chain;
         let block = self.block;
         let fill = (self.count % 64) as usize;
-        let before = Compressed {
+        let before = Hashed {
             value: chain,
             blocks: self.blocks,
         };
@@ -93,10 +93,8 @@ impl Running {
             put_u64(&mut end, 56, self.count * 8);
             let none = [0u8; 0];
             let last = pressed(before, &end, &none);
-            let hash_value = last.value;
-            let bytes = digest(hash_value);
-            return Digest {
-                bytes,
+            return Hashed {
+                value: digest(last.value),
                 blocks: last.blocks,
             };
         }
@@ -106,7 +104,7 @@ impl Running {
 }
 
 // The hash value after a block and the whole blocks of what follows it.
-fn pressed(before: Compressed, block: &[u8; 64], rest: &[u8]) -> Compressed
+fn pressed(before: Hashed<[u32; 8]>, block: &[u8; 64], rest: &[u8]) -> Hashed<[u32; 8]>
     requires { (length block.now ≡ 64) × (before.blocks + length rest.now + 1 < 2 ^ 64) }
     ensures { (result.value ≡ blocks_after (length rest.now / 64) (blocks_after 1 before.value block.now) rest.now) × (result.blocks ≡ before.blocks + 1 + length rest.now / 64) }
 {

@@ -19,7 +19,7 @@ pub returns-then-key-le64 : goal.returns-then-key-le64
 returns-then-key-le64 c = (c.put.ensures ∙ padded-is c.args.key.now ∙ ap padded (short-key c.args.key.now c.if-key-le64.true), no-key-blocks c.args.key.now c.if-key-le64.true)
 
 pub put-requires-2 : goal.put-requires-2
-put-requires-2 c = omega (arith, ap length c.digest_of-d.ensures.0 ∙ length-sha256 c.args.key.now)
+put-requires-2 c = omega (arith, ap length c.digest_of-digest.ensures.0 ∙ length-sha256 c.args.key.now)
 
 pub returns : goal.returns
-returns c = (c.put-2.ensures ∙ padded-is c.digest_of-d.result.bytes ∙ ap padded (c.digest_of-d.ensures.0 ∙ long-key c.args.key.now c.if-key-le64.false), c.digest_of-d.ensures.1 ∙ key-blocks c.args.key.now c.if-key-le64.false)
+returns c = (c.put-2.ensures ∙ padded-is c.digest_of-digest.result.value ∙ ap padded (c.digest_of-digest.ensures.0 ∙ long-key c.args.key.now c.if-key-le64.false), c.digest_of-digest.ensures.1 ∙ key-blocks c.args.key.now c.if-key-le64.false)

@@ -6,29 +6,28 @@ use native.Mathlib.Omega.{arith}
 use lib.ListN.{length}
 use mathlib.Core.Path.{◌≡◌, ap, ◌∙◌, refl}
 use Prim.Native.Nat.{◌+◌}
-use borrow.Author.Rules.{rules}
 use mathlib.Core.Bool.{true}
 use Rattle.refusal.specs.Unwritten.{unwritten, counts}
 use Rattle.hmac.proofs.tag_of.Code.Mir.{function}
 use Rattle.hmac.proofs.tag_of.Goals as goal
-use Rattle.hmac.proofs.tag_of.Goals.{After-struct_known-2-1}
+use Rattle.hmac.proofs.tag_of.Goals.{After-struct_known-1}
 
 -- no literal of the body becomes the count
 pub counted : unwritten counts function.body ≡ true
 counted = refl
 
 -- the tag, and the sum of the blocks
-total : (c : goal.After-struct_known-2-1) → (c.prefixed_digest-outer.result.bytes ≡ hmac c.args.key.now c.args.text.now) × (c.key_block-k.result.blocks + c.prefixed_digest-inner.result.blocks + c.prefixed_digest-outer.result.blocks ≡ tag_blocks c.args.key.now c.args.text.now)
-total c = tag_is c.args.key.now c.args.text.now _ _ _ _ _ _ _ _ c.key_block-k.ensures c.mask-inner_block.ensures c.prefixed_digest-inner.ensures c.mask-outer_block.ensures c.prefixed_digest-outer.ensures
+total : (c : goal.After-struct_known-1) → (c.prefixed_digest-outer.result.value ≡ hmac c.args.key.now c.args.text.now) × (c.key_block-key.result.blocks + c.prefixed_digest-inner.result.blocks + c.prefixed_digest-outer.result.blocks ≡ tag_blocks c.args.key.now c.args.text.now)
+total c = tag_is c.args.key.now c.args.text.now _ _ _ _ _ _ _ _ c.key_block-key.ensures c.mask.ensures c.prefixed_digest-inner.ensures c.mask-2.ensures c.prefixed_digest-outer.ensures
 
 pub prefixed_digest-outer-requires : goal.prefixed_digest-outer-requires
-prefixed_digest-outer-requires c = (search rules, omega (arith, ap length c.prefixed_digest-inner.ensures.0 ∙ length-sha256 _))
+prefixed_digest-outer-requires c = omega (arith, ap length c.prefixed_digest-inner.ensures.0 ∙ length-sha256 _)
 
-pub overflow_add-blocks : goal.overflow_add-blocks
-overflow_add-blocks c = omega (arith, (total c).1, tag_fits c.args.key.now c.args.text.now c.requires.0 c.requires.1)
+pub overflow_add-result : goal.overflow_add-result
+overflow_add-result c = omega (arith, (total c).1, tag_fits c.args.key.now c.args.text.now c.requires.0 c.requires.1)
 
-pub overflow_add-blocks-2 : goal.overflow_add-blocks-2
-overflow_add-blocks-2 c = omega (arith, (total (goal.at.overflow_add-blocks-2 c).After-struct_known-2-1).1, tag_fits c.args.key.now c.args.text.now c.requires.0 c.requires.1)
+pub overflow_add-result-2 : goal.overflow_add-result-2
+overflow_add-result-2 c = omega (arith, (total (goal.at.overflow_add-result-2 c).After-struct_known-1).1, tag_fits c.args.key.now c.args.text.now c.requires.0 c.requires.1)
 
 pub returns : goal.returns
-returns c = total (goal.at.returns c).After-struct_known-2-1
+returns c = total (goal.at.returns c).After-struct_known-1

@@ -25,4 +25,4 @@ returns c = let p : List ℕ = c.args.part.now in
     ∙ ap₂ (λ (t : List ℕ) (n : ℕ). splice (set t f 128) ((f + 72) / 64 * 64 - 8) (be 8 ((c.args.before + n) * 8)))
     (c.put.ensures ∙ ap (splice (replicate 128 0) 0) chop) c.wide.ensures)
     c.compress_blocks-last.ensures in
-    (c.digest-bytes.ensures ∙ e.0, e.1)
+    (c.digest.ensures ∙ e.0, e.1)

@@ -7,7 +7,7 @@ use lib.ListN.{length, take, set, length-set}
 use lib.Seq.{length-take-le}
 use Rattle.octets.specs.Octets.{splice}
 use Rattle.bigendian.specs.BigEndian.{be}
-use Rattle.sha256_blocks.specs.declared.Compressed.{Compressed}
+use Rattle.refusal.specs.declared.Hashed.{Hashed}
 use Rattle.sha256_running.specs.declared.Running.{Running}
 use Rattle.sha256_digest.specs.Absorbed.{after, absorbed, finished, finished_blocks}
 use Rattle.sha256_running.proofs.Absorb.{padded, unfilled}
@@ -34,7 +34,7 @@ returns-then-fill-lt56 c = let s : Running = c.args.self in
     let e = padded s c.pressed-last.result c.put_u64.new.out size (omega arith)
     (c.put_u64.ensures ∙ ap (λ (b : List ℕ). splice (set b (s.count % 64) 128) 56 (be 8 (s.count * 8))) c.put.ensures)
     c.pressed-last.ensures in
-    (c.digest-bytes.ensures ∙ e.0, e.1)
+    (c.digest.ensures ∙ e.0, e.1)
 
 pub slice_bounds-block-end-2 : goal.slice_bounds-block-end-2
 slice_bounds-block-end-2 c = let size : length c.args.self.block ≡ 64 = omega arith in
@@ -51,6 +51,6 @@ digest_from-requires c = let size : length c.args.self.block ≡ 64 = omega arit
 
 pub returns : goal.returns
 returns c = let size : length c.args.self.block ≡ 64 = omega arith in
-    let h : Compressed = record { value = c.args.self.chain; blocks = c.args.self.blocks } in
+    let h : Hashed (List ℕ) = record { value = c.args.self.chain; blocks = c.args.self.blocks } in
     let e = ap (λ (n : ℕ). absorbed (after h (c.args.self.count - n)) (take (c.args.self.count % 64) c.args.self.block)) c.wide.ensures ∙ unfilled c.args.self size in
     (c.digest_from.ensures.0 ∙ ap finished e, c.digest_from.ensures.1 ∙ ap finished_blocks e)
