@@ -1,5 +1,5 @@
 -- What the functions of this crate read and write, over plain values: one law for each kind of place.
-use Prim.Native.Nat.{ℕ, ◌+◌, ◌-◌, ◌*◌, ◌≤◌, ◌<◌}
+use Prim.Native.Nat.{ℕ, ◌+◌, ◌-◌, ◌≤◌, ◌<◌}
 use mathlib.Core.Path.{◌≡◌, refl, sym, ap, ◌∙◌}
 use mathlib.Core.List.{List, ◌++◌, append_assoc}
 use native.Mathlib.Nat.{mod-eq_of_lt}
@@ -13,22 +13,13 @@ use Rattle.bigendian.proofs.Laws.{length-be, put_byte}
 use Rattle.layout.specs.declared.Row.{Row}
 use Rattle.layout.specs.Image.{Slot, slot_at, row_at}
 use Rattle.layout.specs.Changes.{slot_of}
-use Rattle.layout.specs.Layout.{Stock, mark, mark_number, header_size, row_size, slot_size, row_offset, slot_offset, read_row, row_bytes, read_slot, slot_bytes, cells_from, read_table, count_bytes, header_bytes, put_row, put_slot, put_next}
-use Rattle.layout.specs.Fits.{SlotFits, Counted}
-use Rattle.layout.proofs.FieldLaws.{length-row_bytes, length-slot_bytes}
+use Rattle.layout.specs.Layout.{Stock, mark, mark_number, header_size, row_size, slot_size, row_offset, slot_offset, read_row, row_bytes, read_slot, slot_bytes, read_table, count_bytes, header_bytes, put_row, put_slot, put_next}
+use Rattle.layout.specs.Fits.{Counted}
+use Rattle.layout.proofs.FieldLaws.{length-row_bytes}
 use Rattle.octets.proofs.Zeros.{length-zeros}
-use Rattle.layout.proofs.CellLaws.{cell-read}
-use Rattle.layout.proofs.TableLaws.{cells_are, row_read, slot_read}
+use Rattle.layout.proofs.TableLaws.{row_read, slot_read}
 
 -- reading
-
-pub cell-there : (b : List ℕ) (start slots s : ℕ) → 1 ≤ s → s ≤ slots
-    → read_slot (take (start + slot_size * (s - 1) + slot_size - (start + slot_size * (s - 1))) (drop (start + slot_size * (s - 1)) b)) ≡ slot_at (cells_from b start slots) s
-cell-there b start slots s h k = ap read_slot (part-between b (start + slot_size * (s - 1)) slot_size) ∙ sym (cell-read b start slots s h k)
-
--- a slot of a table, where its slots start behind its rows
-pub slot-there : (b : List ℕ) (logs slots : ℕ) → Counted b logs slots → (start s : ℕ) → start ≡ row_offset logs → slot_at (cells_from b start slots) s ≡ slot_at (read_table b).slots s
-slot-there b logs slots h start s e = ap (λ (x : List Slot). slot_at x s) (cells_are b logs slots start h e)
 
 module _ (b : List ℕ) (logs slots : ℕ) (h : Counted b logs slots) (at : ℕ) where
   pub row-there : (g : ℕ) → at ≡ row_offset g → g < logs → read_row (take (at + row_size - at) (drop at b)) ≡ row_at (read_table b).rows g
@@ -37,13 +28,16 @@ module _ (b : List ℕ) (logs slots : ℕ) (h : Counted b logs slots) (at : ℕ)
   slot-part : (s : ℕ) → at ≡ slot_offset logs s → 1 ≤ s → s ≤ slots → read_slot (part b at slot_size) ≡ slot_at (read_table b).slots s
   slot-part s e l k = ap read_slot (ap (λ (a : ℕ). part b a slot_size) (e ∙ ap (λ (g : ℕ). slot_offset g s) h.logs-are)) ∙ sym (slot_read b s l (omega (arith, h.slots-are)))
 
-  pub value_there : (s : ℕ) → at ≡ slot_offset logs s → 1 ≤ s → s ≤ slots → take (at + 12 + 32 - (at + 12)) (drop (at + 12) b) ≡ (slot_at (read_table b).slots s).value
-  unfolding read_slot
-  value_there s e l k = part-between b (at + 12) 32 ∙ sym (part-part b at slot_size 12 32 (omega arith)) ∙ ap (λ (x : Slot). x.value) (slot-part s e l k)
+  pub slot-there : (s : ℕ) → at ≡ slot_offset logs s → 1 ≤ s → s ≤ slots → read_slot (take (at + slot_size - at) (drop at b)) ≡ slot_at (read_table b).slots s
+  slot-there s e l k = ap read_slot (part-between b at slot_size) ∙ slot-part s e l k
 
-  pub digest-there : (s : ℕ) → at ≡ slot_offset logs s → 1 ≤ s → s ≤ slots → take (at + 44 + 32 - (at + 44)) (drop (at + 44) b) ≡ (slot_at (read_table b).slots s).digest
+  pub value_there : (s : ℕ) → at ≡ slot_offset logs s → 1 ≤ s → s ≤ slots → part b (at + 12) 32 ≡ (slot_at (read_table b).slots s).value
   unfolding read_slot
-  digest-there s e l k = part-between b (at + 44) 32 ∙ sym (part-part b at slot_size 44 32 (omega arith)) ∙ ap (λ (x : Slot). x.digest) (slot-part s e l k)
+  value_there s e l k = sym (part-part b at slot_size 12 32 (omega arith)) ∙ ap (λ (x : Slot). x.value) (slot-part s e l k)
+
+  pub digest-there : (s : ℕ) → at ≡ slot_offset logs s → 1 ≤ s → s ≤ slots → part b (at + 44) 32 ≡ (slot_at (read_table b).slots s).digest
+  unfolding read_slot
+  digest-there s e l k = sym (part-part b at slot_size 44 32 (omega arith)) ∙ ap (λ (x : Slot). x.digest) (slot-part s e l k)
 
   -- writing into a part of the table, y being what came back
 
@@ -51,10 +45,10 @@ module _ (b : List ℕ) (logs slots : ℕ) (h : Counted b logs slots) (at : ℕ)
   unfolding put_row
   row_put g y r e w = put_back b y (row_bytes r) at row_size w (length-row_bytes r) ∙ ap (λ (a : ℕ). splice b a (row_bytes r)) e
 
-  pub slot-put : (s : ℕ) (y : List ℕ) (x : Slot) → at ≡ slot_offset logs s → SlotFits x → y ≡ slot_bytes x → put_mid at (at + slot_size - at) b y ≡ put_slot b s x
+  pub slot-put : (s : ℕ) (y : List ℕ) (x : Slot) → at ≡ slot_offset logs s → length y ≡ slot_size → y ≡ slot_bytes x → put_mid at (at + slot_size - at) b y ≡ put_slot b s x
   unfolding put_slot
-  slot-put s y x e f w =
-      put_back b y (slot_bytes x) at slot_size w (length-slot_bytes x f)
+  slot-put s y x e l w =
+      put_back b y (slot_bytes x) at slot_size w (sym (ap length w) ∙ l)
       ∙ ap (λ (a : ℕ). splice b a (slot_bytes x)) (e ∙ ap (λ (g : ℕ). slot_offset g s) h.logs-are)
 
   pub next-put : (s n : ℕ) (y : List ℕ) → at ≡ slot_offset logs s → y ≡ splice b (at + 2) (be 2 n) → y ≡ put_next b s n
@@ -97,11 +91,11 @@ row-fields o {o₁} {o₂} {o₃} {o₄} {o₅} r h e₁ e₂ e₃ e₄ e₅ =
     let w₅ : o₅ ≡ splice o 0 ((((x₁ ++ x₂) ++ x₃) ++ x₄) ++ x₅) = splice-then o (((x₁ ++ x₂) ++ x₃) ++ x₄) x₅ 20 w₄ (simp (length-append, length-be)) (omega arith) e₅ in
     w₅ ∙ splice-whole o ((((x₁ ++ x₂) ++ x₃) ++ x₄) ++ x₅) (simp (length-append, length-be) (omega arith)) ∙ simp append_assoc
 
-pub slot-fields : (o : List ℕ) {o₁ o₂ o₃ o₄ o₅ o₆ : List ℕ} (w n p : ℕ) (v d : List ℕ) → SlotFits (slot_of w n p v d) → length o ≡ slot_size
+pub slot-fields : (o : List ℕ) {o₁ o₂ o₃ o₄ o₅ o₆ : List ℕ} (w n p : ℕ) (v d : List ℕ) → length v ≡ 32 → length d ≡ 32 → length o ≡ slot_size
     → o₁ ≡ splice o 0 (be 1 w) → o₂ ≡ splice o₁ 1 (be 1 0) → o₃ ≡ splice o₂ 2 (be 2 n) → o₄ ≡ splice o₃ 4 (be 8 p) → o₅ ≡ splice o₄ 12 v → o₆ ≡ splice o₅ 44 d
     → o₆ ≡ slot_bytes (slot_of w n p v d)
 unfolding slot_bytes
-slot-fields o {o₁} {o₂} {o₃} {o₄} {o₅} {o₆} w n p v d f h e₁ e₂ e₃ e₄ e₅ e₆ =
+slot-fields o {o₁} {o₂} {o₃} {o₄} {o₅} {o₆} w n p v d lv ld h e₁ e₂ e₃ e₄ e₅ e₆ =
     let x₁ : List ℕ = be 1 w in
     let x₂ : List ℕ = zeros 1 in
     let x₃ : List ℕ = be 2 n in
@@ -110,8 +104,6 @@ slot-fields o {o₁} {o₂} {o₃} {o₄} {o₅} {o₆} w n p v d f h e₁ e₂ 
     let l₂ = length-zeros 1 in
     let l₃ = length-be 2 n in
     let l₄ = length-be 8 p in
-    let lv : length v ≡ 32 = f.value in
-    let ld : length d ≡ 32 = f.digest in
     let w₂ : o₂ ≡ splice o 0 (x₁ ++ x₂) = splice-then o x₁ x₂ 1 e₁ l₁ (omega arith) (e₂ ∙ ap (splice o₁ 1) zero_one) in
     let w₃ : o₃ ≡ splice o 0 ((x₁ ++ x₂) ++ x₃) = splice-then o (x₁ ++ x₂) x₃ 2 w₂ (simp (length-append, l₁, l₂)) (omega arith) e₃ in
     let w₄ : o₄ ≡ splice o 0 (((x₁ ++ x₂) ++ x₃) ++ x₄) = splice-then o ((x₁ ++ x₂) ++ x₃) x₄ 4 w₃ (simp (length-append, l₁, l₂, l₃)) (omega arith) e₄ in

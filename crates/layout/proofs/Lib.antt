@@ -10,3 +10,4 @@ pub mod CodeLaws
 pub mod TestLaws
 pub mod HeaderLaws
 pub mod BlankLaws
+pub mod FreeLaws

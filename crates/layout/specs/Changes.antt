@@ -2,6 +2,7 @@
 use Rattle.std.specs.Prelude.{ℕ, ◌+◌, List, cond, set, eqb}
 use Rattle.layout.specs.declared.Row.{Row}
 use Rattle.layout.specs.declared.Link.{Link}
+use Rattle.layout.specs.declared.Slot as lent
 use Rattle.layout.specs.Image.{Slot, Image, set_slot}
 
 -- the image with another row of log g
@@ -23,6 +24,10 @@ with_next x n = record { owner = x.owner; next = n; position = x.position; value
 -- the slot of these fields
 abbrev pub slot_of : ℕ → ℕ → ℕ → List ℕ → List ℕ → Slot
 slot_of owner next position value digest = record { owner = owner; next = next; position = position; value = value; digest = digest }
+
+-- what a slot with a lent value and digest says
+abbrev pub slot_said : lent.Slot → Slot
+slot_said s = slot_of s.owner s.next s.position s.value.now s.digest.now
 
 -- a slot without its value and digest
 abbrev pub link_of : Slot → Link

@@ -1,5 +1,6 @@
 pub mod Changes
 pub mod Fits
+pub mod Free
 pub mod Image
 pub mod Layout
 pub mod Layout01

@@ -1,6 +1,7 @@
 -- Document 01, "the length, constants and counts are as above", and "bytes 4–75 zero", as tests that the code makes.
-use Rattle.std.specs.Prelude.{ℕ, zero, suc, ◌+◌, ◌*◌, List, Bool, true, ◌&&◌, length, eqb, leb}
+use Rattle.std.specs.Prelude.{ℕ, zero, suc, ◌+◌, ◌*◌, List, Bool, true, false, ◌&&◌, length, eqb, leb, Option, Some, None}
 use Rattle.octets.specs.Octets.{part, same, zeros}
+use Rattle.layout.specs.declared.Counts.{Counts}
 use Rattle.layout.specs.Image.{Slot}
 use Rattle.layout.specs.Layout.{mark, zero_offset, slot_size, row_offset, logs_of, slots_of, table_size}
 
@@ -19,6 +20,11 @@ constants_fit b = marked b && same (part b zero_offset 1) (zeros 1)
 -- "the length, constants and counts are as above", as far as the header holds them
 unfoldable pub header_fits : List ℕ → Bool
 header_fits b = constants_fit b && in_range (logs_of b) (slots_of b) && eqb (length b) (table_size (logs_of b) (slots_of b))
+
+-- a table's counts, where a test says that they hold
+abbrev pub counts_if : Bool → List ℕ → Option Counts
+counts_if true b = Some (record { logs = logs_of b; slots = slots_of b })
+counts_if false b = None
 
 -- p holds of every number below n
 unfoldable pub all_below : ℕ → (ℕ → Bool) → Bool

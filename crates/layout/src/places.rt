@@ -1,8 +1,10 @@
 // Where the parts of a table start. The sizes and offsets of `Layout`, for the code.
-ghost use Rattle.std.specs.Prelude.{◌≡◌, ◌+◌, ◌≤◌, ◌<◌, length};
+ghost use Rattle.std.specs.Prelude.{◌≡◌, ◌+◌, ◌≤◌, ◌<◌, ◌^◌, length};
 ghost use Rattle.octets.specs.Octets.{part, splice};
 ghost use Rattle.bigendian.specs.BigEndian.{be, unbe};
 ghost use Rattle.layout.specs.Layout.{row_offset, slot_offset, table_size};
+
+use crate::Counts;
 
 // The mark, "A2MU", as a big-endian number.
 pub const MARK: u32 = 0x4132_4D55;
@@ -32,12 +34,14 @@ pub fn slot_offset(logs: usize, s: usize) -> usize
     HEADER + ROW * logs + SLOT * (s - 1)
 }
 
-// The length of a table of so many logs and slots.
-pub fn table_size(logs: usize, slots: usize) -> usize
-    requires { (logs ≤ 16) × (slots ≤ 800) }
-    ensures { result ≡ table_size logs slots }
-{
-    HEADER + ROW * logs + SLOT * slots
+impl Counts {
+    // The length of a table of so many logs and slots.
+    pub fn size(self) -> usize
+        requires { (self.logs ≤ 16) × (self.slots ≤ 800) }
+        ensures { result ≡ table_size self.logs self.slots }
+    {
+        HEADER + ROW * self.logs + SLOT * self.slots
+    }
 }
 
 // The number in the byte at a place.
@@ -70,4 +74,12 @@ pub fn put_pair(out: &mut [u8], at: usize, n: usize)
     ensures { out.new ≡ splice out.old at (be 2 n) }
 {
     bigendian::put_u16(out, at, n as u16);
+}
+
+// The 32 bytes at a place, as a part of the slice.
+pub fn array_at(s: &[u8], at: usize) -> &[u8; 32]
+    requires { at + 32 ≤ length s.now }
+    ensures { result.now ≡ part s.now at 32 }
+{
+    s[at..at + 32].as_array::<32>().unwrap()
 }

@@ -2,27 +2,25 @@
 #![tactic(auto)]
 
 ghost use Rattle.std.specs.Prelude.{◌≡◌, ◌≤◌, ◌<◌, length};
-ghost use Rattle.layout.specs.Layout.{header_size, logs_of, slots_of, keeper_of, free_of, stock_of, stocked, key_of, count_bytes, header_bytes, put_free, put_count, put_last};
-ghost use Rattle.layout.specs.Tests.{in_range, marked, constants_fit, header_fits};
+ghost use Rattle.layout.specs.Layout.{header_size, logs_of, slots_of, keeper_of, stocked, key_of, count_bytes, header_bytes};
+ghost use Rattle.layout.specs.Free.{free_part, put_part};
+ghost use Rattle.layout.specs.Tests.{in_range, marked, constants_fit, header_fits, counts_if};
 ghost use Rattle.octets.specs.Octets.{splice};
 
 use bigendian::{get_u32, get_u64, put_u32, put_u64};
-use layout::places::{HEADER, MARK, byte_at, pair_at, put_byte, put_pair, table_size};
+use layout::places::{HEADER, MARK, array_at, byte_at, pair_at, put_byte, put_pair};
+use layout::{Counts, Free};
 
-// The number of logs.
-pub fn logs_of(table: &[u8]) -> usize
+// The number of logs, and that of slots.
+pub fn counts_of(table: &[u8]) -> Counts
     requires { header_size ≤ length table.now }
-    ensures { (result ≡ logs_of table.now) × (result < 256) }
+    ensures are { (result.logs ≡ logs_of table.now) × (result.slots ≡ slots_of table.now) }
+    ensures fit { (result.logs < 256) × (result.slots < 65536) }
 {
-    byte_at(table, 4)
-}
-
-// The number of slots.
-pub fn slots_of(table: &[u8]) -> usize
-    requires { header_size ≤ length table.now }
-    ensures { (result ≡ slots_of table.now) × (result < 65536) }
-{
-    pair_at(table, 6)
+    Counts {
+        logs: byte_at(table, 4),
+        slots: pair_at(table, 6),
+    }
 }
 
 // The keeper number.
@@ -33,114 +31,75 @@ pub fn keeper_of(table: &[u8]) -> u64
     get_u64(table, 8)
 }
 
-// The first free slot, 0 if none.
-pub fn free_of(table: &[u8]) -> usize
+// What the header says of the free slots.
+pub fn free_of(table: &[u8], part: Free) -> usize
     requires { header_size ≤ length table.now }
-    ensures { (result ≡ free_of table.now) × (result < 65536) }
+    ensures { (result ≡ free_part part table.now) × (result < 65536) }
 {
-    pair_at(table, 16)
-}
-
-// The number of free slots that the header names.
-pub fn count_of(table: &[u8]) -> usize
-    requires { header_size ≤ length table.now }
-    ensures { (result ≡ (stock_of table.now).count) × (result < 65536) }
-{
-    pair_at(table, 18)
-}
-
-// The last free slot that the header names, 0 if none.
-pub fn last_of(table: &[u8]) -> usize
-    requires { header_size ≤ length table.now }
-    ensures { (result ≡ (stock_of table.now).last) × (result < 65536) }
-{
-    pair_at(table, 52)
+    pair_at(table, part.place())
 }
 
 // The key, as a part of the table.
-pub fn key_of(table: &[u8]) -> &[u8]
+pub fn key_of(table: &[u8]) -> &[u8; 32]
     requires { header_size ≤ length table.now }
     ensures { result.now ≡ key_of table.now }
 {
-    &table[20..52]
+    array_at(table, 20)
 }
 
-// Another first free slot.
-pub fn put_free(table: &mut [u8], free: usize)
+// Says something else of the free slots.
+pub fn put_free(table: &mut [u8], part: Free, n: usize)
     requires header_size_in_bounds { header_size ≤ length table.old }
-    requires free_bound { free < 65536 }
-    ensures { table.new ≡ put_free table.old free }
+    requires bound { n < 65536 }
+    ensures { table.new ≡ put_part part table.old n }
 {
-    put_pair(table, 16, free);
+    put_pair(table, part.place(), n);
 }
 
-// Another number of free slots.
-pub fn put_count(table: &mut [u8], count: usize)
-    requires header_size_in_bounds { header_size ≤ length table.old }
-    requires count_bound { count < 65536 }
-    ensures { table.new ≡ put_count table.old count }
-{
-    put_pair(table, 18, count);
-}
-
-// Another last free slot.
-pub fn put_last(table: &mut [u8], last: usize)
-    requires header_size_in_bounds { header_size ≤ length table.old }
-    requires last_bound { last < 65536 }
-    ensures { table.new ≡ put_last table.old last }
-{
-    put_pair(table, 52, last);
+// What a header says.
+#[derive(Clone, Copy)]
+pub struct Header<'a> {
+    pub counts: Counts,
+    pub keeper: u64,
+    pub free: usize,
+    pub count: usize,
+    pub last: usize,
+    pub key: &'a [u8; 32],
 }
 
 // The mark and the counts into the front of a table.
-fn write_counts(part: &mut [u8], logs: usize, slots: usize)
+fn write_counts(part: &mut [u8], counts: Counts)
     requires part_len { length part.old ≡ header_size }
-    requires logs_bound { (logs < 256) × (slots < 65536) }
-    ensures { part.new ≡ splice part.old 0 (count_bytes logs slots) }
+    requires counts_bound { (counts.logs < 256) × (counts.slots < 65536) }
+    ensures { part.new ≡ splice part.old 0 (count_bytes counts.logs counts.slots) }
 {
     put_u32(part, 0, MARK);
-    put_byte(part, 4, logs);
+    put_byte(part, 4, counts.logs);
     put_byte(part, 5, 0);
-    put_pair(part, 6, slots);
+    put_pair(part, 6, counts.slots);
 }
 
 // The header into its part of a table.
-pub fn write_header(
-    part: &mut [u8],
-    logs: usize,
-    slots: usize,
-    keeper: u64,
-    free: usize,
-    count: usize,
-    last: usize,
-    key: &[u8],
-)
+pub fn write_header(part: &mut [u8], header: Header)
     requires part_len { length part.old ≡ header_size }
-    requires logs_bound { (logs < 256) × ((slots < 65536) × ((free < 65536) × ((count < 65536) × ((last < 65536) × (length key.now ≡ 32))))) }
-    ensures { part.new ≡ header_bytes logs slots keeper free (stocked count last) key.now }
+    requires counts_bound { (header.counts.logs < 256) × (header.counts.slots < 65536) }
+    requires free_bound { (header.free < 65536) × (header.count < 65536) × (header.last < 65536) }
+    ensures { part.new ≡ header_bytes header.entry.counts.logs header.entry.counts.slots header.entry.keeper header.entry.free (stocked header.entry.count header.entry.last) header.entry.key.now }
 {
-    write_counts(part, logs, slots);
-    put_u64(part, 8, keeper);
-    put_pair(part, 16, free);
-    put_pair(part, 18, count);
+    write_counts(part, header.counts);
+    put_u64(part, 8, header.keeper);
+    put_pair(part, 16, header.free);
+    put_pair(part, 18, header.count);
+    let key = header.key;
     octets::put(part, 20, key);
-    put_pair(part, 52, last);
+    put_pair(part, 52, header.last);
 }
 
 // Whether a table may have so many logs and slots.
 pub fn in_range(logs: u64, slots: u64) -> bool
     ensures { result ≡ in_range logs slots }
 {
-    if logs < 1 {
-        return false;
-    }
-    if 16 < logs {
-        return false;
-    }
-    if slots < 1 {
-        return false;
-    }
-    slots <= 800
+    matches!((logs, slots), (1..=16, 1..=800))
 }
 
 // Whether the table begins with the mark.
@@ -156,26 +115,21 @@ fn constants_fit(table: &[u8]) -> bool
     requires { header_size ≤ length table.now }
     ensures { result ≡ constants_fit table.now }
 {
-    if !has_mark(table) {
-        return false;
-    }
-    byte_at(table, 5) == 0
+    has_mark(table) && byte_at(table, 5) == 0
 }
 
-// Whether the header has its constants and counts in range, and the table the length that they give.
-pub fn header_fits(table: &[u8]) -> bool
-    ensures { result ≡ header_fits table.now }
+// The counts of a table whose header has its constants and counts in range, and which has the length that they give.
+pub fn header_counts(table: &[u8]) -> Option<Counts>
+    ensures { result ≡ counts_if (header_fits table.now) table.now }
 {
-    if table.len() < HEADER {
-        return false;
+    if table.len() < HEADER || !constants_fit(table) {
+        return None;
     }
-    if !constants_fit(table) {
-        return false;
+    let counts = counts_of(table);
+    let ranged = in_range(counts.logs as u64, counts.slots as u64);
+    if ranged && table.len() == counts.size() {
+        Some(counts)
+    } else {
+        None
     }
-    let logs = logs_of(table);
-    let slots = slots_of(table);
-    if !in_range(logs as u64, slots as u64) {
-        return false;
-    }
-    table.len() == table_size(logs, slots)
 }

@@ -7,32 +7,27 @@ ghost use Rattle.layout.specs.Layout.{row_size, read_row, row_bytes, read_table,
 ghost use Rattle.layout.specs.Fits.{RowFits, Counted};
 
 use bigendian::{get_u64, put_u64};
-use layout::Row;
 use layout::places::{ROW, pair_at, put_pair, row_offset};
+use layout::{Counts, Row};
 
 // The row in a row's part of a table.
 fn read_row(part: &[u8]) -> Row
     requires { length part.now ≡ row_size }
     ensures { result ≡ read_row part.now }
 {
-    let low = get_u64(part, 0);
-    let high = get_u64(part, 8);
-    let first = pair_at(part, 16);
-    let last = pair_at(part, 18);
-    let reserve = pair_at(part, 20);
     Row {
-        low,
-        high,
-        first,
-        last,
-        reserve,
+        low: get_u64(part, 0),
+        high: get_u64(part, 8),
+        first: pair_at(part, 16),
+        last: pair_at(part, 18),
+        reserve: pair_at(part, 20),
     }
 }
 
 // The row of log g.
-pub fn row_at(table: &[u8], logs: usize, slots: usize, g: usize) -> Row
-    requires counted { Counted table.now logs slots }
-    requires g_lt_logs { g < logs }
+pub fn row_at(table: &[u8], counts: Counts, g: usize) -> Row
+    requires counted { Counted table.now counts.logs counts.slots }
+    requires g_lt_logs { g < counts.logs }
     ensures { result ≡ row_at (read_table table.now).rows g }
 {
     let at = row_offset(g);
@@ -53,9 +48,9 @@ pub fn write_row(part: &mut [u8], row: Row)
 }
 
 // Another row of log g.
-pub fn put_row(table: &mut [u8], logs: usize, slots: usize, g: usize, row: Row)
-    requires counted { Counted table.old logs slots }
-    requires g_lt_logs { g < logs }
+pub fn put_row(table: &mut [u8], counts: Counts, g: usize, row: Row)
+    requires counted { Counted table.old counts.logs counts.slots }
+    requires g_lt_logs { g < counts.logs }
     requires row_fits { RowFits row }
     ensures { table.new ≡ put_row table.old g row }
 {

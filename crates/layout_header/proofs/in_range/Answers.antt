@@ -1,15 +1,19 @@
 -- `layout_header::in_range` meets its contract.
-use Rattle.layout.proofs.HeaderLaws.{no-logs, many-logs, no-slots, by_slots}
+use Rattle.std.proofs.Common.{arith, sym}
+use Rattle.layout.proofs.HeaderLaws.{range-in, out_of_range}
 use Rattle.layout_header.proofs.in_range.Goals as goal
 
-pub returns-then-logs-lt1 : goal.returns-then-logs-lt1
-returns-then-logs-lt1 c = no-logs c.args.logs c.args.slots c.if-logs-lt1.true
+pub returns-in-1-to-16-1-to-800 : goal.returns-in-1-to-16-1-to-800
+returns-in-1-to-16-1-to-800 c = sym (range-in _ _ (record { logs-least = omega arith; logs-most = omega arith; slots-least = omega arith; slots-most = omega arith }))
 
-pub returns-then-logs-gt16 : goal.returns-then-logs-gt16
-returns-then-logs-gt16 c = many-logs c.args.logs c.args.slots c.if-logs-gt16.true
+pub returns-in_default : goal.returns-in_default
+returns-in_default c = out_of_range _ _ (λ r. omega arith)
 
-pub returns-then-slots-lt1 : goal.returns-then-slots-lt1
-returns-then-slots-lt1 c = no-slots c.args.logs c.args.slots c.if-slots-lt1.true
+pub returns-in_default-2 : goal.returns-in_default-2
+returns-in_default-2 c = out_of_range _ _ (λ r. omega arith)
 
-pub returns : goal.returns
-returns c = by_slots c.args.logs c.args.slots c.if-logs-lt1.false c.if-logs-gt16.false c.if-slots-lt1.false
+pub returns-in_default-3 : goal.returns-in_default-3
+returns-in_default-3 c = out_of_range _ _ (λ r. omega arith)
+
+pub returns-in_default-4 : goal.returns-in_default-4
+returns-in_default-4 c = out_of_range _ _ (λ r. omega arith)

@@ -1,8 +1,7 @@
 -- `layout_header::key_of` meets its contract.
 use Rattle.layout.specs.Layout.{key_of}
-use mathlib.Core.Path.{refl}
 use Rattle.layout_header.proofs.key_of.Goals as goal
 
 pub returns : goal.returns
 unfolding key_of
-returns c = refl
+returns c = c.array_at.ensures

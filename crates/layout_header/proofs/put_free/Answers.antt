@@ -1,7 +1,9 @@
 -- `layout_header::put_free` meets its contract.
-use Rattle.layout.specs.Layout.{put_free}
+use Rattle.std.proofs.Common.{ℕ, ap, ◌∙◌}
+use Rattle.octets.specs.Octets.{splice}
+use Rattle.bigendian.specs.BigEndian.{be}
+use Rattle.layout.proofs.FreeLaws.{free-put}
 use Rattle.layout_header.proofs.put_free.Goals as goal
 
 pub returns : goal.returns
-unfolding put_free
-returns c = c.put_pair.ensures
+returns c = free-put c.args.part c.args.table.now c.args.n (c.put_pair.ensures ∙ ap (λ (a : ℕ). splice c.args.table.now a (be 2 c.args.n)) c.place.ensures)

@@ -4,4 +4,4 @@ use Rattle.layout_rows.proofs.read_row.Goals as goal
 
 pub returns : goal.returns
 unfolding read_row
-returns c = λ i. record { low = c.get_u64-low.ensures i; high = c.get_u64-high.ensures i; first = c.pair_at-first.ensures.0 i; last = c.pair_at-last.ensures.0 i; reserve = c.pair_at-reserve.ensures.0 i }
+returns c = λ i. record { low = c.get_u64.ensures i; high = c.get_u64-2.ensures i; first = c.pair_at.ensures.0 i; last = c.pair_at-2.ensures.0 i; reserve = c.pair_at-3.ensures.0 i }

@@ -4,4 +4,4 @@ use Rattle.layout_slots.proofs.read_link.Goals as goal
 
 pub returns : goal.returns
 unfolding read_slot
-returns c = λ i. record { owner = c.byte_at-owner.ensures.0 i; next = c.pair_at-next.ensures.0 i; position = c.get_u64-position.ensures i }
+returns c = record { fields = λ i. record { owner = c.byte_at.ensures.0 i; next = c.pair_at.ensures.0 i; position = c.get_u64.ensures i }; byte = c.byte_at.ensures.1 }

@@ -1,6 +1,6 @@
 -- `layout::Row::truncate` meets its contract.
+use Rattle.std.proofs.Common.{refl}
 use Rattle.layout.specs.Changes.{truncated_row}
-use mathlib.Core.Path.{refl}
 use Rattle.layout.proofs.Row.truncate.Goals as goal
 
 pub returns : goal.returns

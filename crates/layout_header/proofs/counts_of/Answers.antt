@@ -1,0 +1,7 @@
+-- `layout_header::counts_of` meets its contract.
+use Rattle.layout.specs.Layout.{logs_of, slots_of}
+use Rattle.layout_header.proofs.counts_of.Goals as goal
+
+pub returns-clause-are : goal.returns-clause-are
+unfolding logs_of slots_of
+returns-clause-are c = (c.byte_at.ensures.0, c.pair_at.ensures.0)
