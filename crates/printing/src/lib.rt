@@ -23,7 +23,7 @@ fn digit(n: u8) -> u8
     requires { n < 16 }
     ensures { result ≡ hex_digit n }
 {
-    if n < 10 { 48 + n } else { 87 + n }
+    if n < 10 { b'0' + n } else { b'a' - 10 + n }
 }
 
 // A byte as two hexadecimal digits.
@@ -35,11 +35,8 @@ fn pair(b: u8) -> [u8; 2]
 
 // Each byte as two hexadecimal digits.
 pub fn hex(rt: &impl Print, bytes: &[u8]) -> io::Result<()> {
-    let mut i = 0;
-    while i < bytes.len() {
-        let digits = pair(bytes[i]);
-        text(rt, &digits)?;
-        i += 1;
+    for b in bytes {
+        text(rt, &pair(*b))?;
     }
     Ok(())
 }
