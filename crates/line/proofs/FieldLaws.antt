@@ -4,7 +4,7 @@ use mathlib.Core.Path.{◌≡◌, refl, sym, ap, ap₂, ◌∙◌}
 use mathlib.Core.Logic.{◌⊎◌, inl, inr}
 use mathlib.Core.Bool.{Bool, true, false, cond}
 use mathlib.Core.List.{List, [], ◌∷◌, ◌++◌, append_assoc, append-nil}
-use mathlib.Core.Option.{Option, some, none}
+use Rattle.std.specs.Prelude.{Option, Some, None}
 use native.Mathlib.Omega.{arith}
 use native.Mathlib.Numerals.{add-one}
 use lib.ListN.{length, take, drop, get_or, set, length-append, length-drop, length-take, drop_of_length-le}
@@ -13,8 +13,6 @@ use lib.Seq.{drop-cons, drop-drop}
 use lib.Dec.{eqb}
 use borrow.Author.Tests.{eq-eqb, ne_eqb, eqb-true}
 use Rattle.decimal.specs.Decimal.{number_of}
-use Rattle.decimal.specs.declared.Number.{Number}
-use Rattle.decimal.specs.declared.Number.TheVariants.{Value, Malformed}
 use Rattle.line.specs.Fields.{on_first, fields_of, before, numbers_of, parts_of, up_to}
 use Rattle.line.specs.Command.{padded}
 use Rattle.octets.specs.Octets.{zeros}
@@ -89,30 +87,30 @@ module _ (mark : ℕ) where
 -- ---- numbers, some of them read
 
 abbrev pub prepend : List ℕ → Option (List ℕ) → Option (List ℕ)
-prepend xs none = none
-prepend xs (some ys) = some (xs ++ ys)
+prepend xs None = None
+prepend xs (Some ys) = Some (xs ++ ys)
 
 pub prepend-nil : (o : Option (List ℕ)) → o ≡ prepend [] o
-prepend-nil none = refl
-prepend-nil (some ys) = refl
+prepend-nil None = refl
+prepend-nil (Some ys) = refl
 
-prepend-more : (xs : List ℕ) (v : ℕ) (o : Option (List ℕ)) → prepend xs (before (Value v) o) ≡ prepend (xs ++ (v ∷ [])) o
-prepend-more xs v none = refl
-prepend-more xs v (some ys) = ap {B = Option (List ℕ)} some (sym (append_assoc xs (v ∷ []) ys))
+prepend-more : (xs : List ℕ) (v : ℕ) (o : Option (List ℕ)) → prepend xs (before (Some v) o) ≡ prepend (xs ++ (v ∷ [])) o
+prepend-more xs v None = refl
+prepend-more xs v (Some ys) = ap {B = Option (List ℕ)} Some (sym (append_assoc xs (v ∷ []) ys))
 
 -- one more is read, and more follow
-pub numbers_more : (xs : List ℕ) (f : List ℕ) (fs : List (List ℕ)) (v : ℕ) → number_of f ≡ Value v → prepend xs (numbers_of (f ∷ fs)) ≡ prepend (xs ++ (v ∷ [])) (numbers_of fs)
+pub numbers_more : (xs : List ℕ) (f : List ℕ) (fs : List (List ℕ)) (v : ℕ) → number_of f ≡ Some v → prepend xs (numbers_of (f ∷ fs)) ≡ prepend (xs ++ (v ∷ [])) (numbers_of fs)
 unfolding numbers_of
-numbers_more xs f fs v e = ap (λ (n : Number). prepend xs (before n (numbers_of fs))) e ∙ prepend-more xs v (numbers_of fs)
+numbers_more xs f fs v e = ap (λ (n : Option ℕ). prepend xs (before n (numbers_of fs))) e ∙ prepend-more xs v (numbers_of fs)
 
 -- one is none
-pub numbers_bad : (xs : List ℕ) (f : List ℕ) (fs : List (List ℕ)) → number_of f ≡ Malformed → prepend xs (numbers_of (f ∷ fs)) ≡ none
+pub numbers_bad : (xs : List ℕ) (f : List ℕ) (fs : List (List ℕ)) → number_of f ≡ None → prepend xs (numbers_of (f ∷ fs)) ≡ None
 unfolding numbers_of
-numbers_bad xs f fs e = ap (λ (n : Number). prepend xs (before n (numbers_of fs))) e
+numbers_bad xs f fs e = ap (λ (n : Option ℕ). prepend xs (before n (numbers_of fs))) e
 
-pub numbers-end : (xs : List ℕ) → prepend xs (numbers_of []) ≡ some xs
+pub numbers-end : (xs : List ℕ) → prepend xs (numbers_of []) ≡ Some xs
 unfolding numbers_of
-numbers-end xs = ap {B = Option (List ℕ)} some (append-nil xs)
+numbers-end xs = ap {B = Option (List ℕ)} Some (append-nil xs)
 
 -- ---- the loop that reads the numbers: n of them stand in values, the fields from at are to come
 
@@ -124,10 +122,10 @@ parts-cons mark l = go (dec_le (length l) (length (up_to mark l)))
     go (yes q) = ([], fields-last mark l (omega (arith, length-up_to mark l)))
     go (no q) = (parts_of mark (drop (suc (length (up_to mark l))) l), fields-more mark l (omega arith))
 
-pub some_inj : (xs ys : List ℕ) → some xs ≡ some ys → xs ≡ ys
+pub some_inj : (xs ys : List ℕ) → Some xs ≡ Some ys → xs ≡ ys
 some_inj xs ys h = cc
 
-pub none-some : (xs : List ℕ) → none ≡ some xs → ⊥
+pub none-some : (xs : List ℕ) → None ≡ Some xs → ⊥
 none-some xs h = let z : ◌≡◌ {A = ℕ} 0 1 = cc in omega arith
 
 -- the numbers from a place on, those before another place read, n of them, and the first 19 kept
@@ -144,19 +142,19 @@ reading-none s from values h = record { ns = []; read = prepend-nil (numbers_of 
 -- the field from at ends at e
 module _ (s : List ℕ) (from at n : ℕ) (values : List ℕ) (r : Reading s from at n values) (e : ℕ) (ends : e ≡ at + length (up_to 44 (drop at s))) where
   -- it is no number
-  pub reading-bad : number_of (take (e - at) (drop at s)) ≡ Malformed → numbers_of (fields_of (drop from s)) ≡ none
+  pub reading-bad : number_of (take (e - at) (drop at s)) ≡ None → numbers_of (fields_of (drop from s)) ≡ None
   reading-bad h =
       let l : List ℕ = drop at s in
       let f = parts-cons 44 l in
       r.read ∙ ap (λ (fs : List (List ℕ)). prepend r.ns (numbers_of fs)) f.1 ∙ numbers_bad r.ns (up_to 44 l) f.0 (ap number_of (sym (field-part 44 s at e ends)) ∙ h)
 
   -- it is one, v
-  module _ (v : ℕ) (is : number_of (take (e - at) (drop at s)) ≡ Value v) where
-    says : number_of (up_to 44 (drop at s)) ≡ Value v
+  module _ (v : ℕ) (is : number_of (take (e - at) (drop at s)) ≡ Some v) where
+    says : number_of (up_to 44 (drop at s)) ≡ Some v
     says = ap number_of (sym (field-part 44 s at e ends)) ∙ is
 
     -- the last
-    pub reading-last : e ≡ length s → numbers_of (fields_of (drop from s)) ≡ some (r.ns ++ (v ∷ []))
+    pub reading-last : e ≡ length s → numbers_of (fields_of (drop from s)) ≡ Some (r.ns ++ (v ∷ []))
     reading-last h =
         r.read
         ∙ ap (λ (fs : List (List ℕ)). prepend r.ns (numbers_of fs)) (last-field 44 s at e ends h)

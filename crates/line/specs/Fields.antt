@@ -1,9 +1,6 @@
 -- Document 01: "fields parted by commas, no quoting".
-use Rattle.std.specs.Prelude.{ℕ, cond, List, [], ◌∷◌, eqb}
-use Rattle.std.proofs.Math.Option.{Option, some, none}
+use Rattle.std.specs.Prelude.{ℕ, cond, List, [], ◌∷◌, Option, Some, None, eqb}
 use Rattle.decimal.specs.Decimal.{number_of}
-use Rattle.decimal.specs.declared.Number.{Number}
-use Rattle.decimal.specs.declared.Number.TheVariants.{Value, Malformed}
 
 -- the same with a byte more before the first field
 abbrev pub on_first : ℕ → List (List ℕ) → List (List ℕ)
@@ -20,14 +17,14 @@ abbrev pub fields_of : List ℕ → List (List ℕ)
 fields_of l = parts_of 44 l
 
 -- a number before others, if all are numbers
-abbrev pub before : Number → Option (List ℕ) → Option (List ℕ)
-before (Value v) (some ns) = some (v ∷ ns)
-before (Value v) none = none
-before Malformed ns = none
+abbrev pub before : Option ℕ → Option (List ℕ) → Option (List ℕ)
+before (Some v) (Some ns) = Some (v ∷ ns)
+before (Some v) None = None
+before None ns = None
 
 -- the numbers that fields say, if each says one
 unfoldable pub numbers_of : List (List ℕ) → Option (List ℕ)
-numbers_of [] = some []
+numbers_of [] = Some []
 numbers_of (f ∷ fs) = before (number_of f) (numbers_of fs)
 
 -- the bytes before the first mark

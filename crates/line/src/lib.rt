@@ -1,13 +1,14 @@
 // What a script line says, and the columns of an answer line.
 #![tactic(auto)]
 
-// What a script line says. A format's reserves stand beside it, in `Line`: an enum that holds an array is not covered.
-#[derive(Drop)]
+// What a script line says. A format has the reserves of its first 16 logs, zeros after them: more logs are refused anyway.
+#[derive(Clone, Copy)]
 pub enum Command {
     Format {
         logs: u64,
         slots: u64,
         keeper: u64,
+        reserves: [u64; 16],
     },
     Append {
         log: u64,
@@ -30,18 +31,10 @@ pub enum Command {
     End {
         log: u64,
     },
-    Malformed,
-}
-
-// A script line read: its command, and the reserves of a format's first 16 logs, zeros after them. More logs are refused anyway.
-#[derive(Drop)]
-pub struct Line {
-    pub command: Command,
-    pub reserves: [u64; 16],
 }
 
 // The first field of a script line.
-#[derive(Drop)]
+#[derive(Clone, Copy)]
 pub enum Word {
     Format,
     Append,
@@ -49,14 +42,6 @@ pub enum Word {
     Truncate,
     Lookup,
     End,
-    Unknown,
-}
-
-// How many numbers a line has; or that a field of it is none.
-#[derive(Drop)]
-pub enum Count {
-    Of(usize),
-    NotNumbers,
 }
 
 // A column of an answer line.

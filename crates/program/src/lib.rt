@@ -8,28 +8,16 @@ use std::env::{Env, FillError};
 use std::io::{Read, Write};
 use std::{fmt, io};
 
-// 4,096 zeros.
-pub fn buffer() -> [u8; 4096]
-    ensures { 4096 ≡ length result }
+// N zeros.
+pub fn buffer<const N: usize>() -> [u8; N]
+    ensures { N ≡ length result }
 {
-    [0; 4096]
-}
-
-// 65,536 zeros, for what moves much data.
-pub fn large_buffer() -> [u8; 65536]
-    ensures { 65536 ≡ length result }
-{
-    [0; 65536]
+    [0; N]
 }
 
 // Whether the program was started with an argument, besides its own name.
 pub fn has_arguments(rt: &impl Env) -> bool {
-    let mut none = [0u8; 0];
-    match rt.arg(1, &mut none) {
-        Ok(_) => true,
-        Err(FillError::TooLong) => true,
-        Err(FillError::NotPresent) => false,
-    }
+    !matches!(rt.arg(1, &mut []), Err(FillError::NotPresent))
 }
 
 // A write that stopped: how many bytes were taken before, and why.
@@ -40,7 +28,7 @@ pub struct Cut {
 }
 
 // Writes all of the bytes, or says where it stopped. A short write is taken up where it ended; one that takes nothing, or is
-// interrupted, counts as failed.
+// interrupted, counts as failed. std's write_all does not say how many bytes were taken before it failed.
 pub fn write_out<W: Write>(output: &mut W, bytes: &[u8]) -> Result<(), Cut>
     ensures whole { OnOk result (Appends (W.contents output.old) (W.contents output.new) bytes.now) }
     ensures short { IfErr result (λ cut. cut.done < length bytes.now) }
@@ -61,7 +49,8 @@ pub fn write_out<W: Write>(output: &mut W, bytes: &[u8]) -> Result<(), Cut>
     Ok(())
 }
 
-// Reads until the buffer is full or the input ends, and says how many bytes it put at its start.
+// Reads until the buffer is full or the input ends, and says how many bytes it put at its start. std's read_exact fails at an early
+// end, and its read_to_end allocates.
 pub fn read_full<R: Read>(input: &mut R, buf: &mut [u8]) -> io::Result<usize>
     ensures within { IfOk result (λ n. n ≤ length buf.new) }
     ensures bytes { IfOk result (λ n. Consumes (R.remaining input.old) (R.remaining input.new) (take n buf.new)) }
@@ -77,7 +66,7 @@ pub fn read_full<R: Read>(input: &mut R, buf: &mut [u8]) -> io::Result<usize>
     Ok(done)
 }
 
-// The system's words for an error.
+// The system's words for an error. There is no heap: they stand in a buffer, up to a place.
 #[derive(Drop)]
 struct Words {
     bytes: [u8; 256],

@@ -1,7 +1,0 @@
-use mathlib.Core.Path.{refl}
-use mathlib.Core.List.{[]}
-use Rattle.octets.specs.Undivided.{Undivided}
-use Rattle.program.proofs.large_buffer.Code.Mir.{function}
-
-pub undivided : Undivided [] function
-undivided = refl
