@@ -1,13 +1,12 @@
 // Where the parts of a table start. The sizes and offsets of `Layout`, for the code.
-ghost use Rattle.std.specs.Prelude.{◌≡◌, ◌+◌, ◌≤◌, ◌<◌, ◌^◌, length};
+ghost use Rattle.std.specs.Prelude.{◌≡◌, ◌+◌, ◌≤◌, length};
 ghost use Rattle.octets.specs.Octets.{part, splice};
-ghost use Rattle.bigendian.specs.BigEndian.{be, unbe};
 ghost use Rattle.layout.specs.Layout.{row_offset, slot_offset, table_size};
 
 use crate::Counts;
 
 // The mark, "A2MU", as a big-endian number.
-pub const MARK: u32 = 0x4132_4D55;
+pub const MARK: u64 = 0x4132_4D55;
 
 pub const HEADER: usize = 54;
 
@@ -44,42 +43,20 @@ impl Counts {
     }
 }
 
-// The number in the byte at a place.
-pub fn byte_at(s: &[u8], at: usize) -> usize
-    requires { at + 1 ≤ length s.now }
-    ensures { (result ≡ unbe (part s.now at 1)) × (result < 256) }
-{
-    octets::wide(s[at]) as usize
-}
-
-// The number in the two bytes at a place.
-pub fn pair_at(s: &[u8], at: usize) -> usize
-    requires { at + 2 ≤ length s.now }
-    ensures { (result ≡ unbe (part s.now at 2)) × (result < 65536) }
-{
-    bigendian::get_u16(s, at) as usize
-}
-
-// Puts a number into the byte at a place.
-pub fn put_byte(out: &mut [u8], at: usize, n: usize)
-    requires { (at + 1 ≤ length out.old) × (n < 256) }
-    ensures { out.new ≡ splice out.old at (be 1 n) }
-{
-    out[at] = n as u8;
-}
-
-// Puts a number into the two bytes at a place.
-pub fn put_pair(out: &mut [u8], at: usize, n: usize)
-    requires { (at + 2 ≤ length out.old) × (n < 65536) }
-    ensures { out.new ≡ splice out.old at (be 2 n) }
-{
-    bigendian::put_u16(out, at, n as u16);
-}
-
 // The 32 bytes at a place, as a part of the slice.
 pub fn array_at(s: &[u8], at: usize) -> &[u8; 32]
     requires { at + 32 ≤ length s.now }
     ensures { result.now ≡ part s.now at 32 }
 {
     s[at..at + 32].as_array::<32>().unwrap()
+}
+
+// Puts 32 bytes at a place. Copied first: a local overlaps nothing, so that they are put as a few moves.
+pub fn put_array(out: &mut [u8], at: usize, bytes: &[u8; 32])
+    requires { at + 32 ≤ length out.old }
+    ensures put { out.new ≡ splice out.old at bytes.now }
+    ensures array { length bytes.now ≡ 32 }
+{
+    let local = *bytes;
+    octets::put(out, at, &local);
 }

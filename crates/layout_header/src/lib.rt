@@ -7,8 +7,8 @@ ghost use Rattle.layout.specs.Free.{free_part, put_part};
 ghost use Rattle.layout.specs.Tests.{in_range, marked, constants_fit, header_fits, counts_if};
 ghost use Rattle.octets.specs.Octets.{splice};
 
-use bigendian::{get_u32, get_u64, put_u32, put_u64};
-use layout::places::{HEADER, MARK, array_at, byte_at, pair_at, put_byte, put_pair};
+use bigendian::{number_at, put_number};
+use layout::places::{HEADER, MARK, array_at, put_array};
 use layout::{Counts, Free};
 
 // The number of logs, and that of slots.
@@ -18,8 +18,8 @@ pub fn counts_of(table: &[u8]) -> Counts
     ensures fit { (result.logs < 256) × (result.slots < 65536) }
 {
     Counts {
-        logs: byte_at(table, 4),
-        slots: pair_at(table, 6),
+        logs: number_at::<1>(table, 4) as usize,
+        slots: number_at::<2>(table, 6) as usize,
     }
 }
 
@@ -28,7 +28,7 @@ pub fn keeper_of(table: &[u8]) -> u64
     requires { header_size ≤ length table.now }
     ensures { result ≡ keeper_of table.now }
 {
-    get_u64(table, 8)
+    number_at::<8>(table, 8)
 }
 
 // What the header says of the free slots.
@@ -36,7 +36,7 @@ pub fn free_of(table: &[u8], part: Free) -> usize
     requires { header_size ≤ length table.now }
     ensures { (result ≡ free_part part table.now) × (result < 65536) }
 {
-    pair_at(table, part.place())
+    number_at::<2>(table, part.place()) as usize
 }
 
 // The key, as a part of the table.
@@ -53,7 +53,7 @@ pub fn put_free(table: &mut [u8], part: Free, n: usize)
     requires bound { n < 65536 }
     ensures { table.new ≡ put_part part table.old n }
 {
-    put_pair(table, part.place(), n);
+    put_number::<2>(table, part.place(), n as u64);
 }
 
 // What a header says.
@@ -73,10 +73,10 @@ fn write_counts(part: &mut [u8], counts: Counts)
     requires counts_bound { (counts.logs < 256) × (counts.slots < 65536) }
     ensures { part.new ≡ splice part.old 0 (count_bytes counts.logs counts.slots) }
 {
-    put_u32(part, 0, MARK);
-    put_byte(part, 4, counts.logs);
-    put_byte(part, 5, 0);
-    put_pair(part, 6, counts.slots);
+    put_number::<4>(part, 0, MARK);
+    put_number::<1>(part, 4, counts.logs as u64);
+    put_number::<1>(part, 5, 0);
+    put_number::<2>(part, 6, counts.slots as u64);
 }
 
 // The header into its part of a table.
@@ -87,12 +87,11 @@ pub fn write_header(part: &mut [u8], header: Header)
     ensures { part.new ≡ header_bytes header.entry.counts.logs header.entry.counts.slots header.entry.keeper header.entry.free (stocked header.entry.count header.entry.last) header.entry.key.now }
 {
     write_counts(part, header.counts);
-    put_u64(part, 8, header.keeper);
-    put_pair(part, 16, header.free);
-    put_pair(part, 18, header.count);
-    let key = header.key;
-    octets::put(part, 20, key);
-    put_pair(part, 52, header.last);
+    put_number::<8>(part, 8, header.keeper);
+    put_free(part, Free::First, header.free);
+    put_free(part, Free::Count, header.count);
+    put_array(part, 20, header.key);
+    put_free(part, Free::Last, header.last);
 }
 
 // Whether a table may have so many logs and slots.
@@ -107,7 +106,7 @@ pub fn has_mark(table: &[u8]) -> bool
     requires { header_size ≤ length table.now }
     ensures { result ≡ marked table.now }
 {
-    get_u32(table, 0) == MARK
+    number_at::<4>(table, 0) == MARK
 }
 
 // Whether the header has its constants.
@@ -115,7 +114,7 @@ fn constants_fit(table: &[u8]) -> bool
     requires { header_size ≤ length table.now }
     ensures { result ≡ constants_fit table.now }
 {
-    has_mark(table) && byte_at(table, 5) == 0
+    has_mark(table) && number_at::<1>(table, 5) == 0
 }
 
 // The counts of a table whose header has its constants and counts in range, and which has the length that they give.

@@ -6,8 +6,8 @@ ghost use Rattle.layout.specs.Image.{row_at};
 ghost use Rattle.layout.specs.Layout.{row_size, read_row, row_bytes, read_table, put_row};
 ghost use Rattle.layout.specs.Fits.{RowFits, Counted};
 
-use bigendian::{get_u64, put_u64};
-use layout::places::{ROW, pair_at, put_pair, row_offset};
+use bigendian::{number_at, put_number};
+use layout::places::{ROW, row_offset};
 use layout::{Counts, Row};
 
 // The row in a row's part of a table.
@@ -16,11 +16,11 @@ fn read_row(part: &[u8]) -> Row
     ensures { result ≡ read_row part.now }
 {
     Row {
-        low: get_u64(part, 0),
-        high: get_u64(part, 8),
-        first: pair_at(part, 16),
-        last: pair_at(part, 18),
-        reserve: pair_at(part, 20),
+        low: number_at::<8>(part, 0),
+        high: number_at::<8>(part, 8),
+        first: number_at::<2>(part, 16) as usize,
+        last: number_at::<2>(part, 18) as usize,
+        reserve: number_at::<2>(part, 20) as usize,
     }
 }
 
@@ -40,11 +40,11 @@ pub fn write_row(part: &mut [u8], row: Row)
     requires row_fits { RowFits row }
     ensures { part.new ≡ row_bytes row }
 {
-    put_u64(part, 0, row.low);
-    put_u64(part, 8, row.high);
-    put_pair(part, 16, row.first);
-    put_pair(part, 18, row.last);
-    put_pair(part, 20, row.reserve);
+    put_number::<8>(part, 0, row.low);
+    put_number::<8>(part, 8, row.high);
+    put_number::<2>(part, 16, row.first as u64);
+    put_number::<2>(part, 18, row.last as u64);
+    put_number::<2>(part, 20, row.reserve as u64);
 }
 
 // Another row of log g.

@@ -2,8 +2,9 @@
 ghost use Rattle.layout.specs.Fits.{Slotted};
 
 use crate::read_link;
+use bigendian::number_at;
 use layout::Link;
-use layout::places::{SLOT, byte_at};
+use layout::places::SLOT;
 use octets::is_zero;
 
 // So many slots, the first at the start and the last at the end of the bytes.
@@ -32,7 +33,7 @@ impl Cells<'_> {
         let part = &self.table[at..at + SLOT];
         let link = read_link(part);
         Link {
-            owner: link.owner + 256 * byte_at(part, 1),
+            owner: link.owner + 256 * number_at::<1>(part, 1) as usize,
             ..link
         }
     }

@@ -9,9 +9,9 @@ ghost use Rattle.layout.specs.Changes.{link_of, slot_said};
 ghost use Rattle.layout.specs.Layout.{slot_size, read_slot, slot_bytes, read_table, put_slot, put_next};
 ghost use Rattle.layout.specs.Fits.{Counted};
 
-use bigendian::{get_u64, put_u64};
+use bigendian::{number_at, put_number};
 pub use cells::Cells;
-use layout::places::{SLOT, array_at, byte_at, pair_at, put_byte, put_pair, slot_offset};
+use layout::places::{SLOT, array_at, put_array, slot_offset};
 use layout::{Counts, Link, Slot};
 
 // The owner, next slot and position in a slot's part of a table.
@@ -21,9 +21,9 @@ fn read_link(part: &[u8]) -> Link
     ensures byte { result.owner < 256 }
 {
     Link {
-        owner: byte_at(part, 0),
-        next: pair_at(part, 2),
-        position: get_u64(part, 4),
+        owner: number_at::<1>(part, 0) as usize,
+        next: number_at::<2>(part, 2) as usize,
+        position: number_at::<8>(part, 4),
     }
 }
 
@@ -62,14 +62,12 @@ pub fn write_slot(part: &mut [u8], slot: Slot)
     requires next_bound { slot.next < 65536 }
     ensures { part.new ≡ slot_bytes (slot_said slot.entry) }
 {
-    put_byte(part, 0, slot.owner);
-    put_byte(part, 1, 0);
-    put_pair(part, 2, slot.next);
-    put_u64(part, 4, slot.position);
-    let value = slot.value;
-    octets::put(part, 12, value);
-    let digest = slot.digest;
-    octets::put(part, 44, digest);
+    put_number::<1>(part, 0, slot.owner as u64);
+    put_number::<1>(part, 1, 0);
+    put_number::<2>(part, 2, slot.next as u64);
+    put_number::<8>(part, 4, slot.position);
+    put_array(part, 12, slot.value);
+    put_array(part, 44, slot.digest);
 }
 
 // An entry, or a free slot, into slot s.
@@ -91,5 +89,5 @@ pub fn put_next(table: &mut [u8], counts: Counts, s: usize, next: usize)
     requires next_bound { next < 65536 }
     ensures { table.new ≡ put_next table.old s next }
 {
-    put_pair(table, slot_offset(counts.logs, s) + 2, next);
+    put_number::<2>(table, slot_offset(counts.logs, s) + 2, next as u64);
 }

@@ -6,4 +6,4 @@ use Rattle.layout.proofs.FreeLaws.{free-read}
 use Rattle.layout_header.proofs.free_of.Goals as goal
 
 pub returns : goal.returns
-returns c = (free-read c.args.part c.args.table.now (c.pair_at.ensures.0 ∙ ap (λ (a : ℕ). unbe (part c.args.table.now a 2)) c.place.ensures), c.pair_at.ensures.1)
+returns c = (free-read c.args.part c.args.table.now (c.number_at.ensures.0 ∙ ap (λ (a : ℕ). unbe (part c.args.table.now a 2)) c.place.ensures), c.number_at.ensures.1)

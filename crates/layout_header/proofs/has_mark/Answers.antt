@@ -8,4 +8,4 @@ use Rattle.layout.proofs.HeaderLaws.{mark-test}
 use Rattle.layout_header.proofs.has_mark.Goals as goal
 
 pub returns : goal.returns
-returns c = ap (λ (n : ℕ). eqb n mark_number) c.get_u32.ensures ∙ mark-test c.args.table.now (λ i. omega (arith, c.type_inv.table i)) c.requires
+returns c = ap (λ (n : ℕ). eqb n mark_number) c.number_at.ensures.0 ∙ mark-test c.args.table.now (λ i. omega (arith, c.type_inv.table i)) c.requires

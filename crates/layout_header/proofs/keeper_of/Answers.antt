@@ -4,4 +4,4 @@ use Rattle.layout_header.proofs.keeper_of.Goals as goal
 
 pub returns : goal.returns
 unfolding keeper_of
-returns c = c.get_u64.ensures
+returns c = c.number_at.ensures.0

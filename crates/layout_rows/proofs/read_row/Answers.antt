@@ -4,4 +4,4 @@ use Rattle.layout_rows.proofs.read_row.Goals as goal
 
 pub returns : goal.returns
 unfolding read_row
-returns c = λ i. record { low = c.get_u64.ensures i; high = c.get_u64-2.ensures i; first = c.pair_at.ensures.0 i; last = c.pair_at-2.ensures.0 i; reserve = c.pair_at-3.ensures.0 i }
+returns c = λ i. record { low = c.number_at.ensures.0 i; high = c.number_at-2.ensures.0 i; first = c.number_at-3.ensures.0 i; last = c.number_at-4.ensures.0 i; reserve = c.number_at-5.ensures.0 i }

@@ -4,4 +4,4 @@ use Rattle.layout_slots.proofs.read_link.Goals as goal
 
 pub returns : goal.returns
 unfolding read_slot
-returns c = record { fields = λ i. record { owner = c.byte_at.ensures.0 i; next = c.pair_at.ensures.0 i; position = c.get_u64.ensures i }; byte = c.byte_at.ensures.1 }
+returns c = record { fields = λ i. record { owner = c.number_at.ensures.0 i; next = c.number_at-2.ensures.0 i; position = c.number_at-3.ensures.0 i }; byte = c.number_at.ensures.1 }

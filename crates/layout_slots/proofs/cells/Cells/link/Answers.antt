@@ -13,5 +13,5 @@ use Rattle.layout_slots.proofs.cells.Cells.link.Goals as goal
 pub returns : goal.returns
 unfolding read_slot strict_slot
 returns c =
-    ap₂ (λ (l : Link) (pad : ℕ). record { owner = l.owner + 256 * pad; next = l.next; position = l.position }) c.read_link-link.ensures.fields c.byte_at.ensures.0
+    ap₂ (λ (l : Link) (pad : ℕ). record { owner = l.owner + 256 * pad; next = l.next; position = l.position }) c.read_link-link.ensures.fields c.number_at.ensures.0
     ∙ ap (λ (s : Slot). link_of s) (strict-there c.args.self.table.now c.args.self.start c.args.self.slots c.args.s c.requires.0 c.requires.1)
