@@ -1,8 +1,5 @@
-use Rattle.std.proofs.Common.{length, ◌-◌, ◌≤◌}
+use Rattle.std.proofs.Common.{length}
 use Rattle.case_report.proofs.show.Given as goal
 
-abbrev pub invariant-loop-at : goal.invariant-loop-at
-invariant-loop-at g l = 0 ≤ l.at
-
-abbrev pub decreases-loop-at : goal.decreases-loop-at
-decreases-loop-at g l = length l.t - l.at
+abbrev pub decreases-loop-kind : goal.decreases-loop-kind
+decreases-loop-kind g l = length l.rest
