@@ -10,7 +10,7 @@ use lib.ListN.{length}
 use borrow.Author.Tests.{eq-eqb, ne_eqb, eqb-true, eqb-false, not-false, ltb-true, ltb-false, leb-false, le-leb, lt-leb}
 use Rattle.octets.proofs.Tests.{or-none}
 use Rattle.runs.specs.Call.{no_run}
-use Rattle.runs.specs.Scan.{Reaches}
+use Rattle.runs.specs.Run.{Reaches}
 
 -- two tests that hold together are one
 same_test : (x : Bool) (a b c d : ℕ) → ltb a b ≡ x → (a < b → c ≤ d) → (b ≤ a → d < c) → x ≡ leb c d

@@ -1,13 +1,15 @@
 -- The call `compare`: its refusals, its answer, and the lent buffer after it.
-use Rattle.std.specs.Prelude.{ℕ, ◌+◌, ◌-◌, ◌*◌, ◌/◌, ◌%◌, ◌^◌, Bool, not, ◌||◌, List, [], ◌∷◌, eqb, leb, length}
+use Rattle.std.specs.Prelude.{ℕ, ◌+◌, ◌-◌, ◌*◌, ◌/◌, ◌%◌, ◌^◌, Bool, not, ◌||◌, List, [], ◌∷◌, eqb, leb, length, Result, Ok, Err}
 use Rattle.std.proofs.Math.Option.{Option, none, some}
+use Rattle.refusal.specs.declared.Hashed.{Hashed}
+use Rattle.refusal.specs.declared.Refused.{Refused}
 use Rattle.refusal.specs.Number.{number_of}
 use Rattle.refusal.specs.Order.{fault, first_fault, afterwards}
 use Rattle.sha256.specs.Sha256.{sha256}
 use Rattle.runs.specs.Run.{Run, count}
 use Rattle.runs.specs.Compare.{Verdict, differ, agree, collision, comparison, handed_over}
 use Rattle.runs.specs.declared.Comparison.{Comparison}
-use Rattle.runs.specs.declared.Comparison.TheVariants.{Differ, Agree, Collision, Refused}
+use Rattle.runs.specs.declared.Comparison.TheVariants.{Differ, Agree, Collision}
 
 -- number 14: "no values, bytes not a multiple of 32, first position 0, or last beyond 2^64 − 1"
 unfoldable pub no_run : ℕ → List ℕ → Bool
@@ -39,19 +41,21 @@ done v = record { number = 0; verdict = some v }
 abbrev pub refused : ℕ → Answer
 refused n = record { number = n; verdict = none }
 
--- the number and the verdict of each case of the program's answer
-abbrev pub comparison_answer : Comparison → Answer
-comparison_answer (Differ blocks) = done differ
-comparison_answer (Agree blocks) = done agree
-comparison_answer (Collision blocks) = done collision
-comparison_answer (Refused r blocks) = refused (number_of r)
+-- the verdict that the program names
+abbrev pub verdict_named : Comparison → Verdict
+verdict_named Differ = differ
+verdict_named Agree = agree
+verdict_named Collision = collision
+
+-- the number and the verdict of the program's answer
+abbrev pub comparison_answer : Result (Hashed Comparison) Refused → Answer
+comparison_answer (Ok compared) = done (verdict_named compared.value)
+comparison_answer (Err refusal) = refused (number_of refusal.why)
 
 -- and the blocks hashed
-abbrev pub comparison_blocks : Comparison → ℕ
-comparison_blocks (Differ blocks) = blocks
-comparison_blocks (Agree blocks) = blocks
-comparison_blocks (Collision blocks) = blocks
-comparison_blocks (Refused r blocks) = blocks
+abbrev pub comparison_blocks : Result (Hashed Comparison) Refused → ℕ
+comparison_blocks (Ok compared) = compared.blocks
+comparison_blocks (Err refusal) = refusal.blocks
 
 -- "A refusal .. returns its number alone"
 unfoldable pub answered : Option ℕ → Verdict → Answer

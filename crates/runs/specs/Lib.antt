@@ -1,5 +1,6 @@
 pub mod Call
 pub mod Claim
 pub mod Compare
+pub mod Lent
 pub mod Run
 pub mod Scan

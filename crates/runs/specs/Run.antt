@@ -1,5 +1,5 @@
 -- Runs (document 01, "Runs"): the blocks and digests of a run, over any hash function.
-use Rattle.std.specs.Prelude.{ℕ, zero, suc, ◌+◌, ◌*◌, ◌/◌, List, length}
+use Rattle.std.specs.Prelude.{ℕ, zero, suc, ◌+◌, ◌*◌, ◌/◌, ◌^◌, ◌≤◌, List, length}
 use Rattle.octets.specs.Octets.{part}
 use Rattle.entry.specs.Digest.{block}
 
@@ -19,6 +19,15 @@ count r = length r.values / 32
 -- value k, counted from 0
 abbrev pub value_at : Run → ℕ → List ℕ
 value_at r k = part r.values (k * 32) 32
+
+-- the block of value k, with the digest before it
+unfoldable pub block_from : Run → ℕ → List ℕ → List ℕ
+block_from r k digest = block (r.first + k) (value_at r k) digest
+
+-- n values are there, and their positions fit
+pub record Reaches (first : ℕ) (values : List ℕ) (n : ℕ) : Type 0 where
+  pub bytes : n * 32 ≤ length values
+  pub positions : first + n ≤ 2 ^ 64
 
 module _ (hash : List ℕ → List ℕ) where
   -- the digest after the first k values: by "the append rule"

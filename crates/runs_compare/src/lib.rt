@@ -1,16 +1,17 @@
 // The comparison of two runs (document 01, "Runs"): the refusals, the pass, and its verdict.
 #![tactic(auto)]
 
-ghost use Rattle.std.specs.Prelude.{◌≡◌, ◌+◌, ◌≤◌, length};
+ghost use Rattle.std.specs.Prelude.{◌≡◌, ◌+◌, ◌≤◌, ◌<◌, length, IfSome, false, true, MatchResult};
 ghost use Rattle.octets.specs.Octets.{splice};
-ghost use Rattle.runs.specs.Run.{run};
+ghost use Rattle.runs.specs.Run.{run, count, block_from};
+ghost use Rattle.runs.specs.Lent.{lent, whole};
 ghost use Rattle.runs.specs.Call.{no_run, comparison_answer, comparison_blocks, compare_answer, compare_blocks, compare_bytes};
-ghost use Rattle.runs.specs.Scan.{Reaches, block_from, concluded, left_in};
+ghost use Rattle.runs.specs.Scan.{concluded, left_in};
 
-use bigendian::put_u64;
+use bigendian::put_number;
 use octets::{equal, put};
-use refusal::Refusal;
-use runs::{Comparison, Scan};
+use refusal::{Hashed, Refusal, Refused};
+use runs::{Comparison, Run, Scan, WholeRun};
 use runs_scan::pass;
 
 // Whether there are no values, a part of one, a first position 0 or a last one beyond 2^64 - 1.
@@ -28,98 +29,74 @@ fn no_run(first: u64, values: &[u8]) -> bool
         return true;
     }
     let more = (n / 32 - 1) as u64;
-    18446744073709551615 - first < more
+    u64::MAX - first < more
+}
+
+// A run by its parts, if it is one.
+fn whole_run<'a>(start: &'a [u8; 32], first: u64, values: &'a [u8]) -> Result<WholeRun<'a>, Refusal>
+    ensures { MatchResult result (λ r. (whole r ≡ run start.now first values.now) × (no_run first values.now ≡ false)) (λ why. (why ≡ Refusal.NoRun) × (no_run first values.now ≡ true)) }
+{
+    if no_run(first, values) {
+        return Err(Refusal::NoRun);
+    }
+    Ok(WholeRun {
+        start,
+        first,
+        values,
+    })
 }
 
 // Writes the block of value k, with the digest before it, from at on.
-fn put_block(out: &mut [u8], at: usize, first: u64, values: &[u8], k: usize, digest: &[u8])
-    requires at_in_bounds { (at + 72 ≤ length out.old) × (length digest.now ≡ 32) }
-    requires reaches { Reaches first values.now (k + 1) }
-    ensures { out.new ≡ splice out.old at (block_from first values.now k digest.now) }
+fn put_block(out: &mut [u8], at: usize, run: &WholeRun, k: usize, digest: &[u8; 32])
+    requires in_bounds { at + 72 ≤ length out.old }
+    requires in_run { k < count (whole run.now) }
+    ensures bytes { out.new ≡ splice out.old at (block_from (whole run.now) k digest.now) }
+    ensures size { length (block_from (whole run.now) k digest.now) ≡ 72 }
 {
-    let from = k * 32;
-    let end = from + 32;
-    put_u64(out, at, first + k as u64);
-    put(out, at + 8, &values[from..end]);
+    put_number::<8>(out, at, run.position(k));
+    put(out, at + 8, run.value(k));
     put(out, at + 40, digest);
 }
 
 // The verdict of a pass; the buffer is touched by a collision alone.
-fn conclude(
-    s: Scan,
-    first1: u64,
-    values1: &[u8],
-    first2: u64,
-    values2: &[u8],
-    out: &mut [u8],
-) -> Comparison
+fn conclude(scan: &Scan, one: &WholeRun, two: &WholeRun, out: &mut [u8]) -> Comparison
     requires out_len { length out.old ≡ 144 }
-    requires reaches { Reaches first1 values1.now (s.at1 + 1) }
-    requires reaches_2 { Reaches first2 values2.now (s.at2 + 1) }
-    ensures { (result ≡ concluded s) × (out.new ≡ left_in first1 values1.now first2 values2.now s out.old) }
+    requires in_runs { IfSome scan.now.unequal (λ p. (p.at1 < count (whole one.now)) × (p.at2 < count (whole two.now))) }
+    ensures { (result ≡ concluded scan.now) × (out.new ≡ left_in (whole one.now) (whole two.now) scan.now out.old) }
 {
-    let digest1 = s.digest1;
-    let digest2 = s.digest2;
-    let blocks = s.blocks;
-    if !equal(&digest1, &digest2) {
-        return Comparison::Differ { blocks };
+    if !equal(&scan.digest1, &scan.digest2) {
+        return Comparison::Differ;
     }
-    let found = s.found;
-    if !found {
-        return Comparison::Agree { blocks };
-    }
-    let before1 = s.before1;
-    let before2 = s.before2;
-    put_block(out, 0, first1, values1, s.at1, &before1);
-    put_block(out, 72, first2, values2, s.at2, &before2);
-    Comparison::Collision { blocks }
+    let Some(pair) = &scan.unequal else {
+        return Comparison::Agree;
+    };
+    put_block(out, 0, one, pair.at1, &pair.before1);
+    put_block(out, 72, two, pair.at2, &pair.before2);
+    Comparison::Collision
 }
 
-// The comparison of two runs, each a start digest, a first position and values. A collision's two blocks fill out, the first
-// run's before the second's; every other verdict leaves it as it is. Refused: 7 for a length, 14 for no run.
-pub fn compare(
-    start1: &[u8],
-    first1: u64,
-    values1: &[u8],
-    start2: &[u8],
-    first2: u64,
-    values2: &[u8],
-    out: &mut [u8],
-) -> Comparison
-    ensures answer { comparison_answer result ≡ compare_answer (run start1.now first1 values1.now) (run start2.now first2 values2.now) out.old }
-    ensures blocks { comparison_blocks result ≡ compare_blocks (run start1.now first1 values1.now) (run start2.now first2 values2.now) out.old }
-    ensures bytes { out.new ≡ compare_bytes (run start1.now first1 values1.now) (run start2.now first2 values2.now) out.old }
+// The comparison of two runs. A collision's two blocks fill out, the first run's before the second's; every other verdict leaves it as
+// it is. Refused: 7 for a length, 14 for no run.
+pub fn compare(one: Run, two: Run, out: &mut [u8]) -> Result<Hashed<Comparison>, Refused>
+    ensures answer { comparison_answer result ≡ compare_answer (lent one.entry) (lent two.entry) out.old }
+    ensures blocks { comparison_blocks result ≡ compare_blocks (lent one.entry) (lent two.entry) out.old }
+    ensures bytes { out.new ≡ compare_bytes (lent one.entry) (lent two.entry) out.old }
 {
-    if start1.len() != 32 {
-        return Comparison::Refused {
-            why: Refusal::Length,
-            blocks: 0,
-        };
-    }
-    if start2.len() != 32 {
-        return Comparison::Refused {
-            why: Refusal::Length,
-            blocks: 0,
-        };
-    }
+    let Some(start1) = one.start.as_array::<32>() else {
+        return Err(Refusal::Length.into());
+    };
+    let Some(start2) = two.start.as_array::<32>() else {
+        return Err(Refusal::Length.into());
+    };
     if out.len() != 144 {
-        return Comparison::Refused {
-            why: Refusal::Length,
-            blocks: 0,
-        };
+        return Err(Refusal::Length.into());
     }
-    if no_run(first1, values1) {
-        return Comparison::Refused {
-            why: Refusal::NoRun,
-            blocks: 0,
-        };
-    }
-    if no_run(first2, values2) {
-        return Comparison::Refused {
-            why: Refusal::NoRun,
-            blocks: 0,
-        };
-    }
-    let s = pass(start1, first1, values1, start2, first2, values2);
-    conclude(s, first1, values1, first2, values2, out)
+    let one = whole_run(start1, one.first, one.values)?;
+    let two = whole_run(start2, two.first, two.values)?;
+    let scan = pass(&one, &two);
+    let value = conclude(&scan, &one, &two, out);
+    Ok(Hashed {
+        value,
+        blocks: scan.blocks,
+    })
 }

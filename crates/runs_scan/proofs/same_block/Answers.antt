@@ -1,13 +1,23 @@
 -- `runs_scan::same_block` meets its contract.
-use mathlib.Core.Path.{sym, ◌∙◌}
-use Rattle.runs.proofs.BlockLaws.{other-position, other-value, by-digest}
+use mathlib.Core.Path.{◌≡◌, ◌∙◌}
+use Rattle.runs.proofs.BlockLaws.{Entries, one-position, two-positions, digests-decide, other-entries}
 use Rattle.runs_scan.proofs.same_block.Goals as goal
+use Rattle.runs_scan.proofs.same_block.Goals.{then-position, else-position}
 
-pub returns-then-first1-k : goal.returns-then-first1-k
-returns-then-first1-k c = other-position c.args.first1 c.args.values1.now c.args.k c.args.digest1.now c.args.first2 c.args.values2.now c.args.l c.args.digest2.now c.requires.reaches c.requires.reaches_2 c.if-first1-k.true
+pub returns-then-equal : goal.returns-then-equal
+returns-then-equal c =
+    let t : c.if-position.value ≡ Entries c.args.one.now c.args.two.now c.args.k c.args.l c.requires.in_one c.requires.in_two =
+    elim c.if-position.branch [
+      | then-position w ↦ one-position c.args.one.now c.args.two.now c.args.k c.args.l c.requires.in_one c.requires.in_two c.position.ensures c.position-2.ensures w.if-position.true w.value.ensures w.value-then-position.ensures (w.value-is ∙ w.equal.ensures)
+      | else-position w ↦ two-positions c.args.one.now c.args.two.now c.args.k c.args.l c.requires.in_one c.requires.in_two c.position.ensures c.position-2.ensures w.value-is w.if-position.false
+    ] in
+    digests-decide c.args.one.now c.args.two.now c.args.k c.args.l c.requires.in_one c.requires.in_two c.args.digest1.now c.args.digest2.now t c.if-equal.true c.equal-then-equal.ensures
 
-pub returns-then-not-equal : goal.returns-then-not-equal
-returns-then-not-equal c = other-value c.args.first1 c.args.values1.now c.args.k c.args.digest1.now c.args.first2 c.args.values2.now c.args.l c.args.digest2.now c.requires.reaches c.requires.reaches_2 c.if-first1-k.false (sym c.equal.ensures ∙ c.if-not-equal.true)
-
-pub returns : goal.returns
-returns c = by-digest c.args.first1 c.args.values1.now c.args.k c.args.digest1.now c.args.first2 c.args.values2.now c.args.l c.args.digest2.now c.requires.reaches c.requires.reaches_2 _ c.if-first1-k.false (sym c.equal.ensures ∙ c.if-not-equal.false) c.equal-2.ensures
+pub returns-else-equal : goal.returns-else-equal
+returns-else-equal c =
+    let t : c.if-position.value ≡ Entries c.args.one.now c.args.two.now c.args.k c.args.l c.requires.in_one c.requires.in_two =
+    elim c.if-position.branch [
+      | then-position w ↦ one-position c.args.one.now c.args.two.now c.args.k c.args.l c.requires.in_one c.requires.in_two c.position.ensures c.position-2.ensures w.if-position.true w.value.ensures w.value-then-position.ensures (w.value-is ∙ w.equal.ensures)
+      | else-position w ↦ two-positions c.args.one.now c.args.two.now c.args.k c.args.l c.requires.in_one c.requires.in_two c.position.ensures c.position-2.ensures w.value-is w.if-position.false
+    ] in
+    other-entries c.args.one.now c.args.two.now c.args.k c.args.l c.requires.in_one c.requires.in_two c.args.digest1.now c.args.digest2.now t c.if-equal.false
