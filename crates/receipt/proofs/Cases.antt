@@ -1,7 +1,7 @@
--- The tests of a receipt, case by case: one law for each `return` of the code.
+-- The tests of a receipt, case by case, and the verifier's ways out: one law for each.
 use mathlib.Core.Path.{◌≡◌, refl}
 use mathlib.Core.Logic.{◌≢◌}
-use Prim.Native.Nat.{ℕ, ◌≤◌, ◌<◌}
+use Prim.Native.Nat.{ℕ, ◌≤◌}
 use native.Mathlib.Omega.{arith}
 use mathlib.Core.Bool.{Bool, true, false, not, cond, ◌&&◌, ◌||◌}
 use mathlib.Core.List.{List, []}
@@ -9,23 +9,14 @@ use mathlib.Core.Option.{none, some}
 use lib.ListN.{length}
 use lib.Dec.{eqb, ltb, leb}
 use borrow.Author.Tests.{eq-eqb, ne_eqb, le-leb, lt-leb}
-use Rattle.octets.specs.Octets.{same, zeros}
+use Rattle.octets.specs.Octets.{same}
 use Rattle.octets.proofs.Tests.{and-false}
 use Rattle.refusal.specs.Order.{first_fault, afterwards}
 use Rattle.refusal.specs.Answer.{Answer, answer, answer_with}
 use Rattle.receipt.specs.Attestation.{Attestation, LOOKUP, END, read_attestation}
 use Rattle.receipt.specs.Possible.{is_name, reference_fits, is_blank, blank_fits, fresh_end, possible}
 use Rattle.receipt.specs.Verdict.{carried, answers, asks, is_tagged, unread, verify_refusal, verify_blocks, verdict}
-use Rattle.receipt.specs.declared.Ask.TheVariants.{Lookup, End}
 use Rattle.receipt.specs.declared.Question.{Question}
-
-pub name-lookup : (n : List ℕ) → same n LOOKUP ≡ true → true ≡ is_name n
-unfolding is_name
-name-lookup n h = simp h
-
-pub name-end : (n : List ℕ) → same n LOOKUP ≡ false → same n END ≡ is_name n
-unfolding is_name
-name-end n h = simp h
 
 module _ (kind n reference : ℕ) where
   pub reference-at : kind ≡ 1 → eqb reference n ≡ reference_fits kind n reference
@@ -36,30 +27,14 @@ module _ (kind n reference : ℕ) where
   unfolding reference_fits
   reference-below o h = simp (ne_eqb kind 1 o, eq-eqb kind 0 h)
 
-  pub reference-none : (kind ≡ 1 → ⊥) → (kind ≡ 0 → ⊥) → 3 < kind → false ≡ reference_fits kind n reference
-  unfolding reference_fits
-  reference-none o h k = simp (ne_eqb kind 1 o, ne_eqb kind 0 h, lt-leb kind 3 k)
-
   pub reference-above : (kind ≡ 1 → ⊥) → (kind ≡ 0 → ⊥) → kind ≤ 3 → ltb n reference ≡ reference_fits kind n reference
   unfolding reference_fits
   reference-above o h k = simp (ne_eqb kind 1 o, ne_eqb kind 0 h, le-leb kind 3 k)
 
 module _ (a : Attestation) where
-  pub value-left : same a.value (zeros 32) ≡ false → false ≡ is_blank a
-  unfolding is_blank
-  value-left h = simp h
-
-  pub by-digest : same a.value (zeros 32) ≡ true → same a.digest (zeros 32) ≡ is_blank a
-  unfolding is_blank
-  by-digest h = simp h
-
   pub assigned-fits : a.kind ≡ 1 → true ≡ blank_fits a
   unfolding blank_fits
   assigned-fits h = simp (eq-eqb a.kind 1 h)
-
-  pub end-left : (a.kind ≡ 1 → ⊥) → same a.name LOOKUP ≡ false → false ≡ blank_fits a
-  unfolding blank_fits
-  end-left o h = simp (ne_eqb a.kind 1 o, h)
 
   pub skipped-fits : (a.kind ≡ 1 → ⊥) → same a.name LOOKUP ≡ true → a.kind ≡ 2 → true ≡ blank_fits a
   unfolding blank_fits
@@ -68,22 +43,6 @@ module _ (a : Attestation) where
   pub by-blank : (a.kind ≡ 1 → ⊥) → same a.name LOOKUP ≡ true → (a.kind ≡ 2 → ⊥) → is_blank a ≡ blank_fits a
   unfolding blank_fits
   by-blank o h s = simp (ne_eqb a.kind 1 o, h, ne_eqb a.kind 2 s)
-
-  pub not_end : same a.name END ≡ false → false ≡ fresh_end a
-  unfolding fresh_end
-  not_end h = simp h
-
-  pub not-unassigned : same a.name END ≡ true → (a.kind ≡ 0 → ⊥) → false ≡ fresh_end a
-  unfolding fresh_end
-  not-unassigned h k = simp (h, ne_eqb a.kind 0 k)
-
-  pub end-log : same a.name END ≡ true → a.kind ≡ 0 → 15 < a.log → false ≡ fresh_end a
-  unfolding fresh_end
-  end-log h k l = simp (h, eq-eqb a.kind 0 k, lt-leb a.log 15 l)
-
-  pub end-reference : same a.name END ≡ true → a.kind ≡ 0 → a.log ≤ 15 → a.position ≡ 0 → (a.reference ≡ 0 → ⊥) → false ≡ fresh_end a
-  unfolding fresh_end
-  end-reference h k l p r = simp (h, eq-eqb a.kind 0 k, le-leb a.log 15 l, eq-eqb a.position 0 p, ne_eqb a.reference 0 r)
 
   pub end-blank : same a.name END ≡ true → a.kind ≡ 0 → a.log ≤ 15 → a.position ≡ 0 → a.reference ≡ 0 → is_blank a ≡ fresh_end a
   unfolding fresh_end
@@ -107,50 +66,14 @@ module _ (a : Attestation) where
     from-1 : leb 1 a.position ≡ true
     from-1 = le-leb 1 a.position (omega arith)
 
-    pub no_name : is_name a.name ≡ false → false ≡ possible a
-    unfolding possible
-    no_name h = simp (not-fresh, h)
-
-    pub no-log : is_name a.name ≡ true → 15 < a.log → false ≡ possible a
-    unfolding possible
-    no-log h l = simp (not-fresh, h, lt-leb a.log 15 l)
-
-    pub no-reference : is_name a.name ≡ true → a.log ≤ 15 → reference_fits a.kind a.position a.reference ≡ false → false ≡ possible a
-    unfolding possible
-    no-reference h l r = simp (not-fresh, h, le-leb a.log 15 l, from-1, r)
-
     pub by_kind : is_name a.name ≡ true → a.log ≤ 15 → reference_fits a.kind a.position a.reference ≡ true → blank_fits a ≡ possible a
     unfolding possible
     by_kind h l r = simp (not-fresh, h, le-leb a.log 15 l, from-1, r)
 
   module _ (q : Question) (nonce : List ℕ) where
-    pub other-keeper : (a.keeper ≡ q.keeper → ⊥) → false ≡ answers a q nonce
-    unfolding answers
-    other-keeper h = simp (ne_eqb a.keeper q.keeper h)
-
-    pub other-log : a.keeper ≡ q.keeper → (a.log ≡ q.log → ⊥) → false ≡ answers a q nonce
-    unfolding answers
-    other-log h l = simp (eq-eqb a.keeper q.keeper h, ne_eqb a.log q.log l)
-
-    pub other-nonce : a.keeper ≡ q.keeper → a.log ≡ q.log → same a.nonce nonce ≡ false → false ≡ answers a q nonce
-    unfolding answers
-    other-nonce h l n = simp (eq-eqb a.keeper q.keeper h, eq-eqb a.log q.log l, n)
-
     pub by-ask : a.keeper ≡ q.keeper → a.log ≡ q.log → same a.nonce nonce ≡ true → asks q.ask a ≡ answers a q nonce
     unfolding answers
     by-ask h l n = simp (eq-eqb a.keeper q.keeper h, eq-eqb a.log q.log l, n)
-
-  pub other_name : (n : ℕ) → same a.name LOOKUP ≡ false → false ≡ asks (Lookup n) a
-  unfolding asks
-  other_name n h = simp h
-
-  pub by-position : (n : ℕ) → same a.name LOOKUP ≡ true → eqb a.position n ≡ asks (Lookup n) a
-  unfolding asks
-  by-position n h = simp h
-
-  pub by_end : same a.name END ≡ asks End a
-  unfolding asks
-  by_end = refl
 
 -- the verifier's ways out
 

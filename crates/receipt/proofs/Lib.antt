@@ -1,5 +1,6 @@
 pub mod Cases
 pub mod Fields
+pub mod Parsed
 pub mod PossibleLaws
 pub mod VerdictLaws
 pub mod Verifier

@@ -17,7 +17,7 @@ use Rattle.octets.proofs.Parts.{part-second, part-add}
 use Rattle.refusal.specs.Answer.{Answer, answer}
 use Rattle.receipt.specs.Attestation.{Attestation, attested_bytes, receipt_bytes, read_attestation}
 use Rattle.receipt.specs.Possible.{possible}
-use Rattle.receipt.specs.Verdict.{carried, answers, asks, is_tagged, unread, verify_refusal, verify_blocks, verdict, Genuine, AcceptsExactly}
+use Rattle.receipt.specs.Verdict.{carried, answers, asks, is_tagged, unread, verify_refusal, verify_blocks, verdict, Genuine, AcceptsExactly, Verdict, verdict_answer, verdict_blocks}
 use Rattle.receipt.specs.declared.Question.{Question}
 use Rattle.refusal.proofs.AnswerLaws.{no-fault}
 use Rattle.receipt.proofs.Cases.{by-ask, Judged, accepts}
@@ -130,7 +130,9 @@ module _ (key r nonce : List ℕ) (q : Question) where
     λ g. complete g.0 g.1 ∙ ap (answer 0) g.2,
   )
 
--- an answer that is the verdict on a list of bytes accepts exactly; the blocks stand beside it
-pub verdict_exactly : {key r nonce : List ℕ} {q : Question} {given : Answer} {blocks : ℕ} → Bytes r → Judged key r nonce q given blocks
-    → (given ≡ verdict key r nonce q) × (AcceptsExactly key r nonce q given × (blocks ≡ verify_blocks key r nonce))
-verdict_exactly {key} {r} {nonce} {q} b e = (e.0, (subst (AcceptsExactly key r nonce q) (sym e.0) (accepted-exactly key r nonce q b), e.1))
+-- a verdict that has the answer and the blocks for a list of bytes accepts exactly
+pub verdict_exactly : {key r nonce : List ℕ} {q : Question} (v : Verdict) {w : Verdict} → Bytes r → v ≡ w → Judged key r nonce q (verdict_answer w) (verdict_blocks w)
+    → (verdict_answer v ≡ verdict key r nonce q) × (AcceptsExactly key r nonce q (verdict_answer v) × (verdict_blocks v ≡ verify_blocks key r nonce))
+verdict_exactly {key} {r} {nonce} {q} v b z e =
+    let a : verdict_answer v ≡ verdict key r nonce q = ap verdict_answer z ∙ e.0 in
+    (a, (subst (AcceptsExactly key r nonce q) (sym a) (accepted-exactly key r nonce q b), ap verdict_blocks z ∙ e.1))

@@ -5,18 +5,14 @@ use native.Mathlib.Omega.{arith}
 use mathlib.Core.List.{List, [], ◌∷◌, ◌++◌, append_assoc}
 use mathlib.Core.Option.{none, some}
 use lib.ListN.{length, length-append}
-use borrow.Rule.Slice.PartMut.{put_mid}
 use borrow.Author.Tests.{eq-eqb, ne_eqb}
 use Rattle.bigendian.specs.BigEndian.{be}
 use Rattle.bigendian.proofs.Laws.{length-be}
-use Rattle.hmac.specs.Hmac.{hmac, tag_blocks, tag_refusal}
-use Rattle.hmac.proofs.BlockLaws.{tag_six}
-use Rattle.hmac.proofs.TagCases.{accepted}
+use Rattle.hmac.specs.Hmac.{hmac}
 use Rattle.hmac.proofs.Sizes.{length-hmac}
 use Rattle.octets.specs.Octets.{part, splice}
-use Rattle.octets.proofs.Parts.{length_part, put_back, splice-then, part-splice-same, splice-whole}
-use Rattle.refusal.specs.Order.{first_fault, afterwards}
-use Rattle.refusal.proofs.OrderLaws.{done-is}
+use Rattle.octets.proofs.Parts.{splice-then, part-splice-same, splice-whole}
+use Rattle.refusal.specs.Order.{first_fault}
 use Rattle.receipt.specs.Attestation.{Attestation, LOOKUP, END, attested_bytes, receipt_bytes}
 use Rattle.receipt.specs.Writer.{name_bytes, attestation_of, fact_bytes, write_refusal}
 use Rattle.receipt.specs.declared.Name.{Name}
@@ -82,19 +78,6 @@ module _ (out : List ℕ) where
       let head : part p 0 128 ≡ x = ap₂ (λ (l : List ℕ) (m : ℕ). part l 0 m) hp (sym n) ∙ part-splice-same out x 0 (omega arith) in
       splice-then out x t 128 hp n (omega arith) (hq ∙ ap (λ (y : List ℕ). splice p 128 (hmac key y)) head)
       ∙ splice-whole out (x ++ t) (length-append x t ∙ omega arith)
-
-  -- the tag writer was lent the part from 128 on; the blocks that it hashed
-  pub tag-lent : (key zs o : List ℕ) {x y : List ℕ} {b : ℕ} → length out ≡ 160 → length key ≡ 32 → length zs ≡ 128 → length o ≡ 32 → x ≡ splice zs 0 (part out 0 128)
-      → b ≡ afterwards (tag_refusal key x o) (tag_blocks key x) 0 → y ≡ afterwards (tag_refusal key x o) (hmac key x) o
-      → (b ≡ 6) × (put_mid 128 32 out y ≡ splice out 128 (hmac key (part out 0 128)))
-  tag-lent key zs o {x} {y} h k nz np hx hb hy =
-      let n : length (part out 0 128) ≡ 128 = length_part out 0 128 (omega arith) in
-      let ex : x ≡ part out 0 128 = hx ∙ splice-whole zs (part out 0 128) (n ∙ sym nz) in
-      let nx : length x ≡ 128 = ap length ex ∙ n in
-      let done : tag_refusal key x o ≡ none = accepted key x o np (omega arith) (omega arith) in (
-        hb ∙ sym (done-is (tag_blocks key x) 0 done).1 ∙ tag_six key x k nx,
-        put_back out y (hmac key (part out 0 128)) 128 32 (hy ∙ sym (done-is (hmac key x) o done).1 ∙ ap (hmac key) ex) (length-hmac key (part out 0 128)),
-      )
 
 -- what is written has its sizes
 pub written-length : (f : Facts) (nonce value digest : List ℕ) → length nonce ≡ 32 → length value ≡ 32 → length digest ≡ 32

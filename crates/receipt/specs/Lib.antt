@@ -1,4 +1,5 @@
 pub mod Attestation
+pub mod Kind
 pub mod Possible
 pub mod Writer
 pub mod Verdict

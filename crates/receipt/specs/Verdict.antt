@@ -1,8 +1,10 @@
 -- The verifier's verdict on a receipt.
-use Rattle.std.specs.Prelude.{ℕ, ◌≡◌, ◌↔◌, Bool, not, ◌&&◌, List, [], ◌∷◌, ◌++◌, length, eqb}
+use Rattle.std.specs.Prelude.{ℕ, ◌≡◌, ◌↔◌, Bool, not, ◌&&◌, List, [], ◌∷◌, ◌++◌, length, eqb, Result, Ok, Err}
 use Rattle.std.proofs.Math.Option.{Option}
 use Rattle.octets.specs.Octets.{same}
 use Rattle.refusal.specs.Number.{number_of}
+use Rattle.refusal.specs.declared.Hashed.{Hashed}
+use Rattle.refusal.specs.declared.Refused.{Refused}
 use Rattle.refusal.specs.Order.{Fault, fault, first_fault, afterwards}
 use Rattle.hmac.specs.Hmac.{hmac}
 use Rattle.refusal.specs.Answer.{Answer, answer, answer_with}
@@ -11,18 +13,25 @@ use Rattle.receipt.specs.Possible.{Admissible, possible}
 use Rattle.receipt.specs.declared.Ask.{Ask}
 use Rattle.receipt.specs.declared.Ask.TheVariants.{Lookup, End}
 use Rattle.receipt.specs.declared.Question.{Question}
-use Rattle.receipt.specs.declared.Verdict.{Verdict}
-use Rattle.receipt.specs.declared.Verdict.TheVariants.{Accepted, Refused}
+use Rattle.receipt.specs.declared.Accepted.{Accepted}
 
--- number and values of each verdict: an accepted one carries keeper, log, position, kind and reference
+-- the verifier's verdict: what an accepted receipt carries, or a refusal, with the blocks hashed for it
+abbrev pub Verdict : Type 0
+Verdict = Result (Hashed Accepted) Refused
+
+-- what is carried: keeper, log, position, kind and reference
+abbrev pub accepted_values : Accepted → List ℕ
+accepted_values a = a.keeper ∷ a.log ∷ a.position ∷ a.kind ∷ a.reference ∷ []
+
+-- number and values of each verdict
 abbrev pub verdict_answer : Verdict → Answer
-verdict_answer (Accepted keeper log position kind reference blocks) = answer 0 (keeper ∷ log ∷ position ∷ kind ∷ reference ∷ [])
-verdict_answer (Refused why blocks) = answer (number_of why) []
+verdict_answer (Ok done) = answer 0 (accepted_values done.value)
+verdict_answer (Err refused) = answer (number_of refused.why) []
 
 -- the blocks hashed for it
 abbrev pub verdict_blocks : Verdict → ℕ
-verdict_blocks (Accepted keeper log position kind reference blocks) = blocks
-verdict_blocks (Refused why blocks) = blocks
+verdict_blocks (Ok done) = done.blocks
+verdict_blocks (Err refused) = refused.blocks
 
 -- the values of an accepted receipt that attests a
 unfoldable pub carried : Attestation → List ℕ

@@ -1,5 +1,8 @@
-// Receipts (document 01, "Receipt bytes"): what their bytes say, which are possible, and the verdict on one. No code.
+// Receipts (document 01, "Receipt bytes"): what their bytes say, which are possible, and the verdict on one. No code but the numbers of kinds.
 #![tactic(auto)]
+
+ghost use Rattle.std.specs.Prelude.{◌≡◌};
+ghost use Rattle.receipt.specs.Kind.{kind_number, IsKindOf};
 
 use refusal::Refusal;
 
@@ -7,14 +10,53 @@ use refusal::Refusal;
 pub const RECEIPT: usize = 160;
 
 // The name in a receipt's bytes 0 to 5.
-#[derive(Drop)]
+#[derive(Clone, Copy, PartialEq, Eq)]
 pub enum Name {
     Lookup,
     End,
 }
 
-// What a receipt says in numbers; nonce, value and digest stand beside it.
-#[derive(Drop)]
+// What became of a position, by the number in a receipt's byte 6.
+#[derive(Clone, Copy, PartialEq, Eq)]
+pub enum Kind {
+    Unassigned,
+    Assigned,
+    Skipped,
+    Forgotten,
+}
+
+impl From<Kind> for u8 {
+    ghost from_gives = { λ kind n. n ≡ kind_number kind };
+
+    fn from(kind: Kind) -> u8 {
+        match kind {
+            Kind::Unassigned => 0,
+            Kind::Assigned => 1,
+            Kind::Skipped => 2,
+            Kind::Forgotten => 3,
+        }
+    }
+}
+
+// A byte that is no kind's number makes a receipt that attests nothing possible.
+impl TryFrom<u8> for Kind {
+    type Error = Refusal;
+
+    ghost try_from_gives = { IsKindOf };
+
+    fn try_from(n: u8) -> Result<Kind, Refusal> {
+        match n {
+            0 => Ok(Kind::Unassigned),
+            1 => Ok(Kind::Assigned),
+            2 => Ok(Kind::Skipped),
+            3 => Ok(Kind::Forgotten),
+            _ => Err(Refusal::NoReceipt),
+        }
+    }
+}
+
+// What a receipt says in numbers; nonce, value and digest stand beside it. The kind is a number, since a caller in C may have any written.
+#[derive(Clone, Copy)]
 pub struct Facts {
     pub name: Name,
     pub kind: u8,
@@ -25,33 +67,26 @@ pub struct Facts {
 }
 
 // A question's LOOKUP of a position, or END.
-#[derive(Drop)]
+#[derive(Clone, Copy)]
 pub enum Ask {
     Lookup(u64),
     End,
 }
 
 // A question; its nonce stands beside it.
-#[derive(Drop)]
+#[derive(Clone, Copy)]
 pub struct Question {
     pub keeper: u64,
     pub log: u64,
     pub ask: Ask,
 }
 
-// A verdict, with the blocks hashed for it.
+// What an accepted receipt carries. The kind is a number here too: a sentence can be had for any.
 #[derive(Clone, Copy)]
-pub enum Verdict {
-    Accepted {
-        keeper: u64,
-        log: u8,
-        position: u64,
-        kind: u8,
-        reference: u64,
-        blocks: u64,
-    },
-    Refused {
-        why: Refusal,
-        blocks: u64,
-    },
+pub struct Accepted {
+    pub keeper: u64,
+    pub log: u8,
+    pub position: u64,
+    pub kind: u8,
+    pub reference: u64,
 }

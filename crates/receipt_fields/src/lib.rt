@@ -1,104 +1,99 @@
 // The fields of a receipt, read from its bytes.
-#![tactic(auto)]
+#![tactic(auto, unfolding(receipt::specs::Attestation::read_attestation, receipt::specs::Attestation::LOOKUP, receipt::specs::Attestation::END))]
 
-ghost use Rattle.std.specs.Prelude.{◌≡◌, length};
-ghost use Rattle.octets.specs.Octets.{same};
-ghost use Rattle.receipt.specs.Attestation.{receipt_size, LOOKUP, END, read_attestation, pair_in, attested_in, tag_in};
+ghost use Rattle.std.specs.Prelude.{◌≡◌, ◌+◌, ◌≤◌};
+ghost use Rattle.octets.specs.Octets.{part, same};
+ghost use Rattle.receipt.specs.Attestation.{LOOKUP, END, read_attestation, pair_in, attested_in, tag_in};
 
-use bigendian::get_u64;
+use bigendian::number_at;
 use octets::equal;
 
 // Whether the name is LOOKUP.
-pub fn is_lookup(r: &[u8]) -> bool
-    requires { length r.now ≡ receipt_size }
+pub fn is_lookup(r: &[u8; 160]) -> bool
     ensures { result ≡ same (read_attestation r.now).name LOOKUP }
 {
     equal(&r[0..6], b"LOOKUP")
 }
 
 // Whether the name is END, with three zero bytes.
-pub fn is_end(r: &[u8]) -> bool
-    requires { length r.now ≡ receipt_size }
+pub fn is_end(r: &[u8; 160]) -> bool
     ensures { result ≡ same (read_attestation r.now).name END }
 {
     equal(&r[0..6], b"END\0\0\0")
 }
 
-pub fn kind_of(r: &[u8]) -> u8
-    requires { length r.now ≡ receipt_size }
+pub fn kind_of(r: &[u8; 160]) -> u8
     ensures { result ≡ (read_attestation r.now).kind }
 {
     r[6]
 }
 
-pub fn log_of(r: &[u8]) -> u8
-    requires { length r.now ≡ receipt_size }
+pub fn log_of(r: &[u8; 160]) -> u8
     ensures { result ≡ (read_attestation r.now).log }
 {
     r[7]
 }
 
-pub fn keeper_of(r: &[u8]) -> u64
-    requires { length r.now ≡ receipt_size }
+pub fn keeper_of(r: &[u8; 160]) -> u64
     ensures { result ≡ (read_attestation r.now).keeper }
 {
-    get_u64(r, 8)
+    number_at::<8>(r, 8)
 }
 
-pub fn position_of(r: &[u8]) -> u64
-    requires { length r.now ≡ receipt_size }
+pub fn position_of(r: &[u8; 160]) -> u64
     ensures { result ≡ (read_attestation r.now).position }
 {
-    get_u64(r, 16)
+    number_at::<8>(r, 16)
 }
 
-pub fn reference_of(r: &[u8]) -> u64
-    requires { length r.now ≡ receipt_size }
+pub fn reference_of(r: &[u8; 160]) -> u64
     ensures { result ≡ (read_attestation r.now).reference }
 {
-    get_u64(r, 24)
+    number_at::<8>(r, 24)
 }
 
-// The nonce, as a part of the receipt; so the value, the digest and both on end.
-pub fn nonce_of(r: &[u8]) -> &[u8]
-    requires { length r.now ≡ receipt_size }
+// The N bytes from at on, as a part of the receipt.
+fn bytes<const N: usize>(r: &[u8; 160], at: usize) -> &[u8; N]
+    requires { at + N ≤ 160 }
+    ensures { result.now ≡ part r.now at N }
+{
+    r[at..at + N].as_array().unwrap()
+}
+
+pub fn nonce_of(r: &[u8; 160]) -> &[u8; 32]
     ensures { result.now ≡ (read_attestation r.now).nonce }
 {
-    &r[32..64]
+    bytes::<32>(r, 32)
 }
 
-pub fn value_of(r: &[u8]) -> &[u8]
-    requires { length r.now ≡ receipt_size }
-    ensures { (result.now ≡ (read_attestation r.now).value) × (length result.now ≡ 32) }
+pub fn value_of(r: &[u8; 160]) -> &[u8; 32]
+    ensures { result.now ≡ (read_attestation r.now).value }
 {
-    &r[64..96]
+    bytes::<32>(r, 64)
 }
 
-pub fn digest_of(r: &[u8]) -> &[u8]
-    requires { length r.now ≡ receipt_size }
+pub fn digest_of(r: &[u8; 160]) -> &[u8; 32]
     ensures { result.now ≡ (read_attestation r.now).digest }
 {
-    &r[96..128]
+    bytes::<32>(r, 96)
 }
 
-pub fn pair_of(r: &[u8]) -> &[u8]
-    requires { length r.now ≡ receipt_size }
+// Value and digest, which stand on end.
+pub fn pair_of(r: &[u8; 160]) -> &[u8; 64]
     ensures { result.now ≡ pair_in r.now }
 {
-    &r[64..128]
+    bytes::<64>(r, 64)
 }
 
 // What the tag is over.
-pub fn attested_of(r: &[u8]) -> &[u8]
-    requires { length r.now ≡ receipt_size }
-    ensures { (result.now ≡ attested_in r.now) × (length result.now ≡ 128) }
+pub fn attested_of(r: &[u8; 160]) -> &[u8; 128]
+    ensures { result.now ≡ attested_in r.now }
 {
-    &r[0..128]
+    bytes::<128>(r, 0)
 }
 
-pub fn tag_of(r: &[u8]) -> &[u8]
-    requires { length r.now ≡ receipt_size }
+pub fn tag_of(r: &[u8; 160]) -> &[u8; 32]
     ensures { result.now ≡ tag_in r.now }
 {
-    &r[128..160]
+    bytes::<32>(r, 128)
 }

@@ -1,109 +1,82 @@
 // Whether bytes are those of a possible entry.
-ghost use Rattle.std.specs.Prelude.{◌≡◌, length};
-ghost use Rattle.receipt.specs.Attestation.{receipt_size, read_attestation};
+ghost use Rattle.std.specs.Prelude.{◌≡◌};
+ghost use Rattle.receipt.specs.Attestation.{read_attestation};
+ghost use Rattle.receipt.specs.Kind.{kind_number};
 ghost use Rattle.receipt.specs.Possible.{is_name, reference_fits, is_blank, blank_fits, fresh_end, possible};
 
-use octets::equal;
+use octets::is_zero;
+use receipt::Kind;
 use receipt_fields::{
     digest_of, is_end, is_lookup, kind_of, log_of, position_of, reference_of, value_of,
 };
 
-fn is_name(r: &[u8]) -> bool
-    requires { length r.now ≡ receipt_size }
+#[tactic(auto, unfolding(receipt::specs::Possible::is_name))]
+fn is_name(r: &[u8; 160]) -> bool
     ensures { result ≡ is_name (read_attestation r.now).name }
 {
-    if is_lookup(r) {
-        return true;
-    }
-    is_end(r)
+    is_lookup(r) || is_end(r)
 }
 
 // Whether the reference fits the kind.
-fn reference_fits(kind: u8, position: u64, reference: u64) -> bool
-    ensures { result ≡ reference_fits kind position reference }
+#[tactic(auto, unfolding(receipt::specs::Possible::reference_fits))]
+fn reference_fits(kind: Kind, position: u64, reference: u64) -> bool
+    ensures { result ≡ reference_fits (kind_number kind) position reference }
 {
-    if kind == 1 {
-        return reference == position;
+    match kind {
+        Kind::Unassigned => reference < position,
+        Kind::Assigned => reference == position,
+        Kind::Skipped | Kind::Forgotten => position < reference,
     }
-    if kind == 0 {
-        return reference < position;
-    }
-    if 3 < kind {
-        return false;
-    }
-    position < reference
 }
 
 // Whether value and digest are zero.
-fn is_blank(r: &[u8]) -> bool
-    requires { length r.now ≡ receipt_size }
+#[tactic(auto, unfolding(receipt::specs::Possible::is_blank))]
+fn is_blank(r: &[u8; 160]) -> bool
     ensures { result ≡ is_blank (read_attestation r.now) }
 {
-    let value = value_of(r);
-    let digest = digest_of(r);
-    let zeros = [0u8; 32];
-    if !equal(value, &zeros) {
-        return false;
-    }
-    equal(digest, &zeros)
+    is_zero(value_of(r)) && is_zero(digest_of(r))
 }
 
 // Whether the entry is assigned, or a LOOKUP that is skipped or has zero value and digest.
-fn blank_fits(r: &[u8]) -> bool
-    requires { length r.now ≡ receipt_size }
+#[tactic(auto, unfolding(receipt::specs::Possible::blank_fits))]
+fn blank_fits(kind: Kind, r: &[u8; 160]) -> bool
+    requires { kind_number kind ≡ (read_attestation r.now).kind }
     ensures { result ≡ blank_fits (read_attestation r.now) }
 {
-    let kind = kind_of(r);
-    if kind == 1 {
-        return true;
+    match kind {
+        Kind::Assigned => true,
+        Kind::Skipped => is_lookup(r),
+        Kind::Unassigned | Kind::Forgotten => is_lookup(r) && is_blank(r),
     }
-    if !is_lookup(r) {
-        return false;
-    }
-    if kind == 2 {
-        return true;
-    }
-    is_blank(r)
 }
 
 // Whether an entry with position 0 is the end of a fresh log: END, unassigned, with reference 0 and zero value and digest.
-fn is_fresh_end(r: &[u8]) -> bool
-    requires { (length r.now ≡ receipt_size) × ((read_attestation r.now).position ≡ 0) }
+#[tactic(auto, unfolding(receipt::specs::Possible::fresh_end))]
+fn is_fresh_end(r: &[u8; 160]) -> bool
+    requires { (read_attestation r.now).position ≡ 0 }
     ensures { result ≡ fresh_end (read_attestation r.now) }
 {
-    if !is_end(r) {
-        return false;
-    }
-    if kind_of(r) != 0 {
-        return false;
-    }
-    if 15 < log_of(r) {
-        return false;
-    }
-    if reference_of(r) != 0 {
-        return false;
-    }
-    is_blank(r)
+    is_end(r)
+        && kind_of(r) == u8::from(Kind::Unassigned)
+        && log_of(r) <= 15
+        && reference_of(r) == 0
+        && is_blank(r)
 }
 
 // The end of a fresh log is the one possible entry with position 0.
-pub fn is_possible(r: &[u8]) -> bool
-    requires { length r.now ≡ receipt_size }
+#[tactic(auto, unfolding(receipt::specs::Possible::possible, receipt::specs::Possible::fresh_end, receipt::specs::Possible::reference_fits))]
+pub fn is_possible(r: &[u8; 160]) -> bool
     ensures { result ≡ possible (read_attestation r.now) }
 {
     let position = position_of(r);
     if position == 0 {
         return is_fresh_end(r);
     }
-    if !is_name(r) {
+    let Ok(kind) = Kind::try_from(kind_of(r)) else {
         return false;
-    }
-    if 15 < log_of(r) {
-        return false;
-    }
-    let reference = reference_of(r);
-    if !reference_fits(kind_of(r), position, reference) {
-        return false;
-    }
-    blank_fits(r)
+    };
+    is_name(r)
+        && log_of(r) <= 15
+        && reference_fits(kind, position, reference_of(r))
+        && blank_fits(kind, r)
 }

@@ -9,15 +9,15 @@ ghost use Rattle.octets.specs.Octets.{part, splice};
 ghost use Rattle.receipt.specs.Attestation.{attested_bytes, receipt_bytes};
 ghost use Rattle.receipt.specs.Writer.{name_bytes, fact_bytes, attestation_of, write_refusal};
 
-use bigendian::put_u64;
-use hmac::tag;
-use octets::{bytes32, put};
-use receipt::{Facts, Name};
-use refusal::{Refusal, Worked};
+use bigendian::put_number;
+use hmac::tag_of;
+use octets::put;
+use receipt::{Facts, Name, RECEIPT};
+use refusal::{Hashed, Refusal, Refused};
 
 // Stores the name in bytes 0 to 5.
-fn put_name(out: &mut [u8], name: Name)
-    requires { length out.old ≡ 160 }
+#[tactic(auto, unfolding(receipt::specs::Writer::name_bytes, receipt::specs::Attestation::LOOKUP, receipt::specs::Attestation::END))]
+fn put_name(out: &mut [u8; 160], name: Name)
     ensures { out.new ≡ splice out.old 0 (name_bytes name) }
 {
     match name {
@@ -27,57 +27,54 @@ fn put_name(out: &mut [u8], name: Name)
 }
 
 // Writes bytes 0 to 31.
-fn put_facts(out: &mut [u8], f: Facts)
-    requires { length out.old ≡ 160 }
+fn put_facts(out: &mut [u8; 160], f: Facts)
     ensures { out.new ≡ splice out.old 0 (fact_bytes f) }
 {
-    let name = f.name;
-    put_name(out, name);
-    let kind_log = [f.kind, f.log];
-    put(out, 6, &kind_log);
-    put_u64(out, 8, f.keeper);
-    put_u64(out, 16, f.position);
-    put_u64(out, 24, f.reference);
+    put_name(out, f.name);
+    put(out, 6, &[f.kind, f.log]);
+    put_number::<8>(out, 8, f.keeper);
+    put_number::<8>(out, 16, f.position);
+    put_number::<8>(out, 24, f.reference);
 }
 
-// Writes bytes 0 to 127.
-fn put_attested(out: &mut [u8], f: Facts, nonce: &[u8], value: &[u8], digest: &[u8])
-    requires out_len { length out.old ≡ 160 }
-    requires nonce_len { (length nonce.now ≡ 32) × ((length value.now ≡ 32) × (length digest.now ≡ 32)) }
+// Writes bytes 0 to 127. Each part is first a local, which the compiler knows to overlap nothing: so it is a few moves.
+fn put_attested(
+    out: &mut [u8; 160],
+    f: Facts,
+    nonce: &[u8; 32],
+    value: &[u8; 32],
+    digest: &[u8; 32],
+)
     ensures { out.new ≡ splice out.old 0 (attested_bytes (attestation_of f nonce.now value.now digest.now)) }
 {
     put_facts(out, f);
-    let nonce_bytes = bytes32(nonce);
-    put(out, 32, &nonce_bytes);
-    let value_bytes = bytes32(value);
-    put(out, 64, &value_bytes);
-    let digest_bytes = bytes32(digest);
-    put(out, 96, &digest_bytes);
+    let nonce = *nonce;
+    put(out, 32, &nonce);
+    let value = *value;
+    put(out, 64, &value);
+    let digest = *digest;
+    put(out, 96, &digest);
 }
 
-// Writes the tag of bytes 0 to 127, the tag writer being lent bytes 128 to 159, and hands on the blocks that it hashed.
-fn put_tag(out: &mut [u8], key: &[u8]) -> u64
-    requires { (length out.old ≡ 160) × (length key.now ≡ 32) }
+// Writes the tag of bytes 0 to 127, and hands on the blocks that were hashed for it.
+fn put_tag(out: &mut [u8; 160], key: &[u8; 32]) -> u64
     ensures blocks { result ≡ 6 }
     ensures bytes { out.new ≡ splice out.old 128 (hmac key.now (part out.old 0 128)) }
 {
-    let mut attested = [0u8; 128];
-    put(&mut attested, 0, &out[0..128]);
-    let done = tag(key, &attested, &mut out[128..160]);
-    done.blocks()
+    let tag = tag_of(key, &out[0..128]);
+    put(out, 128, &tag.value);
+    tag.blocks
 }
 
 // Writes a receipt's 160 bytes, and hands on the blocks hashed for its tag; the caller has seen to the lengths.
 pub fn put_receipt(
-    out: &mut [u8],
-    key: &[u8],
+    out: &mut [u8; 160],
+    key: &[u8; 32],
     f: Facts,
-    nonce: &[u8],
-    value: &[u8],
-    digest: &[u8],
+    nonce: &[u8; 32],
+    value: &[u8; 32],
+    digest: &[u8; 32],
 ) -> u64
-    requires out_len { (length out.old ≡ 160) × (length key.now ≡ 32) }
-    requires nonce_len { (length nonce.now ≡ 32) × ((length value.now ≡ 32) × (length digest.now ≡ 32)) }
     ensures blocks { result ≡ 6 }
     ensures bytes { out.new ≡ receipt_bytes key.now (attestation_of f nonce.now value.now digest.now) }
 {
@@ -94,41 +91,16 @@ pub fn write(
     nonce: &[u8],
     value: &[u8],
     digest: &[u8],
-) -> Worked
+) -> Result<Hashed<()>, Refused>
     ensures answer { worked_number result ≡ answer_of (write_refusal key.now nonce.now value.now digest.now out.old) }
     ensures blocks { worked_blocks result ≡ afterwards (write_refusal key.now nonce.now value.now digest.now out.old) 6 0 }
     ensures bytes { out.new ≡ afterwards (write_refusal key.now nonce.now value.now digest.now out.old) (receipt_bytes key.now (attestation_of f nonce.now value.now digest.now)) out.old }
 {
-    if key.len() != 32 {
-        return Worked::Refused {
-            why: Refusal::Length,
-            blocks: 0,
-        };
-    }
-    if nonce.len() != 32 {
-        return Worked::Refused {
-            why: Refusal::Length,
-            blocks: 0,
-        };
-    }
-    if value.len() != 32 {
-        return Worked::Refused {
-            why: Refusal::Length,
-            blocks: 0,
-        };
-    }
-    if digest.len() != 32 {
-        return Worked::Refused {
-            why: Refusal::Length,
-            blocks: 0,
-        };
-    }
-    if out.len() != 160 {
-        return Worked::Refused {
-            why: Refusal::Length,
-            blocks: 0,
-        };
-    }
+    let key = key.as_array::<32>().ok_or(Refusal::Length)?;
+    let nonce = nonce.as_array::<32>().ok_or(Refusal::Length)?;
+    let value = value.as_array::<32>().ok_or(Refusal::Length)?;
+    let digest = digest.as_array::<32>().ok_or(Refusal::Length)?;
+    let out = out.as_mut_array::<160>().ok_or(Refusal::Length)?;
     let blocks = put_receipt(out, key, f, nonce, value, digest);
-    Worked::Done { blocks }
+    Ok(Hashed { value: (), blocks })
 }

@@ -1,2 +1,3 @@
+pub mod OnEnd
 pub mod Profiles
 pub mod RosterLaws

@@ -1,10 +1,8 @@
 -- Document 01: "A roster is N items of 40 bytes (keeper number 8, key 32), .. keeper numbers distinct." Document 02 [7]: "The roster
 -- must have N items, otherwise 12, and the rule that N be odd ends".
-use Rattle.std.specs.Prelude.{ℕ, zero, suc, ◌+◌, ◌*◌, ◌/◌, ◌%◌, ◌<◌, ◌≡◌, Bool, true, not, ◌&&◌, cond, List, length, eqb}
+use Rattle.std.specs.Prelude.{ℕ, zero, suc, ◌+◌, ◌*◌, ◌/◌, ◌%◌, ◌<◌, ◌≡◌, Bool, true, not, ◌&&◌, cond, Option, Some, None, List, length, eqb}
 use Rattle.bigendian.specs.BigEndian.{unbe}
 use Rattle.octets.specs.Octets.{part}
-use Rattle.roster.specs.declared.Found.{Found}
-use Rattle.roster.specs.declared.Found.TheVariants.{At, Nothing}
 
 -- the number of items
 unfoldable pub size : List ℕ → ℕ
@@ -19,9 +17,9 @@ unfoldable pub key_at : List ℕ → ℕ → List ℕ
 key_at roster i = part roster (i * 40 + 8) 32
 
 -- the item with the keeper number x among the first n
-unfoldable pub member : List ℕ → ℕ → ℕ → Found
-member roster x zero = Nothing
-member roster x (suc n) = cond (eqb (keeper_at roster n) x) (At n) (member roster x n)
+unfoldable pub member : List ℕ → ℕ → ℕ → Option ℕ
+member roster x zero = None
+member roster x (suc n) = cond (eqb (keeper_at roster n) x) (Some n) (member roster x n)
 
 -- none of the first n items has the keeper number x
 unfoldable pub absent : List ℕ → ℕ → ℕ → Bool

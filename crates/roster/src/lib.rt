@@ -1,89 +1,62 @@
 // The profile of a station, and the members of its roster.
 #![tactic(auto)]
 
-ghost use Rattle.std.specs.Prelude.{◌≡◌, ◌+◌, ◌*◌, ◌≤◌, length};
+ghost use Rattle.std.specs.Prelude.{◌≡◌, ◌+◌, ◌*◌, ◌≤◌, ◌<◌, true, false, length, MatchOption};
+ghost use Rattle.std.specs.List.{concat};
 ghost use Rattle.roster.specs.Profile.{permitted};
-ghost use Rattle.roster.specs.Roster.{keeper_at, member, absent, distinct, is_roster};
+ghost use Rattle.roster.specs.Roster.{keeper_at, key_at, member, absent, distinct, is_roster};
 
-use bigendian::get_u64;
+use bigendian::number_at;
 
-// A roster's item, or none.
-#[derive(Drop)]
-pub enum Found {
-    At(usize),
-    Nothing,
+// The keeper number of an item: its first 8 bytes. Its key is the 32 behind them.
+#[tactic(auto, unfolding(crate::specs::Roster::keeper_at))]
+fn keeper_of(item: &[u8; 40]) -> u64
+    ensures { result ≡ keeper_at item.now 0 }
+{
+    number_at::<8>(item, 0)
 }
 
-// The item with a keeper number, among the first n.
-pub fn find(roster: &[u8], n: usize, keeper: u64) -> Found
-    requires { n * 40 ≤ length roster.now }
-    ensures { result ≡ member roster.now keeper n }
+// The item with a keeper number.
+pub fn find(roster: &[[u8; 40]], keeper: u64) -> Option<usize>
+    ensures { result ≡ member (concat roster.now) keeper (length roster.now) }
 {
-    let mut i = n;
-    while 0 < i {
-        i -= 1;
-        if get_u64(roster, i * 40) == keeper {
-            return Found::At(i);
+    for i in (0..roster.len()).rev() {
+        if keeper_of(&roster[i]) == keeper {
+            return Some(i);
         }
     }
-    Found::Nothing
+    None
 }
 
-// Whether item i has a keeper number that no item before it has.
-fn is_new(roster: &[u8], i: usize) -> bool
-    requires { i * 40 + 40 ≤ length roster.now }
-    ensures { result ≡ absent roster.now (keeper_at roster.now i) i }
+// Whether no keeper number stands twice.
+fn are_distinct(roster: &[[u8; 40]]) -> bool
+    ensures { result ≡ distinct (concat roster.now) (length roster.now) }
 {
-    let keeper = get_u64(roster, i * 40);
-    if let Found::At(_) = find(roster, i, keeper) {
-        false
-    } else {
-        true
-    }
-}
-
-// Whether the first n keeper numbers are distinct.
-fn are_distinct(roster: &[u8], n: usize) -> bool
-    requires { n * 40 ≤ length roster.now }
-    ensures { result ≡ distinct roster.now n }
-{
-    let mut i = n;
-    while 0 < i {
-        i -= 1;
-        if !is_new(roster, i) {
+    for i in 0..roster.len() {
+        if find(&roster[..i], keeper_of(&roster[i])).is_some() {
             return false;
         }
     }
     true
 }
 
-// Whether a roster has so many members, with distinct keeper numbers.
-pub fn is_roster(members: u64, roster: &[u8]) -> bool
-    ensures { result ≡ is_roster members roster.now }
+// The items of a roster of so many members, with distinct keeper numbers.
+pub fn items(members: u64, roster: &[u8]) -> Option<&[[u8; 40]]>
+    ensures { MatchOption result (is_roster members roster.now ≡ false) (λ items. (is_roster members roster.now ≡ true) × (concat items.now ≡ roster.now)) }
 {
-    if roster.len() % 40 != 0 {
-        return false;
+    let (items, rest) = roster.as_chunks::<40>();
+    if rest.is_empty() && items.len() as u64 == members && are_distinct(items) {
+        Some(items)
+    } else {
+        None
     }
-    let n = roster.len() / 40;
-    if n as u64 != members {
-        return false;
-    }
-    are_distinct(roster, n)
 }
 
 // Whether a station of so many members may ask for the agreement of so many. What is needed is compared with the members first, so that its
 // double does not wrap.
+#[tactic(auto, unfolding(crate::specs::Profile::permitted))]
 pub fn is_permitted(members: u64, needed: u64) -> bool
     ensures { result ≡ permitted members needed }
 {
-    if members == 0 {
-        return false;
-    }
-    if 32 < members {
-        return false;
-    }
-    if members < needed {
-        return false;
-    }
-    members < 2 * needed
+    1 <= members && members <= 32 && needed <= members && members < 2 * needed
 }

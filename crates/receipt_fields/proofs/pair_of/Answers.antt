@@ -1,6 +1,7 @@
 -- `receipt_fields::pair_of` meets its contract.
+use Rattle.std.proofs.Common.{◌∙◌}
 use Rattle.receipt.proofs.Fields.{pair-bytes}
 use Rattle.receipt_fields.proofs.pair_of.Goals as goal
 
 pub returns : goal.returns
-returns c = pair-bytes c.args.r.now
+returns c = c.bytes.ensures ∙ pair-bytes c.args.r.now

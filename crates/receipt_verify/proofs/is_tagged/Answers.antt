@@ -1,10 +1,10 @@
 -- `receipt_verify::is_tagged` meets its contract.
-use mathlib.Core.Path.{ap, ap₂, ◌∙◌, ◌≡◌, refl}
+use Rattle.std.proofs.Common.{◌≡◌, refl, ap, ap₂, ◌∙◌, true, length, arith}
 use Rattle.hmac.specs.Hmac.{hmac}
 use Rattle.hmac.proofs.BlockLaws.{tag_six}
 use Rattle.octets.specs.Octets.{same}
+use Rattle.octets.proofs.Parts.{length_part}
 use Rattle.receipt.specs.Verdict.{is_tagged}
-use mathlib.Core.Bool.{true}
 use Rattle.refusal.specs.Unwritten.{unwritten, counts}
 use Rattle.receipt_verify.proofs.is_tagged.Code.Mir.{function}
 use Rattle.receipt_verify.proofs.is_tagged.Goals as goal
@@ -16,6 +16,6 @@ counted = refl
 pub returns : goal.returns
 unfolding is_tagged
 returns c = (
-  c.equal.ensures ∙ ap₂ same c.tag_of-carried.ensures (c.tag_of-tag.ensures.0 ∙ ap (hmac c.args.key.now) c.attested_of-attested.ensures.0),
-  c.tag_of-tag.ensures.1 ∙ tag_six c.args.key.now _ c.requires.0 c.attested_of-attested.ensures.1,
+  c.equal.ensures ∙ ap₂ same c.tag_of.ensures (c.tag_of-tag.ensures.0 ∙ ap (hmac c.args.key.now) c.attested_of.ensures),
+  c.tag_of-tag.ensures.1 ∙ tag_six c.args.key.now _ c.told-key (ap length c.attested_of.ensures ∙ length_part c.args.r.now 0 128 (omega (arith, c.told-r))),
 )

@@ -1,8 +1,7 @@
 -- `receipt_write::put_receipt` meets its contract.
+use Rattle.std.proofs.Common.{◌≡◌, refl, true}
 use Rattle.receipt.specs.Writer.{attestation_of}
 use Rattle.receipt.proofs.Writing.{tag-behind, written-length}
-use mathlib.Core.Path.{◌≡◌, refl}
-use mathlib.Core.Bool.{true}
 use Rattle.refusal.specs.Unwritten.{unwritten, counts}
 use Rattle.receipt_write.proofs.put_receipt.Code.Mir.{function}
 use Rattle.receipt_write.proofs.put_receipt.Goals as goal
@@ -11,7 +10,7 @@ use Rattle.receipt_write.proofs.put_receipt.Goals as goal
 pub counted : unwritten counts function.body ≡ true
 counted = refl
 
-pub returns : goal.returns
-returns c = let a = attestation_of c.args.f c.args.nonce.now c.args.value.now c.args.digest.now in
-    let size = written-length c.args.f c.args.nonce.now c.args.value.now c.args.digest.now c.requires.nonce_len.0 c.requires.nonce_len.1.0 c.requires.nonce_len.1.1 in
-    record { blocks = c.put_tag.ensures.blocks; bytes = tag-behind c.args.out.now c.args.key.now a c.requires.out_len.0 size c.put_attested.ensures c.put_tag.ensures.bytes }
+pub returns-clause-bytes : goal.returns-clause-bytes
+returns-clause-bytes c =
+    let size = written-length c.args.f c.args.nonce.now c.args.value.now c.args.digest.now c.told-nonce c.told-value c.told-digest in
+    tag-behind c.args.out.now c.args.key.now (attestation_of c.args.f c.args.nonce.now c.args.value.now c.args.digest.now) c.told-out size c.put_attested.ensures c.put_tag.ensures.bytes

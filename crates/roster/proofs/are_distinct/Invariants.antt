@@ -1,10 +1,8 @@
 use Rattle.roster.specs.Roster.{distinct}
-use Prim.Native.Nat.{◌≤◌}
-use mathlib.Core.Path.{◌≡◌}
-use Rattle.roster.proofs.are_distinct.Given as given
+use Rattle.std.specs.List.{concat}
+use Rattle.std.proofs.Common.{true, ◌≡◌}
+use Rattle.roster.proofs.are_distinct.Given as goal
 
-abbrev pub invariant-loop-i : given.invariant-loop-i
-invariant-loop-i l = (l.i ≤ l.n) × (distinct l.roster l.n ≡ distinct l.roster l.i)
-
-abbrev pub decreases-loop-i : given.decreases-loop-i
-decreases-loop-i l = l.i
+-- the keeper numbers up to here are distinct
+abbrev pub invariant-loop-i : goal.invariant-loop-i
+invariant-loop-i l = distinct (concat l.roster) l.i ≡ true

@@ -1,20 +1,16 @@
 -- `roster::find` meets its contract.
-use Rattle.roster.proofs.RosterLaws.{found, below, none}
-use Rattle.roster.specs.Roster.{keeper_at}
-use native.Mathlib.Omega.{arith}
-use mathlib.Core.Path.{refl, sym, ◌∙◌}
+use Rattle.roster.proofs.RosterLaws.{found, below, none, keeper-item}
+use Rattle.std.specs.List.{concat}
+use Rattle.std.proofs.Common.{sym, ◌∙◌, arith}
 use Rattle.roster.proofs.find.Goals as goal
 
-pub loop-i-init : goal.loop-i-init
-loop-i-init c = (omega arith, refl)
-
-pub returns-then-get_u64-keeper : goal.returns-then-get_u64-keeper
-unfolding keeper_at
-returns-then-get_u64-keeper c = found c.args.roster.now c.args.keeper c.args.n c.loop-i.i c.loop-i-test.true c.loop-i.invariant.1 (sym c.get_u64.ensures ∙ c.if-get_u64-keeper.true)
+pub returns-then-keeper_of-keeper : goal.returns-then-keeper_of-keeper
+returns-then-keeper_of-keeper c =
+    found (concat c.args.roster.now) c.args.keeper _ c.loop-i.i c.loop-i-test.true c.loop-i.invariant (sym (keeper-item c.args.roster.now c.told-roster _ (omega arith)) ∙ sym c.keeper_of.ensures ∙ c.if-keeper_of-keeper.true)
 
 pub loop-i-preserved : goal.loop-i-preserved
-unfolding keeper_at
-loop-i-preserved c = (omega arith, c.loop-i.invariant.1 ∙ below c.args.roster.now c.args.keeper c.loop-i.i c.loop-i-test.true (λ e. c.if-get_u64-keeper.false (c.get_u64.ensures ∙ e)))
+loop-i-preserved c =
+    c.loop-i.invariant ∙ below (concat c.args.roster.now) c.args.keeper c.loop-i.i c.loop-i-test.true (λ e. c.if-keeper_of-keeper.false (c.keeper_of.ensures ∙ keeper-item c.args.roster.now c.told-roster _ (omega arith) ∙ e))
 
 pub returns : goal.returns
-returns c = none c.args.roster.now c.args.keeper c.args.n c.loop-i.i c.loop-i-test.false c.loop-i.invariant.1
+returns c = none (concat c.args.roster.now) c.args.keeper _ c.loop-i.i c.loop-i-test.false c.loop-i.invariant

@@ -1,10 +1,7 @@
 use Rattle.roster.specs.Roster.{member}
-use Prim.Native.Nat.{◌≤◌}
-use mathlib.Core.Path.{◌≡◌}
-use Rattle.roster.proofs.find.Given as given
+use Rattle.std.specs.List.{concat}
+use Rattle.std.proofs.Common.{length, ◌≡◌}
+use Rattle.roster.proofs.find.Given as goal
 
-abbrev pub invariant-loop-i : given.invariant-loop-i
-invariant-loop-i l = (l.i ≤ l.n) × (member l.roster l.keeper l.n ≡ member l.roster l.keeper l.i)
-
-abbrev pub decreases-loop-i : given.decreases-loop-i
-decreases-loop-i l = l.i
+abbrev pub invariant-loop-i : goal.invariant-loop-i
+invariant-loop-i l = member (concat l.roster) l.keeper (length l.roster) ≡ member (concat l.roster) l.keeper l.i

@@ -1,8 +1,0 @@
--- `receipt_fields::digest_of` meets its contract.
-use Rattle.receipt.specs.Attestation.{read_attestation}
-use mathlib.Core.Path.{refl}
-use Rattle.receipt_fields.proofs.digest_of.Goals as goal
-
-pub returns : goal.returns
-unfolding read_attestation
-returns c = refl
