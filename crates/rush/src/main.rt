@@ -3,32 +3,35 @@
 
 ghost use Rattle.std.specs.Prelude.{◌≡◌, ◌≤◌, length};
 
-use program::{fail, has_arguments, large_buffer, read_full, write_out};
+use program::{buffer, fail, has_arguments, read_full, write_out};
 use std::io;
 use std::io::Write;
-use workload::Course;
+use workload::Script;
 
 // The bytes of an input that decide it: a line of 200, its newline, and one more.
 const INPUT: usize = 202;
 
-// Writes the first piece, which stands in the buffer, and then the lines, a buffer full at a time.
-fn send<W: Write>(output: &mut W, out: &mut [u8], first: Course) -> io::Result<()>
-    requires { (first.to ≤ length out.old) × (length out.old ≡ 65536) }
-{
-    let to = first.to;
-    if let Err(cut) = write_out(output, &out[..to]) {
-        return Err(cut.why);
+// Writes all of the bytes. Of a write that stopped, why is all that is told: how much was taken does not matter here.
+fn write<W: Write>(output: &mut W, bytes: &[u8]) -> io::Result<()> {
+    match write_out(output, bytes) {
+        Ok(()) => Ok(()),
+        Err(cut) => Err(cut.why),
     }
-    let mut state = first.state;
-    let mut left = first.left;
-    while 0 < left {
-        let c = workload_write::fill(out, state, left);
-        let e = c.to;
-        if let Err(cut) = write_out(output, &out[..e]) {
-            return Err(cut.why);
-        }
-        state = c.state;
-        left = c.left;
+}
+
+// Writes the first piece, which stands in the buffer up to a place, and then the lines of the script, a buffer full at a time.
+fn send<W: Write>(
+    output: &mut W,
+    out: &mut [u8],
+    first: usize,
+    mut script: Script,
+) -> io::Result<()>
+    requires { (first ≤ length out.old) × (length out.old ≡ 65536) }
+{
+    write(output, &out[..first])?;
+    while 0 < script.count {
+        let to = workload_write::fill(out, &mut script);
+        write(output, &out[..to])?;
     }
     Ok(())
 }
@@ -51,9 +54,9 @@ fn main(rt: HostRuntime) {
     match read_full(&mut rt.stdin(), &mut input) {
         Err(why) => fail(&mut rt.stderr(), b"rush: the input cannot be read", why),
         Ok(n) => {
-            let mut out = large_buffer();
-            let first = workload_write::begin(&input[..n], &mut out);
-            if let Err(why) = send(&mut output, &mut out, first) {
+            let mut out = buffer::<65536>();
+            let (script, first) = workload_write::begin(&input[..n], &mut out);
+            if let Err(why) = send(&mut output, &mut out, first, script) {
                 fail(&mut rt.stderr(), b"rush: the script cannot be written", why);
             }
         }

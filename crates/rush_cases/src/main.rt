@@ -3,17 +3,14 @@
 
 use program::buffer;
 use std::io;
-use workload::Course;
 
 // Writes the first piece and what a buffer holds of the lines.
 fn answer(rt: &impl Print, input: &[u8]) -> io::Result<()> {
-    let mut out = buffer();
-    let first = workload_write::begin(input, &mut out);
-    let to = first.to;
-    rt.write_all(&out[..to])?;
-    let c = workload_write::fill(&mut out, first.state, first.left);
-    let e = c.to;
-    rt.write_all(&out[..e])
+    let mut out = buffer::<4096>();
+    let (mut script, first) = workload_write::begin(input, &mut out);
+    rt.write_all(&out[..first])?;
+    let to = workload_write::fill(&mut out, &mut script);
+    rt.write_all(&out[..to])
 }
 
 // Writes a heading, and what is written for an input.

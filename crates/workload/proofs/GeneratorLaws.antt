@@ -1,15 +1,13 @@
 -- Laws of the draws.
 use Prim.Native.Nat.{ℕ, zero, suc, ◌*◌, ◌/◌, ◌%◌, ◌^◌, ◌<◌}
-use mathlib.Core.Path.{◌≡◌, refl, sym, ap, ap₂, ◌∙◌}
+use mathlib.Core.Path.{◌≡◌, refl}
 use mathlib.Core.Bool.{Bool, true, false, cond}
 use native.Mathlib.Omega.{arith}
 use native.Mathlib.Nat.{div-le_self}
 use lib.Bits.{xor_lt}
 use lib.Dec.{eqb, ltb}
-use borrow.Author.Tests.{lt-ltb}
-use Rattle.workload.specs.declared.Draw.TheVariants.{Append, Advance, Truncate, Lookup}
-use Rattle.workload.specs.declared.Drawn.{Drawn}
-use Rattle.workload.specs.Generator.{mix_left, mix_right, next, position_of, log_of, appended, advanced, truncated, looked_up, ended, picked, drawn, state_after, InRange}
+use Rattle.workload.specs.declared.Draw.TheVariants.{Append}
+use Rattle.workload.specs.Generator.{Drawn, mix_left, mix_right, next, appended, advanced, truncated, looked_up, ended, picked, drawn, state_after, InRange}
 
 -- "Seed 1 draws 1082269761, then 1152992998833853505: an append on log 1", of the value that it draws next
 pub seed-one : (next 1 ≡ 1082269761) × (next 1082269761 ≡ 1152992998833853505) × ((drawn 1).draw ≡ Append 1 11177516664432764457)
@@ -62,34 +60,3 @@ pub after-fits : (x k : ℕ) → x < 2 ^ 64 → state_after x k < 2 ^ 64
 unfolding state_after
 after-fits x zero h = h
 after-fits x (suc k) h = after-fits (drawn x).state k (state-fits x h)
-
--- ---- the cases of a pick, where a and g are the first two draws
-
-module _ (x a g : ℕ) (first : a ≡ next x) (second : g ≡ next a) where
-  as_picked : picked (a % 8) g ≡ drawn x
-  unfolding drawn
-  as_picked = ap₂ (λ (u v : ℕ). picked (u % 8) v) first (second ∙ ap next first)
-
-  of-kind : (k : ℕ) → a % 8 ≡ k → picked k g ≡ drawn x
-  of-kind k h = ap (λ (j : ℕ). picked j g) (sym h) ∙ as_picked
-
-  pub pick_end : a % 8 ≡ 7 → ended g ≡ drawn x
-  pick_end h = of-kind 7 h
-
-  module _ (d : ℕ) (third : d ≡ next g) where
-    pub pick-append : a % 8 < 4 → (record { draw = Append (log_of g) d; state = d }) ≡ drawn x
-    pick-append h =
-        let e : appended g ≡ picked (a % 8) g = rw (lt-ltb (a % 8) 4 h) in
-        ap {B = Drawn} (λ (y : ℕ). record { draw = Append (log_of g) y; state = y }) third ∙ e ∙ as_picked
-
-    pub pick-truncate : a % 8 ≡ 5 → (record { draw = Truncate (log_of g) (position_of d); state = d }) ≡ drawn x
-    pick-truncate h = ap {B = Drawn} (λ (y : ℕ). record { draw = Truncate (log_of g) (position_of y); state = y }) third ∙ of-kind 5 h
-
-    pub pick-lookup : a % 8 ≡ 6 → (record { draw = Lookup (log_of g) (position_of d); state = d }) ≡ drawn x
-    pick-lookup h = ap {B = Drawn} (λ (y : ℕ). record { draw = Lookup (log_of g) (position_of y); state = y }) third ∙ of-kind 6 h
-
-    pub pick-advance : (m v : ℕ) → m ≡ next d → v ≡ next m → a % 8 ≡ 4 → (record { draw = Advance (log_of g) (position_of d) m v; state = v }) ≡ drawn x
-    pick-advance m v p q h =
-        let f : ℕ → ℕ → ℕ → Drawn = λ (y z w : ℕ). record { draw = Advance (log_of g) (position_of y) z w; state = w } in
-        let e : m ≡ next (next g) = p ∙ ap next third in
-        ap (f d m) (q ∙ ap next e) ∙ ap₂ (λ (y z : ℕ). f y z (next (next (next g)))) third e ∙ of-kind 4 h

@@ -3,7 +3,7 @@ use Prim.Native.Nat.{ℕ, ◌≤◌, ◌<◌, ◌^◌}
 use mathlib.Core.Path.{◌≡◌, refl, sym, ap, ap₂, ◌∙◌}
 use mathlib.Core.Bool.{Bool, true, false, cond}
 use mathlib.Core.List.{List, [], ◌∷◌, ◌++◌, append_assoc, append-nil, map}
-use mathlib.Core.Option.{some}
+use Rattle.std.specs.Prelude.{Some}
 use native.Mathlib.Omega.{arith}
 use lib.Dec.{eqb, leb}
 use borrow.Author.Tests.{eq-eqb, ne_eqb, leb-true}
@@ -90,7 +90,7 @@ fields-text w (n ∷ ns) h b =
     parts-after 44 w (decimal_of n ++ numbers_text ns) h
     ∙ ap {B = List (List ℕ)} (λ (fs : List (List ℕ)). w ∷ fs) (fields-text (decimal_of n) ns (decimal-lacks 44 n (omega arith) b.0) b.1)
 
-pub numbers-back : (ns : List ℕ) → Below ns → numbers_of (map decimal_of ns) ≡ some ns
+pub numbers-back : (ns : List ℕ) → Below ns → numbers_of (map decimal_of ns) ≡ Some ns
 unfolding numbers_of
 numbers-back [] b = refl
 numbers-back (n ∷ ns) b = ap₂ before (parse-decimal n b.0) (numbers-back ns b.1)

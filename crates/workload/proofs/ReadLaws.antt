@@ -3,15 +3,15 @@ use Prim.Native.Nat.{ℕ, zero, suc, ◌≤◌, ◌<◌, ◌^◌}
 use mathlib.Core.Path.{◌≡◌, refl, ap, ap₂, ◌∙◌}
 use mathlib.Core.Bool.{true}
 use mathlib.Core.List.{List, [], ◌∷◌, ◌++◌, map}
-use mathlib.Core.Option.{Option, none, some}
+use Rattle.std.specs.Prelude.{Option, None, Some}
 use native.Mathlib.Omega.{arith}
 use lib.ListN.{length}
 use borrow.Author.Tests.{le-leb}
-use Rattle.octets.specs.Octets.{same}
+use Rattle.octets.specs.Octets.{same, zeros}
 use Rattle.line.specs.declared.Command.{Command}
 use Rattle.line.specs.Fields.{parts_of, fields_of}
 use Rattle.line.specs.Lines.{lines_of}
-use Rattle.line.specs.Command.{word_of, made, of_numbers, of_fields, command_of, reserves_in, numbers_in, reserves_of}
+use Rattle.line.specs.Command.{word_of, padded, of_numbers, of_fields, command_of, reserves_in, numbers_in, reserves_of}
 use Rattle.workload.specs.declared.Draw.{Draw}
 use Rattle.workload.specs.declared.Draw.TheVariants.{Append, Advance, Truncate, Lookup, End}
 use Rattle.workload.specs.Generator.{drawn, draws_from, InRange}
@@ -23,19 +23,19 @@ use Rattle.workload.proofs.PartLaws.{lacks, lacks-append, Below, numbers-lack, f
 
 -- a word and numbers
 module _ (w ns : List ℕ) (no : lacks 44 w ≡ true) (fit : Below ns) (short : length (w ++ numbers_text ns) ≤ 200) where
-  text-command : command_of (w ++ numbers_text ns) ≡ made (word_of w) (length ns) ns
+  text-command : command_of (w ++ numbers_text ns) ≡ of_numbers (word_of w) (Some ns)
   unfolding command_of
   text-command =
-      let e : of_fields (fields_of (w ++ numbers_text ns)) ≡ made (word_of w) (length ns) ns = ap of_fields (fields-text w ns no fit) ∙ ap (of_numbers (word_of w)) (numbers-back ns fit) in
+      let e : of_fields (fields_of (w ++ numbers_text ns)) ≡ of_numbers (word_of w) (Some ns) = ap of_fields (fields-text w ns no fit) ∙ ap (of_numbers (word_of w)) (numbers-back ns fit) in
       rw (le-leb (length (w ++ numbers_text ns)) 200 short) e
 
-  text-said : (c : Command) → made (word_of w) (length ns) ns ≡ c → said_by (w ++ numbers_text ns) ≡ (c, reserves_in c ns)
+  text-said : (c : Option Command) → of_numbers (word_of w) (Some ns) ≡ c → said_by (w ++ numbers_text ns) ≡ (c, reserves_in c ns)
   unfolding reserves_of
   text-said c h =
       let l : List ℕ = w ++ numbers_text ns in
       let p : command_of l ≡ c = text-command ∙ h in
-      let q : numbers_in (fields_of l) ≡ ns = ap numbers_in (fields-text w ns no fit) ∙ ap (λ (o : Option (List ℕ)). elim o [ none ↦ [] | some ms ↦ ms ]) (numbers-back ns fit) in
-      ap₂ {C = Said} (λ (x : Command) (y : List ℕ). (x, y)) p (ap₂ reserves_in p q)
+      let q : numbers_in (fields_of l) ≡ ns = ap numbers_in (fields-text w ns no fit) ∙ ap (λ (o : Option (List ℕ)). elim o [ None ↦ [] | Some ms ↦ ms ]) (numbers-back ns fit) in
+      ap₂ {C = Said} (λ (x : Option Command) (y : List ℕ). (x, y)) p (ap₂ reserves_in p q)
 
 -- the fields of a call in range are below 2^64
 fields-below : (d : Draw) → InRange d → Below (fields_in d)
@@ -54,7 +54,7 @@ word-lacks (Truncate g p) = (refl, refl)
 word-lacks (Lookup g p) = (refl, refl)
 word-lacks (End g) = (refl, refl)
 
-draw-made : (d : Draw) → made (word_of (word_text d)) (length (fields_in d)) (fields_in d) ≡ command_for d
+draw-made : (d : Draw) → of_numbers (word_of (word_text d)) (Some (fields_in d)) ≡ Some (command_for d)
 unfolding same
 draw-made (Append g v) = refl
 draw-made (Advance g p m v) = refl
@@ -62,7 +62,7 @@ draw-made (Truncate g p) = refl
 draw-made (Lookup g p) = refl
 draw-made (End g) = refl
 
-draw_reserves : (d : Draw) → reserves_in (command_for d) (fields_in d) ≡ []
+draw_reserves : (d : Draw) → reserves_in (Some (command_for d)) (fields_in d) ≡ []
 draw_reserves (Append g v) = refl
 draw_reserves (Advance g p m v) = refl
 draw_reserves (Truncate g p) = refl
@@ -72,8 +72,8 @@ draw_reserves (End g) = refl
 pub line_parses : (d : Draw) → InRange d → said_by (draw_line d) ≡ draw_said d
 unfolding draw_line
 line_parses d h =
-    text-said (word_text d) (fields_in d) (word-lacks d).0 (fields-below d h) (omega (arith, line-size d h)) (command_for d) (draw-made d)
-    ∙ ap {B = Said} (λ (rs : List ℕ). (command_for d, rs)) (draw_reserves d)
+    text-said (word_text d) (fields_in d) (word-lacks d).0 (fields-below d h) (omega (arith, line-size d h)) (Some (command_for d)) (draw-made d)
+    ∙ ap {B = Said} (λ (rs : List ℕ). (Some (command_for d), rs)) (draw_reserves d)
 
 line-lacks : (d : Draw) → InRange d → lacks 10 (draw_line d) ≡ true
 unfolding draw_line
@@ -84,7 +84,7 @@ unfolding lacks
 format-lacks = ap (lacks 10) format-text
 
 pub format_parses : said_by format_line ≡ format_said
-unfolding format_line same lacks
+unfolding format_line same lacks padded zeros
 format_parses =
     text-said (102 ∷ 111 ∷ 114 ∷ 109 ∷ 97 ∷ 116 ∷ []) (4 ∷ 32 ∷ 1 ∷ 0 ∷ 0 ∷ 0 ∷ 0 ∷ []) refl (omega arith, (omega arith, (omega arith, (omega arith, (omega arith, (omega arith, (omega arith, tt))))))) (omega (arith, ap length format-text)) _ refl
 

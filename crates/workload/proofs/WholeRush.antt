@@ -13,12 +13,10 @@ use Rattle.refusal.specs.Number.{number_of}
 use Rattle.decimal.specs.Decimal.{decimal_of}
 use Rattle.decimal.proofs.Theorems.{length-decimal}
 use Rattle.line.specs.Lines.{joined}
-use Rattle.workload.specs.declared.Asked.{Asked}
-use Rattle.workload.specs.declared.Asked.TheVariants.{Script, Refused}
-use Rattle.workload.specs.declared.Course.{Course}
+use Rattle.std.specs.Prelude.{Ok, Err}
 use Rattle.workload.specs.Generator.{state_after}
-use Rattle.workload.specs.Text.{lines_text, script_text, Fills, Follow}
-use Rattle.workload.specs.Asked.{asked_of, text_of, rush_text, first_text, course_of}
+use Rattle.workload.specs.Text.{Course, lines_text, script_text, Fills, Follow}
+use Rattle.workload.specs.Asked.{Asked, asked_of, text_of, rush_text, first_text, course_of}
 use Rattle.workload.proofs.TextLaws.{pieces, format-text}
 use Rattle.workload.proofs.AskedLaws.{asked-long}
 
@@ -75,16 +73,16 @@ fills_one out a b x k r s f g =
 
 -- what is written first has 22 bytes at most
 course-room : (a : Asked) → (course_of a).to ≤ 22
-course-room (Script seed count) = omega (arith, ap (λ (l : List ℕ). length (l ++ (10 ∷ []))) format-text)
-course-room (Refused why) = omega (arith, length-append (decimal_of (number_of why)) (10 ∷ []), length-decimal (number_of why))
+course-room (Ok s) = omega (arith, ap (λ (l : List ℕ). length (l ++ (10 ∷ []))) format-text)
+course-room (Err why) = omega (arith, length-append (decimal_of (number_of why)) (10 ∷ []), length-decimal (number_of why))
 
 pub begun-room : (text : List ℕ) (r : Course) → r ≡ course_of (asked_of text) → r.to ≤ 22
 begun-room text r e = subst (λ (x : Course). x.to ≤ 22) (sym e) (course-room (asked_of text))
 
 pub first_rest : (a : Asked) → first_text a ++ lines_text (course_of a).state (course_of a).left ≡ text_of a
 unfolding script_text lines_text
-first_rest (Script seed count) = refl
-first_rest (Refused why) = append-nil (first_text (Refused why))
+first_rest (Ok s) = refl
+first_rest (Err why) = append-nil (first_text (Err why))
 
 pub whole_rush : (text : List ℕ) (ps : List (List ℕ)) → Follow (course_of (asked_of text)).state (course_of (asked_of text)).left ps → first_text (asked_of text) ++ joined ps ≡ rush_text text
 unfolding rush_text

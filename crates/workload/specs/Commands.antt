@@ -1,5 +1,6 @@
 -- What the lines of a rush say to the script program.
-use Rattle.std.specs.Prelude.{ℕ, List, [], ◌∷◌}
+use Rattle.std.specs.Prelude.{ℕ, List, [], ◌∷◌, Option, Some}
+use Rattle.octets.specs.Octets.{zeros}
 use Rattle.line.specs.declared.Command.{Command}
 use Rattle.line.specs.declared.Command.TheVariants as command
 use Rattle.line.specs.Command.{command_of, reserves_of}
@@ -14,16 +15,16 @@ command_for (Truncate log position) = command.Truncate log position
 command_for (Lookup log position) = command.Lookup log position
 command_for (End log) = command.End log
 
--- what a line says by the script program's rules: a command, and reserves
+-- what a line says by the script program's rules: a command, if it is one, and reserves
 abbrev pub Said : Type 0
-Said = Command × List ℕ
+Said = Option Command × List ℕ
 
 abbrev pub said_by : List ℕ → Said
 said_by l = (command_of l, reserves_of l)
 
 -- "`format,4,32,1,0,0,0,0`"
 abbrev pub format_said : Said
-format_said = (command.Format 4 32 1, 0 ∷ 0 ∷ 0 ∷ 0 ∷ [])
+format_said = (Some (command.Format 4 32 1 (zeros 16)), 0 ∷ 0 ∷ 0 ∷ 0 ∷ [])
 
 abbrev pub draw_said : Draw → Said
-draw_said d = (command_for d, [])
+draw_said d = (Some (command_for d), [])

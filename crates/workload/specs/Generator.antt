@@ -1,9 +1,9 @@
 -- Document 02, [11]: the draws.
-use Rattle.std.specs.Prelude.{ℕ, zero, suc, ◌+◌, ◌*◌, ◌/◌, ◌%◌, ◌^◌, ◌≤◌, ◌<◌, cond, List, [], ◌∷◌, eqb, ltb}
+use Rattle.std.specs.Prelude.{◌≡◌, ℕ, zero, suc, ◌+◌, ◌*◌, ◌/◌, ◌%◌, ◌^◌, ◌≤◌, ◌<◌, cond, List, [], ◌∷◌, Option, None, Some, eqb, ltb}
 use Rattle.std.specs.Int.Bits.{bit_xor}
 use Rattle.workload.specs.declared.Draw.{Draw}
 use Rattle.workload.specs.declared.Draw.TheVariants.{Append, Advance, Truncate, Lookup, End}
-use Rattle.workload.specs.declared.Drawn.{Drawn}
+use Rattle.workload.specs.declared.Script.{Script}
 
 -- a state mixed with itself, shifted left or right
 abbrev pub mix_left : ℕ → ℕ → ℕ
@@ -15,6 +15,11 @@ mix_right n x = bit_xor x (x / 2 ^ n)
 -- "the 64-bit xorshift generator with shifts left 13, right 7, left 17; each draw is the state after a step"
 unfoldable pub next : ℕ → ℕ
 next x = mix_left 17 (mix_right 7 (mix_left 13 x))
+
+-- a call, and the state after its last draw
+pub record Drawn : Type 0 where
+  pub draw : Draw
+  pub state : ℕ
 
 -- "positions are the draw modulo 64, plus 1; values and digests are the whole draw"
 abbrev pub position_of : ℕ → ℕ
@@ -65,3 +70,16 @@ InRange (Advance log position digest value) = (log < 4) × (1 ≤ position) × (
 InRange (Truncate log position) = (log < 4) × (1 ≤ position) × (position ≤ 64)
 InRange (Lookup log position) = (log < 4) × (1 ≤ position) × (position ≤ 64)
 InRange (End log) = log < 4
+
+-- a script draws its next call, and the calls after it are a script again
+pub record Draws (s : Script) (d : Draw) (t : Script) : Type 0 where
+  pub some : 0 < s.count
+  pub draw : d ≡ (drawn s.seed).draw
+  pub ranged : InRange d
+  pub seed : t.seed ≡ (drawn s.seed).state
+  pub count : t.count + 1 ≡ s.count
+
+-- while one is left
+abbrev pub DrawsNext : Script → Option Draw → Script → Type 0
+DrawsNext s None t = (s.count ≡ 0) × (t ≡ s)
+DrawsNext s (Some d) t = Draws s d t

@@ -4,7 +4,7 @@ use Rattle.octets.specs.Octets.{splice}
 use Rattle.decimal.specs.Decimal.{decimal_of}
 use Rattle.workload.specs.declared.Draw.{Draw}
 use Rattle.workload.specs.declared.Draw.TheVariants.{Append, Advance, Truncate, Lookup, End}
-use Rattle.workload.specs.declared.Course.{Course}
+use Rattle.workload.specs.declared.Script.{Script}
 use Rattle.workload.specs.Generator.{drawn, state_after}
 
 -- each number after a comma
@@ -44,6 +44,15 @@ unfoldable pub script_text : ℕ → ℕ → List ℕ
 script_text seed n = (format_line ++ (10 ∷ [])) ++ lines_text seed n
 
 -- ---- in pieces
+
+-- a script that is written in pieces: the state and how many lines are left after a piece, and where the piece ends
+pub record Course : Type 0 where
+  pub state : ℕ
+  pub left : ℕ
+  pub to : ℕ
+
+abbrev pub course : Script → ℕ → Course
+course s to = record { state = s.seed; left = s.count; to = to }
 
 -- as many of the lines that are left as find room become r's piece: a line is put while 55 bytes, the longest line's, are free. This says how many they are
 -- (`WholeRush: fills_one`)

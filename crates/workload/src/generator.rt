@@ -1,61 +1,67 @@
 // The generator, and the calls drawn from it.
 ghost use Rattle.std.specs.Prelude.{◌≡◌};
-ghost use Rattle.workload.specs.Generator.{next, drawn};
+ghost use Rattle.workload.specs.Generator.{next, position_of, drawn};
 
-use crate::{Draw, Drawn};
+use crate::Draw;
 
-// The next draw, which is the next state. Shifts drop bits.
-pub fn next(x: u64) -> u64
-    ensures { result ≡ next x }
-{
-    let a = x ^ (x << 13);
-    let b = a ^ (a >> 7);
-    b ^ (b << 17)
+// Each draw is the state after it.
+#[derive(Clone, Copy)]
+pub struct Generator {
+    pub state: u64,
 }
 
-// The next call.
-pub fn pick(state: u64) -> Drawn
-    ensures { result ≡ drawn state }
-{
-    let first = next(state);
-    let kind = first % 8;
-    let g = next(first);
-    let log = g % 4;
-    if kind == 7 {
-        return Drawn {
-            draw: Draw::End { log },
-            state: g,
-        };
+impl Generator {
+    // The next draw. Shifts drop bits.
+    pub fn next(&mut self) -> u64
+        ensures draw { result ≡ next self.old.state }
+        ensures state { self.new.state ≡ next self.old.state }
+    {
+        let x = self.state;
+        let a = x ^ (x << 13);
+        let b = a ^ (a >> 7);
+        self.state = b ^ (b << 17);
+        self.state
     }
-    let d = next(g);
-    if kind < 4 {
-        return Drawn {
-            draw: Draw::Append { log, value: d },
-            state: d,
-        };
+
+    fn position(&mut self) -> u64
+        ensures position { result ≡ position_of (next self.old.state) }
+        ensures state { self.new.state ≡ next self.old.state }
+    {
+        self.next() % 64 + 1
     }
-    let position = d % 64 + 1;
-    if kind == 5 {
-        return Drawn {
-            draw: Draw::Truncate { log, position },
-            state: d,
-        };
-    }
-    if kind == 6 {
-        return Drawn {
-            draw: Draw::Lookup { log, position },
-            state: d,
-        };
-    }
-    let digest = next(d);
-    let value = next(digest);
-    Drawn {
-        draw: Draw::Advance {
-            log,
-            position,
-            digest,
-            value,
-        },
-        state: value,
+
+    // The next call.
+    pub fn pick(&mut self) -> Draw
+        ensures draw { result ≡ (drawn self.old.state).draw }
+        ensures state { self.new.state ≡ (drawn self.old.state).state }
+    {
+        let kind = self.next() % 8;
+        let log = self.next() % 4;
+        match kind {
+            0..=3 => Draw::Append {
+                log,
+                value: self.next(),
+            },
+            4 => {
+                let position = self.position();
+                let digest = self.next();
+                let value = self.next();
+                Draw::Advance {
+                    log,
+                    position,
+                    digest,
+                    value,
+                }
+            }
+            5 => Draw::Truncate {
+                log,
+                position: self.position(),
+            },
+            6 => Draw::Lookup {
+                log,
+                position: self.position(),
+            },
+            _ => Draw::End { log },
+        }
     }
 }

@@ -4,9 +4,8 @@
 mod generator;
 mod input;
 
-pub use generator::{next, pick};
+pub use generator::Generator;
 pub use input::ask;
-use refusal::Refusal;
 
 // A call that is drawn.
 #[derive(Clone, Copy)]
@@ -34,24 +33,31 @@ pub enum Draw {
     },
 }
 
-// A call, and the state after its last draw.
+// So many calls from a seed on. What is left of a script is one again, whose seed is the last draw.
 #[derive(Drop)]
-pub struct Drawn {
-    pub draw: Draw,
-    pub state: u64,
+pub struct Script {
+    pub seed: u64,
+    pub count: u64,
 }
 
-// What an input asks for.
-#[derive(Drop)]
-pub enum Asked {
-    Script { seed: u64, count: u64 },
-    Refused(Refusal),
-}
+impl Iterator for Script {
+    ghost use Rattle.std.specs.Iterator.{at_most};
+    ghost use Rattle.workload.specs.Generator.{DrawsNext};
 
-// A script that is written in pieces: the state and how many lines are left after a piece, and where the piece ends.
-#[derive(Drop)]
-pub struct Course {
-    pub state: u64,
-    pub left: u64,
-    pub to: usize,
+    type Item = Draw;
+
+    ghost next_gives = { DrawsNext };
+
+    ghost remaining = { λ s. at_most s.count };
+
+    fn next(&mut self) -> Option<Draw> {
+        if self.count == 0 {
+            return None;
+        }
+        let mut generator = Generator { state: self.seed };
+        let draw = generator.pick();
+        self.seed = generator.state;
+        self.count -= 1;
+        Some(draw)
+    }
 }

@@ -1,11 +1,12 @@
 -- Laws of the text as it is written.
-use Prim.Native.Nat.{ℕ, ◌+◌, ◌-◌, ◌≤◌, ◌<◌}
-use mathlib.Core.Path.{◌≡◌, refl, sym, ap, ap₂, subst, ◌∙◌}
+use Prim.Native.Nat.{ℕ, ◌+◌, ◌≤◌, ◌<◌}
+use mathlib.Core.Path.{◌≡◌, refl, sym, ap, ap₂, ◌∙◌}
 use mathlib.Core.List.{List, [], ◌∷◌, ◌++◌, append_assoc, append-nil}
 use native.Mathlib.Omega.{arith}
 use native.Mathlib.Numerals.{add-one}
 use lib.ListN.{length, take, drop, get_or, set, length-append}
-use lib.Seq.{take-suc, take-add}
+use lib.Seq.{take-suc}
+use Rattle.std.proofs.lemmas.List.{take-append-drop}
 use Rattle.refusal.specs.declared.Refusal.{Refusal}
 use Rattle.refusal.specs.Number.{number_of}
 use Rattle.octets.specs.Octets.{splice}
@@ -13,21 +14,11 @@ use Rattle.octets.proofs.Parts.{length-splice, splice-append, splice-byte}
 use Rattle.decimal.specs.Decimal.{decimal_of}
 use Rattle.decimal.proofs.Theorems.{length-decimal}
 use Rattle.workload.specs.declared.Draw.{Draw}
-use Rattle.workload.specs.declared.Asked.{Asked}
-use Rattle.workload.specs.declared.Asked.TheVariants.{Script, Refused}
-use Rattle.workload.specs.declared.Course.{Course}
-use Rattle.workload.specs.Text.{numbers_text, word_text, fields_in, draw_line, format_line}
-use Rattle.workload.specs.Asked.{first_text, course_of}
+use Rattle.std.specs.Prelude.{Ok, Err}
+use Rattle.workload.specs.declared.Script.{Script}
+use Rattle.workload.specs.Text.{course, numbers_text, word_text, fields_in, draw_line, format_line}
+use Rattle.workload.specs.Asked.{Asked, first_text, course_of}
 use Rattle.workload.proofs.TextLaws.{format-text}
-
--- ---- a word: the call is this one
-
-module _ (d d' : Draw) (is : d ≡ d') (at : ℕ) where
-  pub word_room : (n : ℕ) → at + length (word_text d) ≤ n → at + length (word_text d') ≤ n
-  word_room n h = subst (λ (x : Draw). at + length (word_text x) ≤ n) is h
-
-  pub word-put : (out out' : List ℕ) → out' ≡ splice out at (word_text d') → (at + length (word_text d') ≡ at + length (word_text d)) × (out' ≡ splice out at (word_text d))
-  word-put out out' h = (ap (λ (x : Draw). at + length (word_text x)) (sym is), h ∙ ap (λ (x : Draw). splice out at (word_text x)) (sym is))
 
 -- ---- one text after another, and a byte after that
 
@@ -48,17 +39,15 @@ line-put l w ns at e to room pe po pt pp =
       byte-after l (w ++ ns) at to 10 room (omega arith) (pp ∙ ap₂ (λ (y : List ℕ) (k : ℕ). splice y k ns) po pe ∙ splice-append l at w ns (omega arith)),
     )
 
--- the line of a call, whose fields are fs
 module _ (d : Draw) where
   pub call_length : length (draw_line d ++ (10 ∷ [])) ≡ length (word_text d) + length (numbers_text (fields_in d)) + 1
   unfolding draw_line
   call_length = omega (arith, length-append (word_text d ++ numbers_text (fields_in d)) (10 ∷ []), length-append (word_text d) (numbers_text (fields_in d)))
 
-  pub call-put : (l fs : List ℕ) (at e to : ℕ) {o p : List ℕ} → fs ≡ fields_in d → at + length (draw_line d ++ (10 ∷ [])) ≤ length l → e ≡ at + length (word_text d) → o ≡ splice l at (word_text d)
-      → to ≡ e + length (numbers_text fs) → p ≡ splice o e (numbers_text fs) → (to + 1 ≡ at + length (draw_line d ++ (10 ∷ []))) × (set p to 10 ≡ splice l at (draw_line d ++ (10 ∷ [])))
+  pub call-put : (l : List ℕ) (at e to : ℕ) {o p : List ℕ} → at + length (draw_line d ++ (10 ∷ [])) ≤ length l → e ≡ at + length (word_text d) → o ≡ splice l at (word_text d)
+      → to ≡ e + length (numbers_text (fields_in d)) → p ≡ splice o e (numbers_text (fields_in d)) → (to + 1 ≡ at + length (draw_line d ++ (10 ∷ []))) × (set p to 10 ≡ splice l at (draw_line d ++ (10 ∷ [])))
   unfolding draw_line
-  call-put l fs at e to {o} h room pe po pt pp =
-      line-put l (word_text d) (numbers_text (fields_in d)) at e to room pe po (pt ∙ ap (λ (x : List ℕ). e + length (numbers_text x)) h) (pp ∙ ap (λ (x : List ℕ). splice o e (numbers_text x)) h)
+  call-put l at e to = line-put l (word_text d) (numbers_text (fields_in d)) at e to
 
 -- ---- the numbers, one more each turn
 
@@ -82,35 +71,34 @@ numbers_more l i h =
     ∙ numbers-append (take i l) (get_or l i 0 ∷ [])
     ∙ ap (λ (x : List ℕ). numbers_text (take i l) ++ x) (numbers-one (get_or l i 0))
 
--- the first of them are no longer than more of them
-pub numbers-part : (l : List ℕ) (i k : ℕ) → i ≤ k → length (numbers_text (take i l)) ≤ length (numbers_text (take k l))
-numbers-part l i k h =
-    let z : k ≡ i + (k - i) = omega arith in
-    let e : numbers_text (take k l) ≡ numbers_text (take i l) ++ numbers_text (take (k - i) (drop i l)) =
-    ap (λ (j : ℕ). numbers_text (take j l)) z ∙ ap numbers_text (take-add i (k - i) l) ∙ numbers-append (take i l) (take (k - i) (drop i l)) in
-    omega (arith, ap length e, length-append (numbers_text (take i l)) (numbers_text (take (k - i) (drop i l))))
+-- the first of them are no longer than all
+pub numbers-part : (l : List ℕ) (i : ℕ) → length (numbers_text (take i l)) ≤ length (numbers_text l)
+numbers-part l i =
+    let e : numbers_text l ≡ numbers_text (take i l) ++ numbers_text (drop i l) = ap numbers_text (sym (take-append-drop i l)) ∙ numbers-append (take i l) (drop i l) in
+    omega (arith, ap length e, length-append (numbers_text (take i l)) (numbers_text (drop i l)))
 
 -- ---- what is written first
 
 format-bytes : (102 ∷ 111 ∷ 114 ∷ 109 ∷ 97 ∷ 116 ∷ 44 ∷ 52 ∷ 44 ∷ 51 ∷ 50 ∷ 44 ∷ 49 ∷ 44 ∷ 48 ∷ 44 ∷ 48 ∷ 44 ∷ 48 ∷ 44 ∷ 48 ∷ 10 ∷ []) ≡ format_line ++ (10 ∷ [])
 format-bytes = ap (λ (l : List ℕ). l ++ (10 ∷ [])) (sym format-text)
 
-pub script-first : (a : Asked) (seed count : ℕ) (out out' : List ℕ) → a ≡ Script seed count
+-- the format
+pub script-first : (a : Asked) (s : Script) (out out' : List ℕ) → a ≡ Ok s
     → out' ≡ splice out 0 (102 ∷ 111 ∷ 114 ∷ 109 ∷ 97 ∷ 116 ∷ 44 ∷ 52 ∷ 44 ∷ 51 ∷ 50 ∷ 44 ∷ 49 ∷ 44 ∷ 48 ∷ 44 ∷ 48 ∷ 44 ∷ 48 ∷ 44 ∷ 48 ∷ 10 ∷ [])
-    → ((record { state = seed; left = count; to = 22 }) ≡ course_of a) × (out' ≡ splice out 0 (first_text a))
-script-first a seed count out out' is h = (
-  ap {B = Course} (λ (l : List ℕ). record { state = seed; left = count; to = length l }) format-bytes ∙ ap course_of (sym is),
+    → (course s 22 ≡ course_of a) × (out' ≡ splice out 0 (first_text a))
+script-first a s out out' is h = (
+  ap (λ (l : List ℕ). course s (length l)) format-bytes ∙ ap course_of (sym is),
   h ∙ ap (splice out 0) (format-bytes ∙ ap first_text (sym is)),
 )
 
 -- n is the refusal's number
-pub refused-first : (a : Asked) (why : Refusal) (n to : ℕ) (out : List ℕ) {o : List ℕ} → a ≡ Refused why → n ≡ number_of why → 21 ≤ length out
+pub refused-first : (a : Asked) (why : Refusal) (n to : ℕ) (out : List ℕ) {o : List ℕ} → a ≡ Err why → n ≡ number_of why → 21 ≤ length out
     → to ≡ 0 + length (decimal_of n) → o ≡ splice out 0 (decimal_of n)
-    → ((record { state = 0; left = 0; to = to + 1 }) ≡ course_of a) × (set o to 10 ≡ splice out 0 (first_text a))
+    → (course (record { seed = 0; count = 0 }) (to + 1) ≡ course_of a) × (set o to 10 ≡ splice out 0 (first_text a))
 refused-first a why n to out is nr room p e =
     let s : length (decimal_of n ++ (10 ∷ [])) ≡ length (decimal_of n) + 1 = length-append (decimal_of n) (10 ∷ []) in
     let t : decimal_of n ++ (10 ∷ []) ≡ first_text a = ap (λ (k : ℕ). decimal_of k ++ (10 ∷ [])) nr ∙ ap first_text (sym is) in
     let q : to + 1 ≡ length (decimal_of (number_of why) ++ (10 ∷ [])) = omega (arith, ap (λ (k : ℕ). length (decimal_of k ++ (10 ∷ []))) nr) in (
-      ap {B = Course} (λ (k : ℕ). record { state = 0; left = 0; to = k }) q ∙ ap course_of (sym is),
+      ap (course (record { seed = 0; count = 0 })) q ∙ ap course_of (sym is),
       byte-after out (decimal_of n) 0 to 10 (omega (arith, length-decimal n)) p e ∙ ap (splice out 0) t,
     )

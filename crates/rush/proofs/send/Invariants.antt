@@ -1,8 +1,8 @@
 use Rattle.std.proofs.Common.{length, ◌≡◌}
 use Rattle.rush.proofs.send.Given as goal
 
-abbrev pub invariant-loop-left : goal.invariant-loop-left
-invariant-loop-left g l = length l.out ≡ 65536
+abbrev pub invariant-loop-script : goal.invariant-loop-script
+invariant-loop-script g l = length l.out ≡ 65536
 
-abbrev pub decreases-loop-left : goal.decreases-loop-left
-decreases-loop-left g l = l.left
+abbrev pub decreases-loop-script : goal.decreases-loop-script
+decreases-loop-script g l = l.script.count

@@ -2,6 +2,7 @@
 use Rattle.std.proofs.Common.{◌≤◌, refl, sym, [], ◌∷◌, arith}
 use lib.Seq.{length-take-le}
 use Rattle.octets.specs.Undivided.{Undivided}
+use Rattle.workload.specs.Text.{course}
 use Rattle.workload.proofs.WholeRush.{begun-room}
 use Rattle.rush_cases.proofs.answer.Code.Mir.{function}
 use Rattle.rush_cases.proofs.answer.Goals as goal
@@ -12,11 +13,11 @@ undivided = refl
 pub slice_bounds-out-end : goal.slice_bounds-out-end
 slice_bounds-out-end g c =
     let b = c.begin-first in
-    let k : b.result.to ≤ 22 = begun-room _ b.result b.ensures.value in
+    let k : b.result.1 ≤ 22 = begun-room _ (course b.result.0 b.result.1) b.ensures.value in
     omega (arith, b.auto.out, c.buffer-out.ensures)
 
 pub slice_bounds-write_all-end : goal.slice_bounds-write_all-end
 slice_bounds-write_all-end g c =
     let b = c.begin-first in
-    let k : b.result.to ≤ 22 = begun-room _ b.result b.ensures.value in
-    sym (length-take-le b.result.to b.new.out (omega (arith, b.auto.out, c.buffer-out.ensures)))
+    let k : b.result.1 ≤ 22 = begun-room _ (course b.result.0 b.result.1) b.ensures.value in
+    sym (length-take-le b.result.1 b.new.out (omega (arith, b.auto.out, c.buffer-out.ensures)))

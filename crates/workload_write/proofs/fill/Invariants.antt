@@ -1,10 +1,8 @@
-use mathlib.Core.Path.{◌≡◌}
-use lib.ListN.{length}
 use Rattle.workload_write.proofs.FillLaws.{Filling}
-use Rattle.workload_write.proofs.fill.Given as given
+use Rattle.workload_write.proofs.fill.Given as goal
 
-abbrev pub invariant-loop-n : given.invariant-loop-n
-invariant-loop-n l = Filling l.initial.out l.state l.left l.out l.x l.n l.to × (length l.out ≡ length l.initial.out)
+abbrev pub invariant-loop-out : goal.invariant-loop-out
+invariant-loop-out l = Filling l.initial.out l.initial.script l.out l.script l.to
 
-abbrev pub decreases-loop-n : given.decreases-loop-n
-decreases-loop-n l = l.n
+abbrev pub decreases-loop-out : goal.decreases-loop-out
+decreases-loop-out l = l.script.count

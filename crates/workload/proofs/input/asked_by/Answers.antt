@@ -1,8 +1,8 @@
 -- `workload::input::asked_by` meets its contract.
+use Rattle.std.proofs.Common.{arith}
+use Rattle.workload.proofs.AskedLaws.{other-count, no-seed, a-script}
 use mathlib.Core.List.{[]}
 use mathlib.Core.Path.{refl}
-use native.Mathlib.Omega.{arith}
-use Rattle.workload.proofs.AskedLaws.{too_few, too_many, no-seed, a-script}
 use Rattle.octets.specs.Undivided.{Undivided}
 use Rattle.workload.proofs.input.asked_by.Code.Mir.{function}
 use Rattle.workload.proofs.input.asked_by.Goals as goal
@@ -11,10 +11,7 @@ pub undivided : Undivided [] function
 undivided = refl
 
 pub returns-then-count-lt1 : goal.returns-then-count-lt1
-returns-then-count-lt1 c = too_few c.args.seed c.args.count (omega arith)
-
-pub returns-then-count-gt10000 : goal.returns-then-count-gt10000
-returns-then-count-gt10000 c = too_many c.args.seed c.args.count (omega arith) (omega arith)
+returns-then-count-lt1 c = other-count c.args.seed c.args.count c.then-count-lt1.either
 
 pub returns-then-seed-eq0 : goal.returns-then-seed-eq0
 returns-then-seed-eq0 c = no-seed c.args.seed c.args.count (omega arith) (omega arith) c.if-seed-eq0.true
