@@ -17,29 +17,28 @@ use Rattle.layout.proofs.TestLaws.{and_yes, and_no, and-not}
 use Rattle.layout.proofs.CellLaws.{slotted}
 use Rattle.layout.proofs.StrictCells.{length-strict, strict_are01}
 use Rattle.layout.proofs.Layout01Laws.{length_rows01, length_slots01, cells_are01}
-use Rattle.table.specs.declared.Walk.{Walk}
-use Rattle.table.specs.declared.Walk.TheVariants.{Met, Broken}
-use Rattle.table.specs.declared.Held.TheVariants as held
 use Rattle.table.specs.Free.{free_chain}
 use Rattle.table.specs.Walks.{walk_of, free_walk, held_walk}
 use Rattle.table.specs.WholeImage.{linked}
 use Rattle.table.specs.Whole01.{header_fits01, pads_fit01, whole01}
 use Rattle.table.proofs.LinkedLaws.{free-broken, rows-broken, free-met, not-all-met, all-met}
 use Rattle.table.proofs.StrictLaws.{pads-same, linked-pads}
+use Rattle.table.proofs.Found.{Walked, met_of, holding_of}
+use Rattle.std.proofs.Common.{None}
 
 module _ (b : List ℕ) where
   -- what the check answers
-  abbrev pub checked01 : Walk
+  abbrev pub checked01 : Walked
   checked01 = walk_of (whole01 b) (free_chain (read01 b))
 
-  torn : whole01 b ≡ false → Broken ≡ checked01
+  torn : whole01 b ≡ false → None ≡ checked01
   torn e = sym (ap (λ (t : Bool). walk_of t (free_chain (read01 b))) e)
 
-  torn-linked : linked (read01 b) ≡ false → Broken ≡ checked01
+  torn-linked : linked (read01 b) ≡ false → None ≡ checked01
   unfolding whole01
   torn-linked e = torn (and-not (header_fits01 b && pads_fit01 b) e)
 
-  pub torn-header01 : (t : Bool) → t ≡ header_fits01 b → not t ≡ true → Broken ≡ checked01
+  pub torn-header01 : (t : Bool) → t ≡ header_fits01 b → not t ≡ true → None ≡ checked01
   unfolding whole01
   torn-header01 t e h = torn (and_no _ (and_no _ (sym e ∙ not-true t h)))
 
@@ -48,11 +47,11 @@ module _ (b : List ℕ) where
     pads-as = ap₂ (λ (g s : ℕ). pads_from b (row_offset_in plan01 g) s) c.logs-are c.slots-are
 
     -- the walks read each slot with its zero byte, as in `CheckLaws`
-    unless : (pads_fit01 b ≡ true → Broken ≡ checked01) → Broken ≡ checked01
+    unless : (pads_fit01 b ≡ true → None ≡ checked01) → None ≡ checked01
     unfolding whole01
     unless f = go (pads_fit01 b) refl
       where
-        go : (t : Bool) → pads_fit01 b ≡ t → Broken ≡ checked01
+        go : (t : Bool) → pads_fit01 b ≡ t → None ≡ checked01
         go true e = f e
         go false e = torn (and_no _ (and-not (header_fits01 b) e))
 
@@ -67,13 +66,13 @@ module _ (b : List ℕ) where
       unfolding read01
       free-as p = ap₂ free_walk (same-slots p) is
 
-      pub torn-free01 : Broken ≡ free_walk (strict_from b (row_offset_in plan01 logs) slots) first → Broken ≡ checked01
+      pub torn-free01 : None ≡ free_walk (strict_from b (row_offset_in plan01 logs) slots) first → None ≡ checked01
       torn-free01 e = unless (λ p. torn-linked (free-broken (read01 b) (e ∙ free-as p)))
 
-      pub torn-held01 : (g : ℕ) → held.Broken ≡ held_walk (strict01 b) g → Broken ≡ checked01
+      pub torn-held01 : (g : ℕ) → None ≡ held_walk (strict01 b) g → None ≡ checked01
       torn-held01 g e = unless (λ p. torn-linked (rows-broken (read01 b) g (e ∙ held-as p g)))
 
-      module _ (count last n lack others g : ℕ) (free : Met count last ≡ free_walk (strict_from b (row_offset_in plan01 logs) slots) first) (held : held.Slots n lack others ≡ held_walk (strict01 b) g) where
+      module _ (count last n lack others g : ℕ) (free : met_of count last ≡ free_walk (strict_from b (row_offset_in plan01 logs) slots) first) (held : holding_of n lack others ≡ held_walk (strict01 b) g) where
         all-pads : count + n ≡ slots → pads_fit01 b ≡ true
         unfolding read01
         all-pads e =
@@ -86,20 +85,20 @@ module _ (b : List ℕ) where
         counted : length (read01 b).slots ≡ slots
         counted = length_slots01 b ∙ sym c.slots-are
 
-        missed : count + n ≢ slots → Broken ≡ checked01
+        missed : count + n ≢ slots → None ≡ checked01
         missed e = unless (λ p. torn-linked (not-all-met (read01 b) count last n lack others g (free ∙ free-as p) (held ∙ held-as p g) (λ q. e (q ∙ counted))))
 
-        pub torn-over01 : slots < n → Broken ≡ checked01
+        pub torn-over01 : slots < n → None ≡ checked01
         torn-over01 k = missed (λ q. omega arith)
 
-        pub torn-total01 : n ≤ slots → count ≢ slots - n → Broken ≡ checked01
+        pub torn-total01 : n ≤ slots → count ≢ slots - n → None ≡ checked01
         torn-total01 k e = missed (λ q. e (omega arith))
 
-        pub is-whole01 : (t : Bool) → t ≡ header_fits01 b → not t ≡ false → n ≤ slots → count ≡ slots - n → Met count last ≡ checked01
+        pub is-whole01 : (t : Bool) → t ≡ header_fits01 b → not t ≡ false → n ≤ slots → count ≡ slots - n → met_of count last ≡ checked01
         unfolding whole01
         is-whole01 t e q k z =
             let p : pads_fit01 b ≡ true = all-pads (omega arith) in
             let f = free-met (read01 b) count last (free ∙ free-as p) in
             let w : whole01 b ≡ true =
             and_yes _ (and_yes _ (sym e ∙ not-false t q) ∙ p) ∙ all-met (read01 b) count last n lack others g (free ∙ free-as p) (held ∙ held-as p g) (omega (arith, counted)) in
-            sym (ap (λ (t : Bool). walk_of t (free_chain (read01 b))) w ∙ ap₂ Met f.1 f.2)
+            sym (ap (λ (t : Bool). walk_of t (free_chain (read01 b))) w ∙ ap₂ met_of f.1 f.2)

@@ -1,33 +1,30 @@
--- Fresh rows, test by test as the code finds them.
-use mathlib.Core.Path.{◌≡◌, ◌∙◌}
-use mathlib.Core.Bool.{true, false, ◌&&◌}
-use borrow.Author.Tests.{eq-eqb, ne_eqb, eqb-true}
-use lib.Dec.{eqb}
+-- Fresh rows.
+use Rattle.std.proofs.Common.{◌≡◌, ◌∙◌, Bool, true, false, ◌&&◌, refl, ap, nat_eq, eq-eqb, eqb-true}
 use Rattle.layout.specs.declared.Row.{Row}
-use Rattle.layout.proofs.TestLaws.{and_yes, and_no, and-not, and_split}
+use Rattle.layout.specs.Image.{fresh_row}
+use Rattle.layout.proofs.TestLaws.{and_split}
 use Rattle.table.specs.WholeImage.{fresh}
 
+flat : (a b c d : Bool) {e : Bool} → e ≡ true → a && (b && (c && (d && e))) ≡ a && b && c && d
+flat false b c d h = refl
+flat true false c d h = refl
+flat true true false d h = refl
+flat true true true false h = refl
+flat true true true true h = h
+
 module _ (r : Row) where
-  pub fresh-low : (r.low ≡ 1 → ⊥) → fresh r ≡ false
+  -- the row is that of a log without entries, whatever its reserve
+  pub fresh-same : {k : Row} → k ≡ fresh_row r.reserve
+      → nat_eq r.low k.low && (nat_eq r.high k.high && (nat_eq r.first k.first && (nat_eq r.last k.last && nat_eq r.reserve k.reserve))) ≡ fresh r
   unfolding fresh
-  fresh-low h = and_no _ (and_no _ (and_no _ (ne_eqb r.low 1 h)))
-
-  pub fresh-high : (r.high ≡ 0 → ⊥) → fresh r ≡ false
-  unfolding fresh
-  fresh-high h = and_no _ (and_no _ (and-not (eqb r.low 1) (ne_eqb r.high 0 h)))
-
-  pub fresh-first : (r.first ≡ 0 → ⊥) → fresh r ≡ false
-  unfolding fresh
-  fresh-first h = and_no _ (and-not (eqb r.low 1 && eqb r.high 0) (ne_eqb r.first 0 h))
-
-  pub fresh-last : r.low ≡ 1 → r.high ≡ 0 → r.first ≡ 0 → fresh r ≡ eqb r.last 0
-  unfolding fresh
-  fresh-last h k l = and_yes _ (and_yes _ (and_yes _ (eq-eqb r.low 1 h) ∙ eq-eqb r.high 0 k) ∙ eq-eqb r.first 0 l)
+  fresh-same e =
+      ap (λ (k : Row). nat_eq r.low k.low && (nat_eq r.high k.high && (nat_eq r.first k.first && (nat_eq r.last k.last && nat_eq r.reserve k.reserve)))) e
+      ∙ flat (nat_eq r.low 1) (nat_eq r.high 0) (nat_eq r.first 0) (nat_eq r.last 0) (eq-eqb r.reserve r.reserve refl)
 
   -- a fresh row names no slot
   pub fresh-empty : fresh r ≡ true → (r.first ≡ 0) × (r.last ≡ 0)
   unfolding fresh
   fresh-empty e =
-      let s = and_split (eqb r.low 1 && eqb r.high 0 && eqb r.first 0) (eqb r.last 0) e in
-      let t = and_split (eqb r.low 1 && eqb r.high 0) (eqb r.first 0) s.0 in
+      let s = and_split (nat_eq r.low 1 && nat_eq r.high 0 && nat_eq r.first 0) (nat_eq r.last 0) e in
+      let t = and_split (nat_eq r.low 1 && nat_eq r.high 0) (nat_eq r.first 0) s.0 in
       (eqb-true r.first 0 t.1, eqb-true r.last 0 s.1)

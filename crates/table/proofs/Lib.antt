@@ -23,3 +23,5 @@ pub mod CarryLaws
 pub mod CarryFillLaws
 pub mod FormattedLaws
 pub mod ScreenLaws
+pub mod Found
+pub mod ModestLaws

@@ -7,14 +7,14 @@ use borrow.Author.Tests.{eq-eqb, ne_eqb}
 use lib.ListN.{length, length-append}
 use Rattle.layout.specs.Image.{Image}
 use Rattle.layout.proofs.TestLaws.{and_yes, and_no, and-not}
-use Rattle.table.specs.declared.Walk.TheVariants as walked
-use Rattle.table.specs.declared.Held.TheVariants as held
 use Rattle.table.specs.Chains.{last_of}
 use Rattle.table.specs.Free.{free_chain}
 use Rattle.table.specs.Reserve.{lack_but, lack_all}
 use Rattle.table.specs.Walks.{free_walk, held_walk}
 use Rattle.table.specs.WholeImage.{free_ok, rows_ok, held_by, meets, linked}
 use Rattle.table.proofs.HeldLaws.{walk_broken, walk-met, held_broken, held-slots}
+use Rattle.table.proofs.Found.{met_of, holding_of}
+use Rattle.std.proofs.Common.{None}
 
 module _ (m : Image) where
   -- the slots that all chains meet
@@ -22,25 +22,25 @@ module _ (m : Image) where
   unfolding meets
   length_meets = length-append (free_chain m) (held_by m.slots 0 m.rows)
 
-  pub free-broken : walked.Broken ≡ free_walk m.slots m.free → linked m ≡ false
+  pub free-broken : None ≡ free_walk m.slots m.free → linked m ≡ false
   unfolding free_ok
   free-broken e = and_no _ (and_no _ (walk_broken (free_ok m) (free_chain m) e))
 
-  pub rows-broken : (g : ℕ) → held.Broken ≡ held_walk m g → linked m ≡ false
+  pub rows-broken : (g : ℕ) → None ≡ held_walk m g → linked m ≡ false
   unfolding held_walk
   rows-broken g e = and_no _ (and-not (free_ok m) (held_broken (rows_ok m.slots 0 m.rows) (held_by m.slots 0 m.rows) (lack_all m) (lack_but m g) e))
 
-  pub free-met : (count last : ℕ) → walked.Met count last ≡ free_walk m.slots m.free → (free_ok m ≡ true) × (length (free_chain m) ≡ count) × (last_of (free_chain m) ≡ last)
+  pub free-met : (count last : ℕ) → met_of count last ≡ free_walk m.slots m.free → (free_ok m ≡ true) × (length (free_chain m) ≡ count) × (last_of (free_chain m) ≡ last)
   unfolding free_ok
   free-met count last e = walk-met (free_ok m) (free_chain m) count last e
 
-  pub rows-met : (n lack others g : ℕ) → held.Slots n lack others ≡ held_walk m g
+  pub rows-met : (n lack others g : ℕ) → holding_of n lack others ≡ held_walk m g
       → (rows_ok m.slots 0 m.rows ≡ true) × (length (held_by m.slots 0 m.rows) ≡ n) × (lack_all m ≡ lack) × (lack_but m g ≡ others)
   unfolding held_walk
   rows-met n lack others g e = held-slots (rows_ok m.slots 0 m.rows) (held_by m.slots 0 m.rows) (lack_all m) (lack_but m g) n lack others e
 
   -- "chain lengths together make S"
-  module _ (count last n lack others g : ℕ) (free : walked.Met count last ≡ free_walk m.slots m.free) (held : held.Slots n lack others ≡ held_walk m g) where
+  module _ (count last n lack others g : ℕ) (free : met_of count last ≡ free_walk m.slots m.free) (held : holding_of n lack others ≡ held_walk m g) where
     total : length (meets m) ≡ count + n
     total = length_meets ∙ ap₂ ◌+◌ (free-met count last free).1 (rows-met n lack others g held).1
 

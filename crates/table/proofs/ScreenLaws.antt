@@ -1,6 +1,6 @@
 -- What the screen reads off any bytes, whole or torn; and that no other mark is whole.
 use Prim.Native.Nat.{ℕ, ◌≤◌, ◌<◌}
-use mathlib.Core.Path.{◌≡◌, refl, ap, ◌∙◌}
+use mathlib.Core.Path.{◌≡◌, refl, sym, ap, ◌∙◌}
 use mathlib.Core.List.{List, [], ◌∷◌}
 use mathlib.Core.Bool.{Bool, true, false, not}
 use mathlib.Core.Logic.{◌≢◌}
@@ -16,8 +16,9 @@ use Rattle.refusal.specs.Order.{fault, first_fault}
 use Rattle.refusal.proofs.OrderLaws.{found_first, passes}
 use Rattle.layout.specs.Layout.{header_size, mark, stock_of, read_table}
 use Rattle.layout.specs.Tests.{marked}
-use Rattle.table.specs.declared.Screen.{Screen}
-use Rattle.table.specs.declared.Screen.TheVariants.{Free, Torn}
+use Rattle.std.proofs.Common.{Result, Ok, Err}
+use Rattle.refusal.specs.declared.Refusal.{Refusal}
+use Rattle.refusal.proofs.NumberLaws.{number_of-injective, number_of-positive}
 use Rattle.table.specs.Conditions.{Whole}
 use Rattle.table.specs.Free.{free_chain}
 use Rattle.table.specs.Whole.{whole}
@@ -70,8 +71,8 @@ module _ (b : List ℕ) where
       go false e = refl
 
 -- no two readings have one answer
-pub screen_answer-injective : (r s : Screen) → screen_answer r ≡ screen_answer s → r ≡ s
-screen_answer-injective (Free m) (Free n) e = let h : m ∷ [] ≡ n ∷ [] = ap (λ (a : Answer). a.values) e in cc
-screen_answer-injective (Free m) Torn e = absurd (let z : ◌≡◌ {A = ℕ} 0 1 = ap (λ (a : Answer). a.number) e in omega arith)
-screen_answer-injective Torn (Free n) e = absurd (let z : ◌≡◌ {A = ℕ} 1 0 = ap (λ (a : Answer). a.number) e in omega arith)
-screen_answer-injective Torn Torn e = refl
+pub screen_answer-injective : (r s : Result ℕ Refusal) → screen_answer r ≡ screen_answer s → r ≡ s
+screen_answer-injective (Ok m) (Ok n) e = let h : m ∷ [] ≡ n ∷ [] = ap (λ (a : Answer). a.values) e in cc
+screen_answer-injective (Ok m) (Err w) e = absurd (let z = ap (λ (a : Answer). a.number) e in let y = number_of-positive w in omega arith)
+screen_answer-injective (Err w) (Ok n) e = absurd (let z = ap (λ (a : Answer). a.number) e in let y = number_of-positive w in omega arith)
+screen_answer-injective (Err v) (Err w) e = ap Err (number_of-injective v w (ap (λ (a : Answer). a.number) e))

@@ -12,7 +12,6 @@ use Rattle.layout.specs.Image.{Image}
 use Rattle.layout.specs.Layout.{Stock, row_offset, logs_of, slots_of, read_table, stock_of, write_with}
 use Rattle.layout.specs.Fits.{Fits, StockFits, Formed}
 use Rattle.layout.proofs.TableLaws.{logs-written, slots-written, read-with, stock-with, formed-with, write_read as write-with}
-use Rattle.table.specs.declared.Check.TheVariants as check
 use Rattle.table.specs.Chains.{last_of}
 use Rattle.table.specs.Free.{free_chain, joint, stock_in, write_table}
 use Rattle.table.specs.Reserve.{lack_but}
@@ -24,6 +23,9 @@ use Rattle.layout.proofs.TestLaws.{and_yes, and_split}
 use Rattle.table.proofs.WalkLaws.{chain-short}
 use Rattle.table.proofs.LinkLaws.{chain-within}
 use Rattle.table.proofs.ConditionLaws.{constants_test, header_test, pads-test, whole_conditions}
+use Rattle.table.proofs.Found.{found_whole, whole-same}
+use Rattle.std.proofs.Common.{Err}
+use Rattle.refusal.specs.declared.Refusal.TheVariants.{Torn}
 
 pub whole_formed : (b : List ℕ) → whole b ≡ true → Formed b
 whole_formed b e = let w = whole_conditions b e in record { marked = w.marked; zero = w.zero; pads = w.pads; sized = w.sized }
@@ -99,21 +101,21 @@ written-whole m h r =
 
 -- what the check's answer tells
 
-checked_torn : (t : Bool) (c : List ℕ) (o : ℕ) → check.Torn ≡ checked t c o → t ≡ false
+checked_torn : (t : Bool) (c : List ℕ) (o : ℕ) → Err Torn ≡ checked t c o → t ≡ false
 unfolding checked
-checked_torn true c o e = absurd (let z : ◌≡◌ {A = ℕ} 0 1 = cc in omega arith)
+checked_torn true c o e = cc
 checked_torn false c o e = refl
 
-checked-whole : (t : Bool) (c : List ℕ) (o n last others : ℕ) → check.Whole n last others ≡ checked t c o → (t ≡ true) × (length c ≡ n) × (last_of c ≡ last) × (o ≡ others)
+checked-whole : (t : Bool) (c : List ℕ) (o n last others : ℕ) → found_whole n last others ≡ checked t c o → (t ≡ true) × (length c ≡ n) × (last_of c ≡ last) × (o ≡ others)
 unfolding checked
-checked-whole true c o n last others e = (refl, cc, cc, cc)
-checked-whole false c o n last others e = absurd (let z : ◌≡◌ {A = ℕ} 0 1 = cc in omega arith)
+checked-whole true c o n last others e = let s = whole-same (record { free = n; last = last; others = others }) (record { free = length c; last = last_of c; others = o }) e in (refl, sym s.0, sym s.1, sym s.2)
+checked-whole false c o n last others e = cc
 
-pub check_torn : (b : List ℕ) (g : ℕ) → check.Torn ≡ check_of b g → whole b ≡ false
+pub check_torn : (b : List ℕ) (g : ℕ) → Err Torn ≡ check_of b g → whole b ≡ false
 unfolding check_of
 check_torn b g e = checked_torn (whole b) (free_chain (read_table b)) (lack_but (read_table b) g) e
 
-pub check-whole : (b : List ℕ) (g n last others : ℕ) → check.Whole n last others ≡ check_of b g
+pub check-whole : (b : List ℕ) (g n last others : ℕ) → found_whole n last others ≡ check_of b g
     → (whole b ≡ true) × (length (free_chain (read_table b)) ≡ n) × (last_of (free_chain (read_table b)) ≡ last) × (lack_but (read_table b) g ≡ others)
 unfolding check_of
 check-whole b g n last others e = checked-whole (whole b) (free_chain (read_table b)) (lack_but (read_table b) g) n last others e

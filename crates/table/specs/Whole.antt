@@ -1,11 +1,12 @@
 -- Document 01, "A table is whole if ..", and the clauses of requests [1], [4] and (in `whole_image`) [5], as a test on bytes.
-use Rattle.std.specs.Prelude.{ℕ, List, [], ◌∷◌, Bool, true, false, not, ◌&&◌, length, eqb}
+use Rattle.std.specs.Prelude.{ℕ, List, [], ◌∷◌, Bool, true, false, not, ◌&&◌, length, eqb, Result, Ok, Err}
 use Rattle.std.proofs.Math.Option.{Option}
+use Rattle.refusal.specs.declared.Refusal.{Refusal}
+use Rattle.refusal.specs.declared.Refusal.TheVariants.{Torn}
 use Rattle.refusal.specs.Order.{fault, first_fault}
 use Rattle.layout.specs.Layout.{read_table, stock_of}
 use Rattle.layout.specs.Tests.{header_fits, pads_fit}
-use Rattle.table.specs.declared.Check.{Check}
-use Rattle.table.specs.declared.Check.TheVariants as variants
+use Rattle.table.specs.declared.Whole.{Whole}
 use Rattle.table.specs.Chains.{last_of}
 use Rattle.table.specs.Free.{free_chain, joint}
 use Rattle.table.specs.Reserve.{lack_but}
@@ -24,10 +25,10 @@ unfoldable pub whole_refusal : List ℕ → Option ℕ
 whole_refusal b = first_fault (fault 1 (not (whole b)) ∷ [])
 
 -- what the check inside finds: torn; or whole, with the number of free slots, the last of the free chain, and what the other logs lack of their reserves
-unfoldable pub checked : Bool → List ℕ → ℕ → Check
-checked true c others = variants.Whole (length c) (last_of c) others
-checked false c others = variants.Torn
+unfoldable pub checked : Bool → List ℕ → ℕ → Result Whole Refusal
+checked true c others = Ok (record { free = length c; last = last_of c; others = others })
+checked false c others = Err Torn
 
 -- the check for a call on log g
-unfoldable pub check_of : List ℕ → ℕ → Check
+unfoldable pub check_of : List ℕ → ℕ → Result Whole Refusal
 check_of b g = checked (whole b) (free_chain (read_table b)) (lack_but (read_table b) g)

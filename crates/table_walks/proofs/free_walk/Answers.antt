@@ -1,36 +1,29 @@
 -- `table_walks::free_walk` meets its contract.
-use mathlib.Core.Bool.{not}
-use Rattle.table.proofs.WalkLaws.{none-met}
-use Rattle.table.specs.Chains.{walk}
-use Rattle.layout.specs.Strict.{strict_from}
-use Rattle.layout.proofs.StrictCells.{length-strict}
-use Rattle.layout.specs.Image.{Slot}
-use mathlib.Core.List.{List}
-use native.Mathlib.Omega.{arith}
-use Prim.Native.Nat.{ℕ}
-use mathlib.Core.Path.{ap, ◌∙◌}
-use Rattle.table.proofs.WalkedLaws.{free_rest, free-first}
-use Rattle.table.proofs.TurnLaws.{free-end, free-long, free-out, free-owner, free-dirty, free_on}
+use Rattle.std.proofs.Common.{sym, ◌∙◌}
+use Rattle.table.proofs.TurnLaws.{free-begin, free-end, free-long, free-out, free-owner, free-dirty, free_on}
 use Rattle.table_walks.proofs.free_walk.Goals as goal
+use Rattle.table_walks.proofs.free_walk.Goals.{then-count-cells-via-then-count-cells, then-count-cells-via-else-count-cells+then-cells-s, then-link-ne0-via-then-link-ne0, then-link-ne0-via-else-link-ne0+then-not-is_blank}
 
 pub loop-s-init : goal.loop-s-init
-loop-s-init c = let S : List Slot = strict_from c.args.table.now c.args.start c.args.slots in
-    (omega arith, free-first S c.args.first ∙ ap (λ (k : ℕ). free_rest S 0 0 (walk S 0 k c.args.first)) (none-met c.args.table.now c.args.start c.args.slots))
+loop-s-init c = free-begin c.args.cells.table.now c.args.cells.start c.args.cells.slots c.args.first
 
-pub returns-then-n-slots : goal.returns-then-n-slots
-returns-then-n-slots c = free-long (strict_from c.args.table.now c.args.start c.args.slots) c.args.slots (length-strict c.args.table.now c.args.start c.args.slots) _ c.loop-s.n c.loop-s.last c.loop-s.s c.loop-s.invariant.1 c.loop-s-test.true c.if-n-slots.true
+pub returns-then-count-cells : goal.returns-then-count-cells
+returns-then-count-cells c =
+    elim c.then-count-cells.branch [
+      | then-count-cells-via-then-count-cells w ↦ free-long c.loop-s.invariant c.loop-s-test.true w.if-count-cells.true
+      | then-count-cells-via-else-count-cells+then-cells-s w ↦ free-out c.loop-s.invariant c.loop-s-test.true w.if-cells-s.true
+    ]
 
-pub returns-then-slots-s : goal.returns-then-slots-s
-returns-then-slots-s c = free-out (strict_from c.args.table.now c.args.start c.args.slots) c.args.slots (length-strict c.args.table.now c.args.start c.args.slots) _ c.loop-s.n c.loop-s.last c.loop-s.s c.loop-s.invariant.1 c.loop-s-test.true c.if-slots-s.true
-
-pub returns-then-l-ne0 : goal.returns-then-l-ne0
-returns-then-l-ne0 c = free-owner (strict_from c.args.table.now c.args.start c.args.slots) c.args.slots (length-strict c.args.table.now c.args.start c.args.slots) _ c.loop-s.n c.loop-s.last c.loop-s.s c.loop-s.invariant.1 c.loop-s-test.true c.strict_from-l.result c.strict_from-l.ensures c.if-slots-s.false c.if-l-ne0.true
-
-pub returns-then-not-blank_from : goal.returns-then-not-blank_from
-returns-then-not-blank_from c = free-dirty (strict_from c.args.table.now c.args.start c.args.slots) c.args.slots (length-strict c.args.table.now c.args.start c.args.slots) _ c.loop-s.n c.loop-s.last c.loop-s.s c.loop-s.invariant.1 c.loop-s-test.true c.strict_from-l.result c.strict_from-l.ensures c.if-slots-s.false c.if-l-ne0.false c.loop-s.invariant.0 c.if-n-slots.false c.blank_from.result c.blank_from.ensures (ap not c.if-not-blank_from.true)
+pub returns-then-link-ne0 : goal.returns-then-link-ne0
+returns-then-link-ne0 c =
+    elim c.then-link-ne0.branch [
+      | then-link-ne0-via-then-link-ne0 w ↦ free-owner c.loop-s.invariant c.loop-s-test.true c.link-link.result c.link-link.ensures c.if-cells-s.false w.if-link-ne0.true
+      | then-link-ne0-via-else-link-ne0+then-not-is_blank w ↦
+          free-dirty c.loop-s.invariant c.loop-s-test.true c.link-link.result c.link-link.ensures c.if-cells-s.false c.if-count-cells.false w.if-link-ne0.false (sym w.is_blank.ensures ∙ w.if-not-is_blank.true)
+    ]
 
 pub loop-s-preserved : goal.loop-s-preserved
-loop-s-preserved c = (omega arith, free_on (strict_from c.args.table.now c.args.start c.args.slots) c.args.slots (length-strict c.args.table.now c.args.start c.args.slots) _ c.loop-s.n c.loop-s.last c.loop-s.s c.loop-s.invariant.1 c.loop-s-test.true c.strict_from-l.result c.strict_from-l.ensures c.if-slots-s.false c.if-l-ne0.false c.loop-s.invariant.0 c.if-n-slots.false c.blank_from.result c.blank_from.ensures (ap not c.if-not-blank_from.false))
+loop-s-preserved c = free_on c.loop-s.invariant c.loop-s-test.true c.link-link.result c.link-link.ensures c.if-cells-s.false c.if-count-cells.false c.if-link-ne0.false (sym c.is_blank.ensures ∙ c.if-not-is_blank.false)
 
 pub returns : goal.returns
-returns c = free-end (strict_from c.args.table.now c.args.start c.args.slots) c.args.slots (length-strict c.args.table.now c.args.start c.args.slots) _ c.loop-s.n c.loop-s.last c.loop-s.s c.loop-s.invariant.1 c.loop-s-test.false
+returns c = free-end c.loop-s.invariant c.loop-s-test.false

@@ -1,13 +1,10 @@
-use Rattle.table.specs.Walks.{free_walk}
-use Rattle.table.specs.Chains.{walk}
+use Rattle.std.proofs.Common.{◌-◌}
 use Rattle.layout.specs.Strict.{strict_from}
-use Prim.Native.Nat.{◌≤◌, ◌-◌}
-use mathlib.Core.Path.{◌≡◌}
-use Rattle.table.proofs.WalkedLaws.{free_rest}
-use Rattle.table_walks.proofs.free_walk.Given as given
+use Rattle.table.proofs.TurnLaws.{FreeTurn}
+use Rattle.table_walks.proofs.free_walk.Given as goal
 
-abbrev pub invariant-loop-s : given.invariant-loop-s
-invariant-loop-s l = (l.n ≤ l.slots) × (free_walk (strict_from l.table l.start l.slots) l.first ≡ free_rest (strict_from l.table l.start l.slots) l.n l.last (walk (strict_from l.table l.start l.slots) 0 (l.slots - l.n) l.s))
+abbrev pub invariant-loop-s : goal.invariant-loop-s
+invariant-loop-s l = FreeTurn (strict_from l.cells.table.now l.cells.start l.cells.slots) l.cells.slots l.first l.count l.last l.s
 
-abbrev pub decreases-loop-s : given.decreases-loop-s
-decreases-loop-s l = l.slots - l.n
+abbrev pub decreases-loop-s : goal.decreases-loop-s
+decreases-loop-s l = l.cells.slots - l.count
