@@ -20,6 +20,7 @@ use Rattle.workload.specs.Commands.{command_for, Said, said_by, format_said, dra
 use Rattle.workload.proofs.GeneratorLaws.{draw_ranges, state-fits}
 use Rattle.workload.proofs.TextLaws.{line-size, format-text}
 use Rattle.workload.proofs.PartLaws.{lacks, lacks-append, Below, numbers-lack, fields-text, numbers-back, lines_after}
+use Rattle.std.specs.Prelude.{codes}
 
 -- a word and numbers
 module _ (w ns : List ℕ) (no : lacks 44 w ≡ true) (fit : Below ns) (short : length (w ++ numbers_text ns) ≤ 200) where
@@ -86,7 +87,7 @@ format-lacks = ap (lacks 10) format-text
 pub format_parses : said_by format_line ≡ format_said
 unfolding format_line same lacks padded zeros
 format_parses =
-    text-said (102 ∷ 111 ∷ 114 ∷ 109 ∷ 97 ∷ 116 ∷ []) (4 ∷ 32 ∷ 1 ∷ 0 ∷ 0 ∷ 0 ∷ 0 ∷ []) refl (omega arith, (omega arith, (omega arith, (omega arith, (omega arith, (omega arith, (omega arith, tt))))))) (omega (arith, ap length format-text)) _ refl
+    text-said (codes "format") (4 ∷ 32 ∷ 1 ∷ 0 ∷ 0 ∷ 0 ∷ 0 ∷ []) refl (omega arith, (omega arith, (omega arith, (omega arith, (omega arith, (omega arith, (omega arith, tt))))))) (omega (arith, ap length format-text)) _ refl
 
 -- ---- the whole script
 

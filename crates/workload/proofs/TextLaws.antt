@@ -14,6 +14,7 @@ use Rattle.workload.specs.declared.Draw.TheVariants.{Append, Advance, Truncate, 
 use Rattle.workload.specs.Generator.{drawn, state_after, InRange}
 use Rattle.workload.specs.Text.{numbers_text, word_text, draw_line, lines_text, format_line}
 use Rattle.workload.proofs.GeneratorLaws.{draw_ranges}
+use Rattle.std.specs.Prelude.{codes}
 
 -- ---- in pieces
 
@@ -91,6 +92,6 @@ pub drawn-size : (x : ℕ) → x < 2 ^ 64 → length (draw_line (drawn x).draw +
 drawn-size x h = omega (arith, length-append (draw_line (drawn x).draw) (10 ∷ []), line-size (drawn x).draw (draw_ranges x h))
 
 -- "format,4,32,1,0,0,0,0" in ASCII
-pub format-text : format_line ≡ 102 ∷ 111 ∷ 114 ∷ 109 ∷ 97 ∷ 116 ∷ 44 ∷ 52 ∷ 44 ∷ 51 ∷ 50 ∷ 44 ∷ 49 ∷ 44 ∷ 48 ∷ 44 ∷ 48 ∷ 44 ∷ 48 ∷ 44 ∷ 48 ∷ []
+pub format-text : format_line ≡ codes "format,4,32,1,0,0,0,0"
 unfolding format_line numbers_text decimal_of Rattle.decimal.specs.Decimal.decimal_from Rattle.decimal.specs.Decimal.digits_of
 format-text = refl

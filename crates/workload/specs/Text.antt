@@ -1,5 +1,5 @@
 -- Document 02, [11]: "writes a script: first `format,4,32,1,0,0,0,0`, then that many lines".
-use Rattle.std.specs.Prelude.{ℕ, zero, suc, ◌-◌, ◌+◌, ◌≤◌, ◌<◌, ◌≡◌, ◌⊎◌, List, [], ◌∷◌, ◌++◌, length}
+use Rattle.std.specs.Prelude.{ℕ, zero, suc, ◌-◌, ◌+◌, ◌≤◌, ◌<◌, ◌≡◌, ◌⊎◌, List, [], ◌∷◌, ◌++◌, length, codes}
 use Rattle.octets.specs.Octets.{splice}
 use Rattle.decimal.specs.Decimal.{decimal_of}
 use Rattle.workload.specs.declared.Draw.{Draw}
@@ -12,13 +12,13 @@ unfoldable pub numbers_text : List ℕ → List ℕ
 numbers_text [] = []
 numbers_text (n ∷ ns) = (44 ∷ decimal_of n) ++ numbers_text ns
 
--- the word of a call, in ASCII
+-- the word of a call
 abbrev pub word_text : Draw → List ℕ
-word_text (Append log value) = 97 ∷ 112 ∷ 112 ∷ 101 ∷ 110 ∷ 100 ∷ []
-word_text (Advance log position digest value) = 97 ∷ 100 ∷ 118 ∷ 97 ∷ 110 ∷ 99 ∷ 101 ∷ []
-word_text (Truncate log position) = 116 ∷ 114 ∷ 117 ∷ 110 ∷ 99 ∷ 97 ∷ 116 ∷ 101 ∷ []
-word_text (Lookup log position) = 108 ∷ 111 ∷ 111 ∷ 107 ∷ 117 ∷ 112 ∷ []
-word_text (End log) = 101 ∷ 110 ∷ 100 ∷ []
+word_text (Append log value) = codes "append"
+word_text (Advance log position digest value) = codes "advance"
+word_text (Truncate log position) = codes "truncate"
+word_text (Lookup log position) = codes "lookup"
+word_text (End log) = codes "end"
 
 -- its fields, in document 01's order
 abbrev pub fields_in : Draw → List ℕ
@@ -36,9 +36,9 @@ unfoldable pub lines_text : ℕ → ℕ → List ℕ
 lines_text x zero = []
 lines_text x (suc k) = (draw_line (drawn x).draw ++ (10 ∷ [])) ++ lines_text (drawn x).state k
 
--- "format", in ASCII, and its numbers
+-- the word format, and its numbers
 unfoldable pub format_line : List ℕ
-format_line = (102 ∷ 111 ∷ 114 ∷ 109 ∷ 97 ∷ 116 ∷ []) ++ numbers_text (4 ∷ 32 ∷ 1 ∷ 0 ∷ 0 ∷ 0 ∷ 0 ∷ [])
+format_line = codes "format" ++ numbers_text (4 ∷ 32 ∷ 1 ∷ 0 ∷ 0 ∷ 0 ∷ 0 ∷ [])
 
 unfoldable pub script_text : ℕ → ℕ → List ℕ
 script_text seed n = (format_line ++ (10 ∷ [])) ++ lines_text seed n

@@ -19,6 +19,7 @@ use Rattle.workload.specs.declared.Script.{Script}
 use Rattle.workload.specs.Text.{course, numbers_text, word_text, fields_in, draw_line, format_line}
 use Rattle.workload.specs.Asked.{Asked, first_text, course_of}
 use Rattle.workload.proofs.TextLaws.{format-text}
+use Rattle.std.specs.Prelude.{codes}
 
 -- ---- one text after another, and a byte after that
 
@@ -79,12 +80,12 @@ numbers-part l i =
 
 -- ---- what is written first
 
-format-bytes : (102 ∷ 111 ∷ 114 ∷ 109 ∷ 97 ∷ 116 ∷ 44 ∷ 52 ∷ 44 ∷ 51 ∷ 50 ∷ 44 ∷ 49 ∷ 44 ∷ 48 ∷ 44 ∷ 48 ∷ 44 ∷ 48 ∷ 44 ∷ 48 ∷ 10 ∷ []) ≡ format_line ++ (10 ∷ [])
+format-bytes : (codes "format,4,32,1,0,0,0,0" ++ (10 ∷ [])) ≡ format_line ++ (10 ∷ [])
 format-bytes = ap (λ (l : List ℕ). l ++ (10 ∷ [])) (sym format-text)
 
 -- the format
 pub script-first : (a : Asked) (s : Script) (out out' : List ℕ) → a ≡ Ok s
-    → out' ≡ splice out 0 (102 ∷ 111 ∷ 114 ∷ 109 ∷ 97 ∷ 116 ∷ 44 ∷ 52 ∷ 44 ∷ 51 ∷ 50 ∷ 44 ∷ 49 ∷ 44 ∷ 48 ∷ 44 ∷ 48 ∷ 44 ∷ 48 ∷ 44 ∷ 48 ∷ 10 ∷ [])
+    → out' ≡ splice out 0 (codes "format,4,32,1,0,0,0,0" ++ (10 ∷ []))
     → (course s 22 ≡ course_of a) × (out' ≡ splice out 0 (first_text a))
 script-first a s out out' is h = (
   ap (λ (l : List ℕ). course s (length l)) format-bytes ∙ ap course_of (sym is),

@@ -17,5 +17,5 @@ returns-clause-steps c =
       draw = pick.draw;
       ranged = rw pick.draw (draw_ranges c.args.self.now.seed (omega arith));
       seed = pick.state;
-      count = omega arith
+      count = omega arith;
     }
