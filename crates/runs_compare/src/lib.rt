@@ -59,15 +59,15 @@ fn put_block(out: &mut [u8], at: usize, run: &WholeRun, k: usize, digest: &[u8; 
 }
 
 // The verdict of a pass; the buffer is touched by a collision alone.
-fn conclude(scan: &Scan, one: &WholeRun, two: &WholeRun, out: &mut [u8]) -> Comparison
+fn conclude(scan: Scan, one: &WholeRun, two: &WholeRun, out: &mut [u8]) -> Comparison
     requires out_len { length out.old ≡ 144 }
-    requires in_runs { IfSome scan.now.unequal (λ p. (p.at1 < count (whole one.now)) × (p.at2 < count (whole two.now))) }
-    ensures { (result ≡ concluded scan.now) × (out.new ≡ left_in (whole one.now) (whole two.now) scan.now out.old) }
+    requires in_runs { IfSome scan.unequal (λ p. (p.at1 < count (whole one.now)) × (p.at2 < count (whole two.now))) }
+    ensures { (result ≡ concluded scan) × (out.new ≡ left_in (whole one.now) (whole two.now) scan out.old) }
 {
     if !equal(&scan.digest1, &scan.digest2) {
         return Comparison::Differ;
     }
-    let Some(pair) = &scan.unequal else {
+    let Some(pair) = scan.unequal else {
         return Comparison::Agree;
     };
     put_block(out, 0, one, pair.at1, &pair.before1);
@@ -94,9 +94,7 @@ pub fn compare(one: Run, two: Run, out: &mut [u8]) -> Result<Hashed<Comparison>,
     let one = whole_run(start1, one.first, one.values)?;
     let two = whole_run(start2, two.first, two.values)?;
     let scan = pass(&one, &two);
-    let value = conclude(&scan, &one, &two, out);
-    Ok(Hashed {
-        value,
-        blocks: scan.blocks,
-    })
+    let blocks = scan.blocks;
+    let value = conclude(scan, &one, &two, out);
+    Ok(Hashed { value, blocks })
 }
