@@ -62,28 +62,40 @@ hooked-joined slots t last x n = go (eqb last 0)
     go true = refl
     go false = ap (λ (y : Slot). set_slot (set_slot slots t x) last (with_next y t)) (slot_at-other slots last t x n)
 
-module _ (b : List ℕ) (v : View) (after : Row) (x d : List ℕ) (o : Opened b v) (bytes : Bytes b) (some : 1 ≤ v.free)
-    (rowed : after ≡ advanced_row v.row after.high v.free) (high : after.high < 2 ^ 64) (lx : length x ≡ 32) (ld : length d ≡ 32) where
+-- what holds as an entry enters log v.log of the table b: its value and digest, and the row after it
+pub record Entering (b : List ℕ) (v : View) (after : Row) (x d : List ℕ) : Type 0 where
+  pub opened : Opened b v
+  pub bytes : Bytes b
+  pub free : 1 ≤ v.free
+  pub rowed : after ≡ advanced_row v.row after.high v.free
+  pub high : after.high < 2 ^ 64
+  pub value : length x ≡ 32
+  pub digest : length d ≡ 32
+
+module _ {b : List ℕ} {v : View} {after : Row} {x d : List ℕ} (E : Entering b v after x d) where
+  o : Opened b v
+  o = E.opened
+
   abbrev slot : Slot
   slot = slot_of (v.log + 1) 0 after.high x d
 
   pub slot-good : SlotFits (slot_of (v.log + 1) 0 after.high x d)
-  slot-good = let h = opened-holds b v o bytes in let l = opened-log b v o in let m = h.logs-most in record { owner = omega arith; next = omega arith; position = high; value = lx; digest = ld }
+  slot-good = let h = opened-holds b v o E.bytes in let l = opened-log b v o in let m = h.logs-most in record { owner = omega arith; next = omega arith; position = E.high; value = E.value; digest = E.digest }
 
   pub row-good : RowFits after
   unfolding advanced_row
   row-good =
-      let h = opened-holds b v o bytes in
+      let h = opened-holds b v o E.bytes in
       let r : RowFits v.row = subst RowFits (sym (view-row b v o)) (h.fits.rows v.log) in
       let f : v.free < 256 ^ 2 = let p = free-most b v o in let q = h.slots-most in omega arith in
-      subst RowFits (sym rowed) (record { low = r.low; high = high; first = first_fits v.row.last v.row.first v.free r.first f; last = f; reserve = r.reserve })
+      subst RowFits (sym E.rowed) (record { low = r.low; high = E.high; first = first_fits v.row.last v.row.first v.free r.first f; last = f; reserve = r.reserve })
 
-  pub next-good : (l : Link) → l ≡ link_of (slot_at (read_table b).slots v.free) → l.next < 65536
-  next-good l e = let h = opened-holds b v o bytes in let q = (slot-fits (read_table b).slots h.fits.slots v.free).next in omega (arith, ap (λ (y : Link). y.next) e)
+  pub next-good : {l : Link} → l ≡ link_of (slot_at (read_table b).slots v.free) → l.next < 65536
+  next-good {l} e = let h = opened-holds b v o E.bytes in let q = (slot-fits (read_table b).slots h.fits.slots v.free).next in omega (arith, ap (λ (y : Link). y.next) e)
 
   -- after each write
-  pub held-1 : (b₁ : List ℕ) → b₁ ≡ put_slot b v.free slot → Holds b₁ (stock_of b) (with_slot (read_table b) v.free slot) v.logs v.slots
-  held-1 b₁ e = holds-slot b (stock_of b) (read_table b) v.logs v.slots (opened-holds b v o bytes) b₁ v.free slot e some (free-most b v o) slot-good
+  pub held-1 : {b₁ : List ℕ} → b₁ ≡ put_slot b v.free slot → Holds b₁ (stock_of b) (with_slot (read_table b) v.free slot) v.counts.logs v.counts.slots
+  held-1 {b₁} e = holds-slot b (stock_of b) (read_table b) v.counts.logs v.counts.slots (opened-holds b v o E.bytes) b₁ v.free slot e E.free (free-most b v o) slot-good
 
   -- the free chain begins with the slot that is taken
   rest : (q : List ℕ) × (free_chain (read_table b) ≡ (read_table b).free ∷ q)
@@ -101,14 +113,14 @@ module _ (b : List ℕ) (v : View) (after : Row) (x d : List ℕ) (o : Opened b 
   pub some-free : 1 ≤ v.count
   some-free = omega (arith, view-count b v o, ap length rest.1)
 
-  pub held-2 : (b₁ b₂ : List ℕ) → b₁ ≡ put_slot b v.free slot → b₂ ≡ hooked b₁ v.row.last v.free → Holds b₂ (stock_of b) (with_slots (read_table b) (joined (read_table b).slots v.free v.row.last slot)) v.logs v.slots
-  held-2 b₁ b₂ e₁ e₂ =
-      subst (λ (l : List Slot). Holds b₂ (stock_of b) (with_slots (read_table b) l) v.logs v.slots) (hooked-joined (read_table b).slots v.free v.row.last slot apart)
-      (holds-hooked b₁ b₂ (stock_of b) (with_slot (read_table b) v.free slot) v.logs v.slots v.row.last v.free (held-1 b₁ e₁) e₂ (last-most b v o) (free-most b v o))
+  pub held-2 : {b₁ b₂ : List ℕ} → b₁ ≡ put_slot b v.free slot → b₂ ≡ hooked b₁ v.row.last v.free → Holds b₂ (stock_of b) (with_slots (read_table b) (joined (read_table b).slots v.free v.row.last slot)) v.counts.logs v.counts.slots
+  held-2 {b₁} {b₂} e₁ e₂ =
+      subst (λ (l : List Slot). Holds b₂ (stock_of b) (with_slots (read_table b) l) v.counts.logs v.counts.slots) (hooked-joined (read_table b).slots v.free v.row.last slot apart)
+      (holds-hooked b₁ b₂ (stock_of b) (with_slot (read_table b) v.free slot) v.counts.logs v.counts.slots v.row.last v.free (held-1 e₁) e₂ (last-most b v o) (free-most b v o))
 
-  pub held-3 : (b₁ b₂ b₃ : List ℕ) → b₁ ≡ put_slot b v.free slot → b₂ ≡ hooked b₁ v.row.last v.free → b₃ ≡ put_row b₂ v.log after
-      → Holds b₃ (stock_of b) (with_row (with_slots (read_table b) (joined (read_table b).slots v.free v.row.last slot)) v.log after) v.logs v.slots
-  held-3 b₁ b₂ b₃ e₁ e₂ e₃ = holds_row b₂ (stock_of b) _ v.logs v.slots (held-2 b₁ b₂ e₁ e₂) b₃ v.log after e₃ (opened-log b v o) row-good
+  pub held-3 : {b₁ b₂ b₃ : List ℕ} → b₁ ≡ put_slot b v.free slot → b₂ ≡ hooked b₁ v.row.last v.free → b₃ ≡ put_row b₂ v.log after
+      → Holds b₃ (stock_of b) (with_row (with_slots (read_table b) (joined (read_table b).slots v.free v.row.last slot)) v.log after) v.counts.logs v.counts.slots
+  held-3 {b₁} {b₂} {b₃} e₁ e₂ e₃ = holds_row b₂ (stock_of b) _ v.counts.logs v.counts.slots (held-2 e₁ e₂) b₃ v.log after e₃ (opened-log b v o) row-good
 
   -- the image after all of them
   is-put : (n : ℕ) → n ≡ (slot_at (read_table b).slots v.free).next
@@ -122,20 +134,20 @@ module _ (b : List ℕ) (v : View) (after : Row) (x d : List ℕ) (o : Opened b 
         keeper = m.keeper;
         key = m.key;
         free = (e ∙ ap (λ (s : ℕ). (slot_at m.slots s).next) rf) i;
-        rows = ap (set m.rows v.log) (rowed ∙ ap₂ (λ (r : Row) (s : ℕ). advanced_row r after.high s) rr rf) i;
+        rows = ap (set m.rows v.log) (E.rowed ∙ ap₂ (λ (r : Row) (s : ℕ). advanced_row r after.high s) rr rf) i;
         slots = (ap₂ (λ (s l : ℕ). joined m.slots s l slot) rf (ap (λ (r : Row). r.last) rr) ∙ ap (λ (k : ℕ). joined m.slots m.free (row_in m v.log).last (slot_of k 0 after.high x d)) (add-one v.log)) i;
       }
 
-  pub held-4 : (b₁ b₂ b₃ b₄ : List ℕ) (l : Link) → l ≡ link_of (slot_at (read_table b).slots v.free) → b₁ ≡ put_slot b v.free slot → b₂ ≡ hooked b₁ v.row.last v.free → b₃ ≡ put_row b₂ v.log after → b₄ ≡ put_free b₃ l.next
-      → Holds b₄ (stock_of b) (put (read_table b) v.log (entry_at after.high x d)) v.logs v.slots
-  held-4 b₁ b₂ b₃ b₄ l el e₁ e₂ e₃ e₄ =
-      subst (λ (m : Image). Holds b₄ (stock_of b) m v.logs v.slots) (is-put l.next (ap (λ (y : Link). y.next) el))
-      (holds-free b₃ (stock_of b) _ v.logs v.slots (held-3 b₁ b₂ b₃ e₁ e₂ e₃) b₄ l.next e₄ (next-good l el))
+  pub held-4 : {b₁ b₂ b₃ b₄ : List ℕ} {l : Link} → l ≡ link_of (slot_at (read_table b).slots v.free) → b₁ ≡ put_slot b v.free slot → b₂ ≡ hooked b₁ v.row.last v.free → b₃ ≡ put_row b₂ v.log after → b₄ ≡ put_free b₃ l.next
+      → Holds b₄ (stock_of b) (put (read_table b) v.log (entry_at after.high x d)) v.counts.logs v.counts.slots
+  held-4 {b₁} {b₂} {b₃} {b₄} {l} el e₁ e₂ e₃ e₄ =
+      subst (λ (m : Image). Holds b₄ (stock_of b) m v.counts.logs v.counts.slots) (is-put l.next (ap (λ (y : Link). y.next) el))
+      (holds-free b₃ (stock_of b) _ v.counts.logs v.counts.slots (held-3 e₁ e₂ e₃) b₄ l.next e₄ (next-good el))
 
-  pub held-5 : (b₁ b₂ b₃ b₄ b₅ : List ℕ) (l : Link) → l ≡ link_of (slot_at (read_table b).slots v.free) → b₁ ≡ put_slot b v.free slot → b₂ ≡ hooked b₁ v.row.last v.free → b₃ ≡ put_row b₂ v.log after → b₄ ≡ put_free b₃ l.next
-      → b₅ ≡ put_count b₄ (v.count - 1) → Holds b₅ (stocked (v.count - 1) (stock_of b).last) (put (read_table b) v.log (entry_at after.high x d)) v.logs v.slots
-  held-5 b₁ b₂ b₃ b₄ b₅ l el e₁ e₂ e₃ e₄ e₅ =
-      holds-count b₄ (stock_of b) _ v.logs v.slots (held-4 b₁ b₂ b₃ b₄ l el e₁ e₂ e₃ e₄) b₅ (v.count - 1) e₅
+  pub held-5 : {b₁ b₂ b₃ b₄ b₅ : List ℕ} {l : Link} → l ≡ link_of (slot_at (read_table b).slots v.free) → b₁ ≡ put_slot b v.free slot → b₂ ≡ hooked b₁ v.row.last v.free → b₃ ≡ put_row b₂ v.log after → b₄ ≡ put_free b₃ l.next
+      → b₅ ≡ put_count b₄ (v.count - 1) → Holds b₅ (stocked (v.count - 1) (stock_of b).last) (put (read_table b) v.log (entry_at after.high x d)) v.counts.logs v.counts.slots
+  held-5 {b₁} {b₂} {b₃} {b₄} {b₅} {l} el e₁ e₂ e₃ e₄ e₅ =
+      holds-count b₄ (stock_of b) _ v.counts.logs v.counts.slots (held-4 el e₁ e₂ e₃ e₄) b₅ (v.count - 1) e₅
 
   -- the free chain without its first slot
   fewer : free_chain (put (read_table b) v.log (entry_at after.high x d)) ≡ rest.0
@@ -160,22 +172,22 @@ module _ (b : List ℕ) (v : View) (after : Row) (x d : List ℕ) (o : Opened b 
           let z : n ≡ t = f ∙ h.0 in
           ap (λ (z : Bool). cond z 0 v.last) (ne_eqb n 0 (λ (y : n ≡ 0). omega arith)) ∙ k
 
-  pub last-most-after : (n : ℕ) → last_after n v.last ≤ v.slots
+  pub last-most-after : (n : ℕ) → last_after n v.last ≤ v.counts.slots
   unfolding last_after
   last-most-after n = go (eqb n 0)
     where
-      go : (z : Bool) → cond z 0 v.last ≤ v.slots
+      go : (z : Bool) → cond z 0 v.last ≤ v.counts.slots
       go true = omega arith
       go false = last-free-most b v o
 
-  pub entered : (b₁ b₂ b₃ b₄ b₅ b₆ : List ℕ) (l : Link) (k : ℕ) → l ≡ link_of (slot_at (read_table b).slots v.free) → b₁ ≡ put_slot b v.free slot → b₂ ≡ hooked b₁ v.row.last v.free → b₃ ≡ put_row b₂ v.log after → b₄ ≡ put_free b₃ l.next
+  pub entered : {b₁ b₂ b₃ b₄ b₅ b₆ : List ℕ} {l : Link} {k : ℕ} → l ≡ link_of (slot_at (read_table b).slots v.free) → b₁ ≡ put_slot b v.free slot → b₂ ≡ hooked b₁ v.row.last v.free → b₃ ≡ put_row b₂ v.log after → b₄ ≡ put_free b₃ l.next
       → b₅ ≡ put_count b₄ (v.count - 1) → k ≡ last_after l.next v.last → b₆ ≡ put_last b₅ k → b₆ ≡ write_table (put (read_table b) v.log (entry_at after.high x d))
   unfolding write_table
-  entered b₁ b₂ b₃ b₄ b₅ b₆ l k el e₁ e₂ e₃ e₄ e₅ ek e₆ =
+  entered {b₁} {b₂} {b₃} {b₄} {b₅} {b₆} {l} {k} el e₁ e₂ e₃ e₄ e₅ ek e₆ =
       let m = put (read_table b) v.log (entry_at after.high x d) in
       let number : v.count - 1 ≡ length (free_chain m) = omega (arith, view-count b v o, ap length rest.1, ap length fewer) in
       let last : k ≡ joint m = ek ∙ last-left l.next (ap (λ (y : Link). y.next) el) ∙ sym (ap last_of fewer) in
-      (holds-last b₅ _ m v.logs v.slots (held-5 b₁ b₂ b₃ b₄ b₅ l el e₁ e₂ e₃ e₄ e₅) b₆ k e₆).is ∙ ap₂ (λ (n t : ℕ). write_with (stocked n t) m) number last
+      (holds-last b₅ _ m v.counts.logs v.counts.slots (held-5 el e₁ e₂ e₃ e₄ e₅) b₆ k e₆).is ∙ ap₂ (λ (n t : ℕ). write_with (stocked n t) m) number last
 
 -- ---- what the code hooks, and the answer
 
@@ -199,6 +211,6 @@ some_left n last e = sym (ap (λ (z : Bool). cond z 0 last) (ne_eqb n 0 e))
 pub held-long : (b : List ℕ) (k : Stock) (m : Image) (logs slots : ℕ) → Holds b k m logs slots → header_size ≤ length b
 held-long b k m logs slots h = let c = holds-counted b k m logs slots h in omega (arith, c.sized)
 
-pub enter-answer : (v : View) (after : Row) → after ≡ advanced_row v.row after.high v.free → done after.low after.high ≡ done v.row.low after.high
+pub entered-low : (v : View) (after : Row) → after ≡ advanced_row v.row after.high v.free → after.low ≡ v.row.low
 unfolding advanced_row
-enter-answer v after e = ap (λ (l : ℕ). done l after.high) (ap (λ (r : Row). r.low) e)
+entered-low v after e = ap (λ (r : Row). r.low) e

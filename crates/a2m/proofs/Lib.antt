@@ -1,3 +1,4 @@
+pub mod Answered
 pub mod AnswerLaws
 pub mod CallLaws
 pub mod Cases

@@ -162,13 +162,13 @@ pub record Releasing (b : List ℕ) (v : View) (n : ℕ) (table : List ℕ) (las
   pub left : List ℕ
   pub entries : List Entry
   pub freed : List ℕ
-  pub same : releases v.slots n (read_table b) v.log ≡ releases fuel n image v.log
+  pub same : releases v.counts.slots n (read_table b) v.log ≡ releases fuel n image v.log
   pub enough : suc (length left) ≤ fuel
   pub chained : Chained image v.log (s ∷ left) entries freed
   pub last-is : last ≡ last_of freed
   pub count-is : count ≡ length freed
   pub top : n ≤ top_of entries
-  pub held : Holds table (stock_of b) (joined_image (with_row image v.log v.row) last s) v.logs v.slots
+  pub held : Holds table (stock_of b) (joined_image (with_row image v.log v.row) last s) v.counts.logs v.counts.slots
 
 pub joins-first : (b a : List ℕ) (last t : ℕ) → last ≡ 0 → a ≡ put_free b t → a ≡ joined_at b last t
 unfolding joined_at
@@ -246,7 +246,7 @@ module _ (b : List ℕ) (v : View) (o : Opened b v) (n : ℕ) (n1 : 1 ≤ n) (n_
       let fit = links-fit m.slots (suc g) (row_in m g).first (chain m.slots (suc g) (row_in m g).first) r.links in
       record {
         image = m;
-        fuel = v.slots;
+        fuel = v.counts.slots;
         left = q.0;
         entries = entries_in m g;
         freed = free_chain m;
@@ -256,7 +256,7 @@ module _ (b : List ℕ) (v : View) (o : Opened b v) (n : ℕ) (n1 : 1 ≤ n) (n_
         last-is = view-last b v o;
         count-is = view-count b v o;
         top = omega (arith, ap last_of (positions-entries m.slots (chain m.slots (suc g) (row_in m g).first)), r.top, ap (λ (x : Row). x.high) (view-row b v o));
-        held = holds-joined b table (stock_of b) (with_row m g v.row) v.logs v.slots v.last v.row.first (subst (λ (x : Image). Holds b (stock_of b) x v.logs v.slots) (sym own_row) (opened-holds b v o bytes)) e (last-free-most b v o) (first-most b v o);
+        held = holds-joined b table (stock_of b) (with_row m g v.row) v.counts.logs v.counts.slots v.last v.row.first (subst (λ (x : Image). Holds b (stock_of b) x v.counts.logs v.counts.slots) (sym own_row) (opened-holds b v o bytes)) e (last-free-most b v o) (first-most b v o);
       }
 
 -- ---- one slot more
@@ -272,7 +272,7 @@ pub record Begins (b : List ℕ) (v : View) (n : ℕ) (t : List ℕ) : Type 0 wh
 pub begins : (b : List ℕ) (v : View) (n : ℕ) (t : List ℕ) → Opened b v → Bytes b → 1 ≤ n → n ≤ v.row.high → t ≡ joined_at b v.last v.row.first → Begins b v n t
 begins b v n t o h l k e = record { opened = o; bytes = h; least = l; most = k; joined = e }
 
-module _ (b : List ℕ) (v : View) (n : ℕ) (table : List ℕ) (last count s : ℕ) (o : Opened b v) (R : Releasing b v n table last count s) where
+module _ {b : List ℕ} {v : View} {n : ℕ} {table : List ℕ} {last count s : ℕ} (o : Opened b v) (R : Releasing b v n table last count s) where
   abbrev I : Image
   I = R.image
 
@@ -285,24 +285,24 @@ module _ (b : List ℕ) (v : View) (n : ℕ) (table : List ℕ) (last count s : 
   apart : last ≢ s
   apart e = held-apart I.slots v.log s I.free R.left R.freed own R.chained.free (sym R.last-is ∙ e)
 
-  size : length I.slots ≡ v.slots
+  size : length I.slots ≡ v.counts.slots
   size = sym (length-hooked I.slots last s) ∙ R.held.slots-are
 
   last-in : last ≤ length I.slots
   last-in = let h = last_within I.slots 0 I.free R.freed R.chained.free in omega (arith, R.last-is)
 
-  pub count-most-free : count ≤ v.slots
+  pub count-most-free : count ≤ v.counts.slots
   count-most-free = omega (arith, R.count-is, links-fit I.slots 0 I.free R.freed R.chained.free, size)
 
   -- what the code asks of the slot and reads of it
-  pub slot-within : (1 ≤ s) × (s ≤ v.slots)
+  pub slot-within : (1 ≤ s) × (s ≤ v.counts.slots)
   slot-within = let h = own.2 in (own.1, omega (arith, size))
 
-  pub last-most-free : last ≤ v.slots
+  pub last-most-free : last ≤ v.counts.slots
   last-most-free = omega (arith, last-in, size)
 
   slot_is : slot_at (read_table table).slots s ≡ slot_at I.slots s
-  slot_is = ap (λ (x : Image). slot_at x.slots s) (holds-image table (stock_of b) _ v.logs v.slots R.held) ∙ hooked-other I.slots last s s (λ (e : s ≡ last). apart (sym e))
+  slot_is = ap (λ (x : Image). slot_at x.slots s) (holds-image table (stock_of b) _ v.counts.logs v.counts.slots R.held) ∙ hooked-other I.slots last s s (λ (e : s ≡ last). apart (sym e))
 
   -- no slot of the log is the last free one
   not_last : (t : ℕ) → 1 ≤ t → (slot_at I.slots t).owner ≡ suc v.log → t ≡ last_of R.freed → (last_of R.freed ≡ 0) ⊎ In (last_of R.freed) R.freed → ⊥
@@ -316,21 +316,24 @@ module _ (b : List ℕ) (v : View) (n : ℕ) (table : List ℕ) (last count s : 
 
   pub left_is : chain (read_table table).slots (suc v.log) s ≡ s ∷ R.left
   left_is =
-      ap (λ (x : Image). chain x.slots (suc v.log) s) (holds-image table (stock_of b) _ v.logs v.slots R.held)
+      ap (λ (x : Image). chain x.slots (suc v.log) s) (holds-image table (stock_of b) _ v.counts.logs v.counts.slots R.held)
       ∙ chain_links (hooked_slots I.slots last s) (suc v.log) s (s ∷ R.left) (links-frame I.slots (hooked_slots I.slots last s) (suc v.log) s (s ∷ R.left) 0 (length-hooked I.slots last s) kept own)
 
-  module _ (l : Link) (el : l ≡ link_of (slot_at (read_table table).slots s)) where
+  module _ {l : Link} (el : l ≡ link_of (slot_at (read_table table).slots s)) where
     next-is : l.next ≡ (slot_at I.slots s).next
     next-is = ap (λ (x : Link). x.next) el ∙ ap (λ (x : Slot). x.next) slot_is
 
     place_is : l.position ≡ (slot_at I.slots s).position
     place_is = ap (λ (x : Link). x.position) el ∙ ap (λ (x : Slot). x.position) slot_is
 
-    next-most : l.next ≤ v.slots
+    next-most : l.next ≤ v.counts.slots
     next-most = let h = first-within I.slots (suc v.log) (slot_at I.slots s).next R.left own.4 in omega (arith, next-is, size)
 
-    pub freed-fits : SlotFits (slot_of 0 l.next 0 (zeros 32) (zeros 32))
-    freed-fits = free-fits l.next (let h = next-most in let k = R.held.slots-most in omega arith)
+    pub next-bound : l.next < 65536
+    next-bound = let h = next-most in let k = R.held.slots-most in omega arith
+
+    freed-fits : SlotFits (slot_of 0 l.next 0 (zeros 32) (zeros 32))
+    freed-fits = free-fits l.next next-bound
 
     -- the image after the slot became free
     image-is : with_slot (joined_image (with_row I v.log v.row) last s) s (free_slot l.next) ≡ joined_image (with_row (release I v.log) v.log v.row) s l.next
@@ -372,15 +375,15 @@ module _ (b : List ℕ) (v : View) (n : ℕ) (table : List ℕ) (last count s : 
             last-is = sym (last_of_snoc R.freed (row_in I g).first ∙ starts);
             count-is = omega (arith, R.count-is, length-append R.freed ((row_in I g).first ∷ []));
             top = subst (λ (y : List Entry). n ≤ top_of y) eq R.top;
-            held = subst (λ (y : Image). Holds after (stock_of b) y v.logs v.slots) image-is (holds-slot table (stock_of b) _ v.logs v.slots R.held after s (free_slot l.next) e own.1 slot-within.1 freed-fits);
+            held = subst (λ (y : Image). Holds after (stock_of b) y v.counts.logs v.counts.slots) image-is (holds-slot table (stock_of b) _ v.counts.logs v.counts.slots R.held after s (free_slot l.next) e own.1 slot-within.1 freed-fits);
           },
           sym (ap length ec),
         )
 
     -- the log's last entry stands at n or above: a slot below it is followed by another
-    pub releasing-on : l.position < n → (after : List ℕ) → after ≡ put_slot table s (slot_of 0 l.next 0 (zeros 32) (zeros 32)) → (Q : Releasing b v n after s (count + 1) l.next) × (suc (length Q.left) ≡ length R.left)
+    pub releasing-on : l.position < n → {after : List ℕ} → after ≡ put_slot table s (slot_of 0 l.next 0 (zeros 32) (zeros 32)) → (Q : Releasing b v n after s (count + 1) l.next) × (suc (length Q.left) ≡ length R.left)
     unfolding last_of
-    releasing-on p after e = go R.left refl R.fuel refl
+    releasing-on p {after} e = go R.left refl R.fuel refl
       where
         go : (c : List ℕ) → R.left ≡ c → (f : ℕ) → R.fuel ≡ f → (Q : Releasing b v n after s (count + 1) l.next) × (suc (length Q.left) ≡ length R.left)
         go c ec zero ef = absurd (let h = R.enough in omega arith)
@@ -391,10 +394,10 @@ module _ (b : List ℕ) (v : View) (n : ℕ) (table : List ℕ) (last count s : 
         go (t ∷ c) ec (suc k) ef = step t c ec k ef p after e
 
     -- and at an entry that stays the definition stops too
-    pub stays : n ≤ l.position → releases v.slots n (read_table b) v.log ≡ I
+    pub stays : n ≤ l.position → releases v.counts.slots n (read_table b) v.log ≡ I
     stays p = go R.fuel refl
       where
-        go : (f : ℕ) → R.fuel ≡ f → releases v.slots n (read_table b) v.log ≡ I
+        go : (f : ℕ) → R.fuel ≡ f → releases v.counts.slots n (read_table b) v.log ≡ I
         go zero ef = absurd (let h = R.enough in omega arith)
         go (suc k) ef = R.same ∙ ap (λ (f : ℕ). releases f n I v.log) ef ∙ releases-stop k n I v.log (omega (arith, place_is, ap (λ (y : ℕ). (slot_at I.slots y).position) starts))
 
@@ -419,61 +422,65 @@ module _ (b : List ℕ) (v : View) (n : ℕ) (table : List ℕ) (last count s : 
         slots = hooked-cut I.slots last s last-in ends i;
       }
 
-  pub cut-held : (a : List ℕ) → a ≡ joined_at table last 0 → Holds a (stock_of b) (with_row I v.log v.row) v.logs v.slots
-  cut-held a e = subst (λ (y : Image). Holds a (stock_of b) y v.logs v.slots) cut-is (holds-joined table a (stock_of b) _ v.logs v.slots last 0 R.held e last-most-free (omega arith))
+  pub cut-held : {a : List ℕ} → a ≡ joined_at table last 0 → Holds a (stock_of b) (with_row I v.log v.row) v.counts.logs v.counts.slots
+  cut-held {a} e = subst (λ (y : Image). Holds a (stock_of b) y v.counts.logs v.counts.slots) cut-is (holds-joined table a (stock_of b) _ v.counts.logs v.counts.slots last 0 R.held e last-most-free (omega arith))
 
-  pub cut-row : Bytes b → n < 2 ^ 64 → (after : Row) → after ≡ truncated_row v.row n s → RowFits after
+  pub cut-row : Bytes b → n < 2 ^ 64 → {after : Row} → after ≡ truncated_row v.row n s → RowFits after
   unfolding truncated_row
-  cut-row bytes h after e =
+  cut-row bytes h {after} e =
       let f = (opened-holds b v o bytes).fits.rows v.log in
       let r : RowFits v.row = subst RowFits (sym (view-row b v o)) f in
       let k = slot-within.1 in
       let q = R.held.slots-most in
       subst RowFits (sym e) (record { low = h; high = r.high; first = omega arith; last = r.last; reserve = r.reserve })
 
-  row_is : releases v.slots n (read_table b) v.log ≡ I → (after : Row) → after ≡ truncated_row v.row n s → after ≡ truncated_row (row_in I v.log) n (row_in I v.log).first
+  row_is : releases v.counts.slots n (read_table b) v.log ≡ I → (after : Row) → after ≡ truncated_row v.row n s → after ≡ truncated_row (row_in I v.log) n (row_in I v.log).first
   unfolding truncated_row
   row_is st after e =
       let g = v.log in
-      let k = releases-keep v.slots n (read_table b) g (omega (arith, o.log, length-rows b)) in
+      let k = releases-keep v.counts.slots n (read_table b) g (omega (arith, o.log, length-rows b)) in
       let hi : v.row.high ≡ (row_in I g).high = ap (λ (x : Row). x.high) (view-row b v o) ∙ sym k.1 ∙ ap (λ (x : Image). (row_in x g).high) st in
       let la : v.row.last ≡ (row_in I g).last = ap (λ (x : Row). x.last) (view-row b v o) ∙ sym k.2 ∙ ap (λ (x : Image). (row_in x g).last) st in
       let re : v.row.reserve ≡ (row_in I g).reserve = ap (λ (x : Row). x.reserve) (view-row b v o) ∙ sym k.3 ∙ ap (λ (x : Image). (row_in x g).reserve) st in
       e ∙ (λ i. record { low = n; high = hi i; first = sym starts i; last = la i; reserve = re i })
 
-  pub row-held : Bytes b → n < 2 ^ 64 → (a₁ a₂ : List ℕ) (after : Row) → a₁ ≡ joined_at table last 0 → after ≡ truncated_row v.row n s → a₂ ≡ put_row a₁ v.log after
-      → Holds a₂ (stock_of b) (with_row (with_row I v.log v.row) v.log after) v.logs v.slots
-  row-held bytes h a₁ a₂ after e₁ ea e₂ = holds_row a₁ (stock_of b) _ v.logs v.slots (cut-held a₁ e₁) a₂ v.log after e₂ (opened-log b v o) (cut-row bytes h after ea)
+  pub row-held : Bytes b → n < 2 ^ 64 → {a₁ a₂ : List ℕ} {after : Row} → a₁ ≡ joined_at table last 0 → after ≡ truncated_row v.row n s → a₂ ≡ put_row a₁ v.log after
+      → Holds a₂ (stock_of b) (with_row (with_row I v.log v.row) v.log after) v.counts.logs v.counts.slots
+  row-held bytes h {a₁} {a₂} {after} e₁ ea e₂ = holds_row a₁ (stock_of b) _ v.counts.logs v.counts.slots (cut-held e₁) a₂ v.log after e₂ (opened-log b v o) (cut-row bytes h ea)
 
   -- the free chain is what it was with the slots that went over behind it
   freed-is : free_chain I ≡ R.freed
   freed-is = chain_links I.slots 0 I.free R.freed R.chained.free
 
-  pub count_held : Bytes b → n < 2 ^ 64 → (a₁ a₂ a₃ : List ℕ) (after : Row) → a₁ ≡ joined_at table last 0 → after ≡ truncated_row v.row n s → a₂ ≡ put_row a₁ v.log after → a₃ ≡ put_count a₂ count
-      → Holds a₃ (stocked count (stock_of b).last) (with_row (with_row I v.log v.row) v.log after) v.logs v.slots
-  count_held bytes h a₁ a₂ a₃ after e₁ ea e₂ e₃ = holds-count a₂ (stock_of b) _ v.logs v.slots (row-held bytes h a₁ a₂ after e₁ ea e₂) a₃ count e₃
+  pub count_held : Bytes b → n < 2 ^ 64 → {a₁ a₂ a₃ : List ℕ} {after : Row} → a₁ ≡ joined_at table last 0 → after ≡ truncated_row v.row n s → a₂ ≡ put_row a₁ v.log after → a₃ ≡ put_count a₂ count
+      → Holds a₃ (stocked count (stock_of b).last) (with_row (with_row I v.log v.row) v.log after) v.counts.logs v.counts.slots
+  count_held bytes h {a₁} {a₂} {a₃} {after} e₁ ea e₂ e₃ = holds-count a₂ (stock_of b) _ v.counts.logs v.counts.slots (row-held bytes h e₁ ea e₂) a₃ count e₃
 
-  pub struck : Bytes b → n < 2 ^ 64 → (l : Link) → l ≡ link_of (slot_at (read_table table).slots s) → n ≤ l.position → (a₁ a₂ a₃ a₄ : List ℕ) (after : Row) → a₁ ≡ joined_at table last 0 → after ≡ truncated_row v.row n s → a₂ ≡ put_row a₁ v.log after
-      → a₃ ≡ put_count a₂ count → a₄ ≡ put_last a₃ last → a₄ ≡ write_table (lowered (releases v.slots n (read_table b) v.log) v.log n)
+  pub struck : Bytes b → n < 2 ^ 64 → {l : Link} → l ≡ link_of (slot_at (read_table table).slots s) → n ≤ l.position → {a₁ a₂ a₃ a₄ : List ℕ} {after : Row} → a₁ ≡ joined_at table last 0 → after ≡ truncated_row v.row n s → a₂ ≡ put_row a₁ v.log after
+      → a₃ ≡ put_count a₂ count → a₄ ≡ put_last a₃ last → a₄ ≡ write_table (lowered (releases v.counts.slots n (read_table b) v.log) v.log n)
   unfolding lowered write_table
-  struck bytes h l el p a₁ a₂ a₃ a₄ after e₁ ea e₂ e₃ e₄ =
+  struck bytes h {l} el p {a₁} {a₂} {a₃} {a₄} {after} e₁ ea e₂ e₃ e₄ =
       let g = v.log in
-      let st = stays l el p in
+      let st = stays el p in
       let im : with_row (with_row I g v.row) g after ≡ lowered I g n =
       λ i. record { keeper = I.keeper; key = I.key; free = I.free; rows = (set-set I.rows g v.row after ∙ ap (set I.rows g) (row_is st after ea)) i; slots = I.slots } in
       let k : stocked count last ≡ stock_in I = ap₂ stocked (R.count-is ∙ sym (ap length freed-is)) (R.last-is ∙ sym (ap last_of freed-is)) in
-      (holds-last a₃ _ _ v.logs v.slots (count_held bytes h a₁ a₂ a₃ after e₁ ea e₂ e₃) a₄ last e₄).is
+      (holds-last a₃ _ _ v.counts.logs v.counts.slots (count_held bytes h e₁ ea e₂ e₃) a₄ last e₄).is
       ∙ ap₂ write_with k im
       ∙ ap (λ (x : Image). write_table (lowered x g n)) (sym st)
 
-pub struck-answer : (v : View) (n s : ℕ) (after : Row) → after ≡ truncated_row v.row n s → done after.low after.high ≡ done n v.row.high
+pub struck-high : (v : View) (n s : ℕ) (after : Row) → after ≡ truncated_row v.row n s → after.high ≡ v.row.high
 unfolding truncated_row
-struck-answer v n s after e = ap (λ (x : Row). done x.low x.high) e
+struck-high v n s after e = ap (λ (x : Row). x.high) e
+
+pub struck-low : (v : View) (n s : ℕ) (after : Row) → after ≡ truncated_row v.row n s → after.low ≡ n
+unfolding truncated_row
+struck-low v n s after e = ap (λ (x : Row). x.low) e
 
 -- the chain still to go is shorter by one after each slot
-pub falls : (b : List ℕ) (v : View) (n : ℕ) (table : List ℕ) (last count s : ℕ) (o : Opened b v) (R : Releasing b v n table last count s) (l : Link) → l ≡ link_of (slot_at (read_table table).slots s) → l.position < n → (after : List ℕ)
+pub falls : {b : List ℕ} {v : View} {n : ℕ} {table : List ℕ} {last count s : ℕ} (o : Opened b v) (R : Releasing b v n table last count s) {l : Link} → l ≡ link_of (slot_at (read_table table).slots s) → l.position < n → {after : List ℕ}
     → after ≡ put_slot table s (slot_of 0 l.next 0 (zeros 32) (zeros 32)) → length (chain (read_table after).slots (suc v.log) l.next) < length (chain (read_table table).slots (suc v.log) s)
-falls b v n table last count s o R l el p after e =
-    let Q = releasing-on b v n table last count s o R l el p after e in
+falls o R el p e =
+    let Q = releasing-on o R el p e in
     let f : suc (length Q.0.left) ≡ length R.left = Q.1 in
-    omega (arith, ap length (left_is b v n table last count s o R), ap length (left_is b v n after s (count + 1) l.next o Q.0))
+    omega (arith, ap length (left_is o R), ap length (left_is o Q.0))

@@ -13,6 +13,9 @@ use Rattle.layout.specs.declared.Link.{Link}
 use Rattle.layout.specs.Image.{Entry, Slot, blank_entry, entry_of, slot_at}
 use Rattle.layout.specs.Changes.{link_of}
 use Rattle.table.specs.Chains.{chain, reaches, entries_of}
+use Rattle.std.specs.Prelude.{Option, None, Some}
+use Rattle.receipt.specs.declared.Kind.{Kind}
+use Rattle.receipt.specs.declared.Kind.TheVariants as kind
 use Rattle.a2m.specs.declared.Hit.{Hit}
 use Rattle.a2m.specs.Search.{Found, search, looked_up}
 use Rattle.a2m.specs.Opened.{found_of}
@@ -21,7 +24,7 @@ use Rattle.table.specs.Conditions.{Links}
 use Rattle.table.proofs.LinkLaws.{reach-links}
 use Rattle.a2m.proofs.OpenedLaws.{chain-cons}
 
-abbrev hit : ℕ → ℕ → ℕ → ℕ → Hit
+abbrev hit : Kind → ℕ → Option ℕ → ℕ → Hit
 hit kind reference slot examined = record { kind = kind; reference = reference; slot = slot; examined = examined }
 
 -- slot 0 shows the blank entry
@@ -86,10 +89,10 @@ module _ (slots : List Slot) (o n first : ℕ) where
     place : l.position ≡ (slot_at slots s).position
     place = ap (λ (x : Link). x.position) el
 
-    pub at_entry : l.position ≡ n → found_of slots (hit 1 n s (k + 1)) ≡ search n 0 (entries_of slots (chain slots o first))
+    pub at_entry : l.position ≡ n → found_of slots (hit kind.Assigned n (Some s) (k + 1)) ≡ search n 0 (entries_of slots (chain slots o first))
     at_entry h = rw add-one (sym (rest-is ∙ search-at n k (entry_of (slot_at slots s)) (entries_of slots (chain slots o l.next)) (sym place ∙ h)))
 
-    pub above_entry : n < l.position → found_of slots (hit 2 l.position s (k + 1)) ≡ search n 0 (entries_of slots (chain slots o first))
+    pub above_entry : n < l.position → found_of slots (hit kind.Skipped l.position (Some s) (k + 1)) ≡ search n 0 (entries_of slots (chain slots o first))
     above_entry h =
         let p : n < (slot_at slots s).position = omega (arith, place) in
         rw (add-one, place) (sym (rest-is ∙ search-above n k (entry_of (slot_at slots s)) (entries_of slots (chain slots o l.next)) p))
@@ -107,7 +110,7 @@ module _ (slots : List Slot) (o n first : ℕ) where
     pub less : length (chain slots o l.next) < length (chain slots o s)
     less = omega (arith, ap length chain-is)
 
-  pub chain-over : (s k : ℕ) → Going slots o n first s k → s ≡ 0 → found_of slots (hit 2 0 0 k) ≡ search n 0 (entries_of slots (chain slots o first))
+  pub chain-over : (s k : ℕ) → Going slots o n first s k → s ≡ 0 → found_of slots (hit kind.Skipped 0 None k) ≡ search n 0 (entries_of slots (chain slots o first))
   chain-over s k G z =
       let e : chain slots o s ≡ [] = chain_links slots o s [] z in
       rw (none-shown slots) (sym (G.rest ∙ ap (λ (c : List ℕ). search n k (entries_of slots c)) e ∙ search-out n k))
@@ -115,11 +118,11 @@ module _ (slots : List Slot) (o n first : ℕ) where
 -- ---- above the high position, below the low one, between
 
 module _ (slots : List Slot) (r : Row) (es : List Entry) (n : ℕ) where
-  pub is-unassigned : r.high < n → found_of slots (hit 0 r.high 0 0) ≡ looked_up r es n
+  pub is-unassigned : r.high < n → found_of slots (hit kind.Unassigned r.high None 0) ≡ looked_up r es n
   unfolding looked_up
   is-unassigned h = rw (looked_up, lt-ltb r.high n h, none-shown slots)
 
-  pub is-forgotten : n ≤ r.high → n < r.low → found_of slots (hit 3 r.low 0 0) ≡ looked_up r es n
+  pub is-forgotten : n ≤ r.high → n < r.low → found_of slots (hit kind.Forgotten r.low None 0) ≡ looked_up r es n
   unfolding looked_up
   is-forgotten k h = rw (looked_up, le-ltb r.high n k, lt-ltb n r.low h, none-shown slots)
 

@@ -1,32 +1,34 @@
 // The digest of an entry behind another.
-ghost use Rattle.std.specs.Prelude.{◌≡◌, ◌≤◌, length};
+ghost use Rattle.std.specs.Prelude.{◌≡◌, ◌≤◌, IfSome};
 ghost use Rattle.layout.specs.Image.{slot_at};
 ghost use Rattle.layout.specs.Layout.{read_table};
 ghost use Rattle.layout.specs.Fits.{Counted};
 ghost use Rattle.entry.specs.Digest.{entry_digest};
+ghost use Rattle.a2m.specs.Opened.{slot_number};
 
 use entry::entry_digest;
+use layout::Counts;
 use layout_slots::digest_at;
-use sha256::Digest;
+use refusal::Hashed;
 
 // The digest of an entry that follows the one in slot last; without one the previous digest is 32 zero bytes.
 pub fn digest_after(
     table: &[u8],
-    logs: usize,
-    slots: usize,
-    last: usize,
+    counts: Counts,
+    last: Option<usize>,
     position: u64,
-    value: &[u8],
-) -> Digest
-    requires counted { Counted table.now logs slots }
-    requires last_le_slots { last ≤ slots }
-    requires value_len { length value.now ≡ 32 }
-    ensures { (result.bytes ≡ entry_digest position value.now (slot_at (read_table table.now).slots last).digest) × (result.blocks ≡ 2) }
+    value: &[u8; 32],
+) -> Hashed<[u8; 32]>
+    requires counted { Counted table.now counts.logs counts.slots }
+    requires last_slot { IfSome last (λ s. (1 ≤ s) × (s ≤ counts.slots)) }
+    ensures digest { result.value ≡ entry_digest position value.now (slot_at (read_table table.now).slots (slot_number last)).digest }
+    ensures blocks { result.blocks ≡ 2 }
 {
-    if last == 0 {
-        let none = [0u8; 32];
-        return entry_digest(position, value, &none);
+    match last {
+        None => {
+            let none = [0; 32];
+            entry_digest(position, value, &none)
+        }
+        Some(s) => entry_digest(position, value, digest_at(table, counts, s)),
     }
-    let previous = digest_at(table, logs, slots, last);
-    entry_digest(position, value, previous)
 }

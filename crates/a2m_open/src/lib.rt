@@ -4,42 +4,33 @@
 ghost use Rattle.std.specs.Prelude.{◌≡◌};
 ghost use Rattle.a2m.specs.Opened.{opening_of};
 
-use a2m::{Opening, View};
-use layout_header::{free_of, logs_of, slots_of};
+use a2m::View;
+use layout::Free;
+use layout_header::{counts_of, free_of};
 use layout_rows::row_at;
 use refusal::Refusal;
-use table::Check;
 use table_check::check;
 
 // The log's number is compared as it is given: 256 is not log 0. The table is lent on as a part of itself: place and length then
 // go over one by one, where the compiler copies a lent slice at once and waits for both to be stored.
-pub fn open(table: &[u8], log: u64) -> Opening
+pub fn open(table: &[u8], log: u64) -> Result<View, Refusal>
     ensures { result ≡ opening_of table.now log }
 {
-    let Check::Whole {
-        free: count,
-        last,
-        others,
-    } = check(&table[0..table.len()], log)
-    else {
-        return Opening::Refused(Refusal::Torn);
-    };
-    let logs = logs_of(table);
-    if logs as u64 <= log {
-        return Opening::Refused(Refusal::NoLog);
+    let whole = check(&table[0..table.len()], log)?;
+    let counts = counts_of(table);
+    if counts.logs as u64 <= log {
+        return Err(Refusal::NoLog);
     }
-    let slots = slots_of(table);
     let g = log as usize;
-    let row = row_at(table, logs, slots, g);
-    let free = free_of(table);
-    Opening::Open(View {
-        logs,
-        slots,
+    let row = row_at(table, counts, g);
+    let free = free_of(table, Free::First);
+    Ok(View {
+        counts,
         log: g,
         row,
         free,
-        count,
-        last,
-        others,
+        count: whole.free,
+        last: whole.last,
+        others: whole.others,
     })
 }

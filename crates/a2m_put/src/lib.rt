@@ -3,3 +3,4 @@
 
 pub mod advance;
 pub mod append;
+mod room;

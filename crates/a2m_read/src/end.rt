@@ -1,69 +1,59 @@
 // End.
-ghost use Rattle.std.specs.Prelude.{◌≡◌, length};
-ghost use Rattle.refusal.specs.Work.{worked_blocks};
+ghost use Rattle.std.specs.Prelude.{◌≡◌, ◌≤◌, IfSome, Ok, length};
+ghost use Rattle.receipt.specs.Kind.{kind_number};
 ghost use Rattle.a2m.specs.Call.{end as ends};
 ghost use Rattle.a2m.specs.ImageCalls.{end_kind};
 ghost use Rattle.a2m.specs.TableCalls.{table_step};
-ghost use Rattle.a2m.specs.Opened.{Opened, end_reply, receipt_after};
+ghost use Rattle.a2m.specs.Opened.{Opened, slot_number, Ended};
 
-use a2m::{Opening, View};
+use a2m::View;
 use a2m_attest::attest::attest;
 use a2m_open::open;
 use layout_header::keeper_of;
-use receipt::{Facts, Name};
-use refusal::{Refusal, Worked};
+use receipt::{Facts, Kind, Name};
+use refusal::{Hashed, Refusal, Refused};
 
 // The kind of an end, given the log's last slot: a fresh log has none, and its end is unassigned.
-fn kind_at(last: usize) -> u8
-    ensures { result ≡ end_kind last }
+fn kind_at(last: Option<usize>) -> Kind
+    requires { IfSome last (λ s. 1 ≤ s) }
+    ensures { kind_number result ≡ end_kind (slot_number last) }
 {
-    if last == 0 { 0 } else { 1 }
+    match last {
+        None => Kind::Unassigned,
+        Some(_) => Kind::Assigned,
+    }
 }
 
 // The receipt of the entry at the high position; of a fresh log, that nothing is assigned there.
-fn end_open(table: &[u8], view: View, nonce: &[u8], receipt: &mut [u8]) -> Worked
-    requires opened { Opened table.now view }
-    requires nonce_len { (length nonce.now ≡ 32) × (length receipt.old ≡ 160) }
-    ensures answer { end_reply result receipt.new ≡ (table_step table.now (ends view.log nonce.now (length receipt.old))).reply }
-    ensures blocks { worked_blocks result ≡ (table_step table.now (ends view.log nonce.now (length receipt.old))).blocks }
-    ensures bytes { receipt.new ≡ receipt_after (table_step table.now (ends view.log nonce.now (length receipt.old))).reply receipt.old }
+fn end_open(table: &[u8], view: View, nonce: &[u8; 32], receipt: &mut [u8; 160]) -> Hashed<()>
+    requires { Opened table.now view }
+    ensures { Ended (table_step table.now (ends view.log nonce.now (length receipt.old))) (Ok result) receipt.old receipt.new }
 {
     let row = view.row;
-    let keeper = keeper_of(table);
+    let last = view.last_slot();
     let facts = Facts {
         name: Name::End,
-        kind: kind_at(row.last),
+        kind: u8::from(kind_at(last)),
         log: view.log as u8,
-        keeper,
+        keeper: keeper_of(table),
         position: row.high,
         reference: row.high,
     };
-    let blocks = attest(
-        table, view.logs, view.slots, row.last, facts, nonce, receipt,
-    );
-    Worked::Done { blocks }
+    let blocks = attest(table, view.counts, last, facts, nonce, receipt);
+    Hashed { value: (), blocks }
 }
 
 // Writes a receipt of the log's last entry, or that it has none yet.
-pub fn end(table: &[u8], log: u64, nonce: &[u8], receipt: &mut [u8]) -> Worked
-    ensures answer { end_reply result receipt.new ≡ (table_step table.now (ends log nonce.now (length receipt.old))).reply }
-    ensures blocks { worked_blocks result ≡ (table_step table.now (ends log nonce.now (length receipt.old))).blocks }
-    ensures bytes { receipt.new ≡ receipt_after (table_step table.now (ends log nonce.now (length receipt.old))).reply receipt.old }
+pub fn end(
+    table: &[u8],
+    log: u64,
+    nonce: &[u8],
+    receipt: &mut [u8],
+) -> Result<Hashed<()>, Refused>
+    ensures { Ended (table_step table.now (ends log nonce.now (length receipt.old))) result receipt.old receipt.new }
 {
-    if nonce.len() != 32 {
-        return Worked::Refused {
-            why: Refusal::Length,
-            blocks: 0,
-        };
-    }
-    if receipt.len() != 160 {
-        return Worked::Refused {
-            why: Refusal::Length,
-            blocks: 0,
-        };
-    }
-    match open(table, log) {
-        Opening::Open(view) => end_open(table, view, nonce, receipt),
-        Opening::Refused(why) => Worked::Refused { why, blocks: 0 },
-    }
+    let nonce = nonce.as_array::<32>().ok_or(Refusal::Length)?;
+    let receipt = receipt.as_mut_array::<160>().ok_or(Refusal::Length)?;
+    let view = open(table, log)?;
+    Ok(end_open(table, view, nonce, receipt))
 }

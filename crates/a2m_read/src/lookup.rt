@@ -2,69 +2,71 @@
 ghost use Rattle.std.specs.Prelude.{◌≡◌, length};
 ghost use Rattle.a2m.specs.Call.{lookup as looks};
 ghost use Rattle.a2m.specs.TableCalls.{table_step};
-ghost use Rattle.a2m.specs.Opened.{Opened, finding_reply, finding_blocks, receipt_after};
+ghost use Rattle.a2m.specs.Opened.{Opened, Looked};
 
-use a2m::{Finding, Opening, View};
+use a2m::View;
 use a2m_attest::attest::attest;
 use a2m_attest::search::find;
 use a2m_open::open;
 use layout_header::keeper_of;
 use receipt::{Facts, Name};
-use refusal::Refusal;
+use refusal::{Hashed, Refusal, Refused};
 
 // Refusal 3, and the receipt of what stands at the position.
-fn lookup_open(table: &[u8], view: View, position: u64, nonce: &[u8], receipt: &mut [u8]) -> Finding
-    requires opened { Opened table.now view }
-    requires nonce_len { (length nonce.now ≡ 32) × (length receipt.old ≡ 160) }
-    ensures answer { finding_reply result receipt.new ≡ (table_step table.now (looks view.log position nonce.now (length receipt.old))).reply }
-    ensures blocks { finding_blocks result ≡ (table_step table.now (looks view.log position nonce.now (length receipt.old))).blocks }
-    ensures bytes { receipt.new ≡ receipt_after (table_step table.now (looks view.log position nonce.now (length receipt.old))).reply receipt.old }
+fn lookup_open(
+    table: &[u8],
+    view: View,
+    position: u64,
+    nonce: &[u8; 32],
+    receipt: &mut [u8; 160],
+) -> Result<Hashed<u64>, Refused>
+    requires { Opened table.now view }
+    ensures { Looked (table_step table.now (looks view.log position nonce.now (length receipt.old))) result receipt.old receipt.new }
 {
     if position == 0 {
-        return Finding::Refused {
-            why: Refusal::Position,
-            blocks: 0,
-        };
+        return Err(Refusal::Position.into());
     }
     let hit = find(table, view, position);
-    let keeper = keeper_of(table);
     let facts = Facts {
         name: Name::Lookup,
-        kind: hit.kind,
+        kind: u8::from(hit.kind),
         log: view.log as u8,
-        keeper,
+        keeper: keeper_of(table),
         position,
         reference: hit.reference,
     };
-    let blocks = attest(
-        table, view.logs, view.slots, hit.slot, facts, nonce, receipt,
-    );
-    Finding::Found {
-        examined: hit.examined,
+    let blocks = attest(table, view.counts, hit.slot, facts, nonce, receipt);
+    Ok(Hashed {
+        value: hit.examined,
         blocks,
-    }
+    })
+}
+
+// A lookup whose nonce and receipt have their lengths.
+pub fn lookup_sized(
+    table: &[u8],
+    log: u64,
+    position: u64,
+    nonce: &[u8; 32],
+    receipt: &mut [u8; 160],
+) -> Result<Hashed<u64>, Refused>
+    ensures { Looked (table_step table.now (looks log position nonce.now (length receipt.old))) result receipt.old receipt.new }
+{
+    let view = open(table, log)?;
+    lookup_open(table, view, position, nonce, receipt)
 }
 
 // Writes a receipt of what stands at a position of a log.
-pub fn lookup(table: &[u8], log: u64, position: u64, nonce: &[u8], receipt: &mut [u8]) -> Finding
-    ensures answer { finding_reply result receipt.new ≡ (table_step table.now (looks log position nonce.now (length receipt.old))).reply }
-    ensures blocks { finding_blocks result ≡ (table_step table.now (looks log position nonce.now (length receipt.old))).blocks }
-    ensures bytes { receipt.new ≡ receipt_after (table_step table.now (looks log position nonce.now (length receipt.old))).reply receipt.old }
+pub fn lookup(
+    table: &[u8],
+    log: u64,
+    position: u64,
+    nonce: &[u8],
+    receipt: &mut [u8],
+) -> Result<Hashed<u64>, Refused>
+    ensures { Looked (table_step table.now (looks log position nonce.now (length receipt.old))) result receipt.old receipt.new }
 {
-    if nonce.len() != 32 {
-        return Finding::Refused {
-            why: Refusal::Length,
-            blocks: 0,
-        };
-    }
-    if receipt.len() != 160 {
-        return Finding::Refused {
-            why: Refusal::Length,
-            blocks: 0,
-        };
-    }
-    match open(table, log) {
-        Opening::Open(view) => lookup_open(table, view, position, nonce, receipt),
-        Opening::Refused(why) => Finding::Refused { why, blocks: 0 },
-    }
+    let nonce = nonce.as_array::<32>().ok_or(Refusal::Length)?;
+    let receipt = receipt.as_mut_array::<160>().ok_or(Refusal::Length)?;
+    lookup_sized(table, log, position, nonce, receipt)
 }

@@ -1,47 +1,33 @@
 // Truncate.
 #![tactic(auto)]
 
-ghost use Rattle.std.specs.Prelude.{◌≡◌};
 ghost use Rattle.a2m.specs.Call.{truncate as truncates};
 ghost use Rattle.a2m.specs.TableCalls.{table_step};
-ghost use Rattle.a2m.specs.Opened.{Opened, change_reply, change_blocks};
+ghost use Rattle.a2m.specs.Opened.{Opened, Changed};
 
-use a2m::{Change, Opening, View};
+use a2m::{Bounds, View};
 use a2m_open::open;
 use a2m_strike::strike;
-use refusal::Refusal;
+use refusal::{Hashed, Refusal, Refused};
 
 // Refusal 3, and the entries below the position struck.
-fn truncate_open(table: &mut [u8], view: View, position: u64) -> Change
+fn truncate_open(table: &mut [u8], view: View, position: u64) -> Result<Hashed<Bounds>, Refused>
     requires { Opened table.old view }
-    ensures answer { change_reply result ≡ (table_step table.old (truncates view.log position)).reply }
-    ensures blocks { change_blocks result ≡ (table_step table.old (truncates view.log position)).blocks }
-    ensures bytes { table.new ≡ (table_step table.old (truncates view.log position)).state }
+    ensures { Changed (table_step table.old (truncates view.log position)) result table.new }
 {
-    let row = view.row;
-    if position <= row.low {
-        return Change::Refused {
-            why: Refusal::Position,
-            blocks: 0,
-        };
+    if position <= view.row.low || view.row.high < position {
+        return Err(Refusal::Position.into());
     }
-    if row.high < position {
-        return Change::Refused {
-            why: Refusal::Position,
-            blocks: 0,
-        };
-    }
-    strike(table, view, position)
+    Ok(Hashed {
+        value: strike(table, view, position),
+        blocks: 0,
+    })
 }
 
 // Strikes the log's entries below a position.
-pub fn truncate(table: &mut [u8], log: u64, position: u64) -> Change
-    ensures answer { change_reply result ≡ (table_step table.old (truncates log position)).reply }
-    ensures blocks { change_blocks result ≡ (table_step table.old (truncates log position)).blocks }
-    ensures bytes { table.new ≡ (table_step table.old (truncates log position)).state }
+pub fn truncate(table: &mut [u8], log: u64, position: u64) -> Result<Hashed<Bounds>, Refused>
+    ensures { Changed (table_step table.old (truncates log position)) result table.new }
 {
-    match open(table, log) {
-        Opening::Open(view) => truncate_open(table, view, position),
-        Opening::Refused(why) => Change::Refused { why, blocks: 0 },
-    }
+    let view = open(table, log)?;
+    truncate_open(table, view, position)
 }

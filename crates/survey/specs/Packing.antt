@@ -1,10 +1,10 @@
 -- Request [10]: "A survey number and a reading number, 24 and 40 bits, together make a position: survey times 2^40 plus reading".
-use Rattle.std.specs.Prelude.{ℕ, ◌+◌, ◌-◌, ◌*◌, ◌/◌, ◌%◌, ◌^◌, [], ◌∷◌, Bool, ◌||◌, leb}
+use Rattle.std.specs.Prelude.{ℕ, ◌+◌, ◌-◌, ◌*◌, ◌/◌, ◌%◌, ◌^◌, [], ◌∷◌, Bool, ◌||◌, leb, Result, Ok, Err}
 use Rattle.refusal.specs.Order.{fault, first_fault}
 use Rattle.refusal.specs.Answer.{Answer, answer, answer_with}
 use Rattle.refusal.specs.Number.{number_of}
-use Rattle.survey.specs.declared.Packing.{Packing}
-use Rattle.survey.specs.declared.Packing.TheVariants.{At, Refused}
+use Rattle.refusal.specs.declared.Refusal.{Refusal}
+use Rattle.survey.specs.declared.Packed.{Packed}
 
 unfoldable pub packed : ℕ → ℕ → ℕ
 packed survey reading = survey * 2 ^ 40 + reading
@@ -28,6 +28,6 @@ last_reading = 2 ^ 40 - 1
 unfoldable pub packing : ℕ → ℕ → Answer
 packing survey reading = answer_with (first_fault (fault 18 (too_wide survey reading) ∷ [])) (packed survey reading ∷ [])
 
-abbrev pub packing_answer : Packing → Answer
-packing_answer (At p) = answer 0 (p.0 ∷ [])
-packing_answer (Refused why) = answer (number_of why) []
+abbrev pub packing_answer : Result Packed Refusal → Answer
+packing_answer (Ok p) = answer 0 (p.0 ∷ [])
+packing_answer (Err why) = answer (number_of why) []

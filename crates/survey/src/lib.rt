@@ -6,26 +6,20 @@ ghost use Rattle.survey.specs.Packing.{packing, packing_answer, last_reading, su
 
 use refusal::Refusal;
 
-#[derive(Drop)]
+#[derive(Clone, Copy, PartialEq, Eq)]
 pub struct Survey(pub u64);
 
-#[derive(Drop)]
+#[derive(Clone, Copy, PartialEq, Eq)]
 pub struct Reading(pub u64);
 
-#[derive(Drop)]
+#[derive(Clone, Copy, PartialEq, Eq)]
 pub struct Packed(pub u64);
 
 // A position split back.
-#[derive(Drop)]
+#[derive(Clone, Copy, PartialEq, Eq)]
 pub struct Place {
     pub survey: Survey,
     pub reading: Reading,
-}
-
-#[derive(Drop)]
-pub enum Packing {
-    At(Packed),
-    Refused(Refusal),
 }
 
 const SURVEYS: u64 = 16777216;
@@ -33,28 +27,22 @@ const SURVEYS: u64 = 16777216;
 const READINGS: u64 = 1099511627776;
 
 // The position of a reading of a survey. Refused with 18: a number too wide for its part.
-pub fn pack(survey: Survey, reading: Reading) -> Packing
+pub fn pack(survey: Survey, reading: Reading) -> Result<Packed, Refusal>
     ensures { packing_answer result ≡ packing survey.0 reading.0 }
 {
-    let s = survey.0;
-    let r = reading.0;
-    if SURVEYS <= s {
-        return Packing::Refused(Refusal::Survey);
+    if SURVEYS <= survey.0 || READINGS <= reading.0 {
+        return Err(Refusal::Survey);
     }
-    if READINGS <= r {
-        return Packing::Refused(Refusal::Survey);
-    }
-    Packing::At(Packed(s * READINGS + r))
+    Ok(Packed(survey.0 * READINGS + reading.0))
 }
 
 // The survey and the reading of a position.
 pub fn split(position: Packed) -> Place
     ensures { (result.survey.0 ≡ survey_of position.0) × (result.reading.0 ≡ reading_of position.0) }
 {
-    let n = position.0;
     Place {
-        survey: Survey(n / READINGS),
-        reading: Reading(n % READINGS),
+        survey: Survey(position.0 / READINGS),
+        reading: Reading(position.0 % READINGS),
     }
 }
 

@@ -1,12 +1,12 @@
 // Lookup by survey and reading.
-ghost use Rattle.std.specs.Prelude.{◌≡◌, length};
+ghost use Rattle.std.specs.Prelude.{length};
 ghost use Rattle.a2m.specs.TableCalls.{table_step};
-ghost use Rattle.a2m.specs.Opened.{finding_reply, finding_blocks, receipt_after};
+ghost use Rattle.a2m.specs.Opened.{Looked};
 ghost use Rattle.survey.specs.Requests.{looks, request_step};
 
-use a2m::Finding;
-use refusal::Refusal;
-use survey::{Packing, Reading, Survey, pack};
+use a2m_read::lookup::lookup_sized;
+use refusal::{Hashed, Refusal, Refused};
+use survey::{Reading, Survey, pack};
 
 // Writes a receipt of what stands at a reading of a survey.
 pub fn lookup(
@@ -16,25 +16,11 @@ pub fn lookup(
     reading: Reading,
     nonce: &[u8],
     receipt: &mut [u8],
-) -> Finding
-    ensures answer { finding_reply result receipt.new ≡ (request_step table_step table.now (looks log survey.0 reading.0 nonce.now (length receipt.old))).reply }
-    ensures blocks { finding_blocks result ≡ (request_step table_step table.now (looks log survey.0 reading.0 nonce.now (length receipt.old))).blocks }
-    ensures bytes { receipt.new ≡ receipt_after (request_step table_step table.now (looks log survey.0 reading.0 nonce.now (length receipt.old))).reply receipt.old }
+) -> Result<Hashed<u64>, Refused>
+    ensures { Looked (request_step table_step table.now (looks log survey.0 reading.0 nonce.now (length receipt.old))) result receipt.old receipt.new }
 {
-    if nonce.len() != 32 {
-        return Finding::Refused {
-            why: Refusal::Length,
-            blocks: 0,
-        };
-    }
-    if receipt.len() != 160 {
-        return Finding::Refused {
-            why: Refusal::Length,
-            blocks: 0,
-        };
-    }
-    match pack(survey, reading) {
-        Packing::At(position) => a2m_read::lookup::lookup(table, log, position.0, nonce, receipt),
-        Packing::Refused(why) => Finding::Refused { why, blocks: 0 },
-    }
+    let nonce = nonce.as_array::<32>().ok_or(Refusal::Length)?;
+    let receipt = receipt.as_mut_array::<160>().ok_or(Refusal::Length)?;
+    let position = pack(survey, reading)?;
+    lookup_sized(table, log, position.0, nonce, receipt)
 }

@@ -1,58 +1,87 @@
 -- `a2m_strike::strike` meets its contract. Assumes nothing.
-use Rattle.octets.specs.Octets.{zeros}
+use Rattle.octets.specs.Octets.{Bytes, zeros}
 use Rattle.layout.proofs.HoldsLaws.{holds-counted}
-use Rattle.a2m.proofs.ReleaseLaws.{begins, releasing-first, slot-within, last-most-free, count-most-free, freed-fits, releasing-on, falls, cut-held, cut-row, row-held, count_held, struck, struck-answer}
+use Rattle.a2m.proofs.ReleaseLaws.{Begins, begins, releasing-first, slot-within, last-most-free, count-most-free, next-bound, releasing-on, falls, cut-held, cut-row, row-held, count_held, struck, struck-low, struck-high}
 use Rattle.a2m.proofs.EnterLaws.{held-long}
 use Rattle.a2m.proofs.OpenedLaws.{opened-counted, opened-log, last-free-most, first-most}
 use native.Mathlib.Omega.{arith}
 use borrow.Author.Rules.{rules}
 use mathlib.Core.Path.{refl, ◌∙◌}
 use Rattle.a2m_strike.proofs.strike.Goals as goal
+use Rattle.a2m_strike.proofs.strike.Goals.{After-join}
+
+begun : (c : goal.After-join) → Bytes c.args.table.now → Begins c.args.table.now c.args.view c.args.n c.join.new.table
+begun c bytes = begins c.args.table.now c.args.view c.args.n c.join.new.table c.requires.opened bytes c.requires.le_n.0 c.requires.le_n.1 c.join.ensures
 
 pub join-requires : goal.join-requires
 join-requires c = record { counted = opened-counted c.args.table.now c.args.view c.requires.opened; last_le_slots = (last-free-most c.args.table.now c.args.view c.requires.opened, first-most c.args.table.now c.args.view c.requires.opened) }
 
-pub loop-none-init : goal.loop-none-init
-loop-none-init c = (refl, λ b B. releasing-first b c.args.view B.opened c.args.n B.least B.most B.bytes c.join.new.table B.joined)
+pub entries-init : goal.entries-init
+entries-init c = (refl, λ b B. releasing-first b c.args.view B.opened c.args.n B.least B.most B.bytes c.join.new.table B.joined)
 
 pub link_at-l-requires : goal.link_at-l-requires
-link_at-l-requires c = record { counted = holds-counted _ _ _ _ _ (c.loop-none.invariant.1 c.args.table.now (begins c.args.table.now c.args.view c.args.n c.join.new.table c.requires.opened (search rules) c.requires.le_n.0 c.requires.le_n.1 c.join.ensures)).held; le_s = slot-within c.args.table.now c.args.view c.args.n c.loop-none.table c.loop-none.last c.loop-none.count c.loop-none.s c.requires.opened (c.loop-none.invariant.1 c.args.table.now (begins c.args.table.now c.args.view c.args.n c.join.new.table c.requires.opened (search rules) c.requires.le_n.0 c.requires.le_n.1 c.join.ensures)) }
+link_at-l-requires c =
+    let R = c.entries.invariant.1 c.args.table.now (begun (goal.at.link_at-l-requires c).After-join (search rules)) in
+    record { counted = holds-counted _ _ _ _ _ R.held; le_s = slot-within c.requires.opened R }
 
 pub put_slot-requires : goal.put_slot-requires
-unfolding zeros
-put_slot-requires c = record { counted = holds-counted _ _ _ _ _ (c.loop-none.invariant.1 c.args.table.now (begins c.args.table.now c.args.view c.args.n c.join.new.table c.requires.opened (search rules) c.requires.le_n.0 c.requires.le_n.1 c.join.ensures)).held; le_s = slot-within c.args.table.now c.args.view c.args.n c.loop-none.table c.loop-none.last c.loop-none.count c.loop-none.s c.requires.opened (c.loop-none.invariant.1 c.args.table.now (begins c.args.table.now c.args.view c.args.n c.join.new.table c.requires.opened (search rules) c.requires.le_n.0 c.requires.le_n.1 c.join.ensures)); slot_fits = freed-fits c.args.table.now c.args.view c.args.n c.loop-none.table c.loop-none.last c.loop-none.count c.loop-none.s c.requires.opened (c.loop-none.invariant.1 c.args.table.now (begins c.args.table.now c.args.view c.args.n c.join.new.table c.requires.opened (search rules) c.requires.le_n.0 c.requires.le_n.1 c.join.ensures)) c.link_at-l.result c.link_at-l.ensures }
+put_slot-requires c =
+    let R = c.entries.invariant.1 c.args.table.now (begun (goal.at.put_slot-requires c).After-join (search rules)) in
+    record { counted = holds-counted _ _ _ _ _ R.held; le_s = slot-within c.requires.opened R; owner_bound = omega arith; next_bound = next-bound c.requires.opened R c.link_at-l.ensures }
 
 pub overflow_add-count : goal.overflow_add-count
-overflow_add-count c = let m = count-most-free c.args.table.now c.args.view c.args.n c.loop-none.table c.loop-none.last c.loop-none.count c.loop-none.s c.requires.opened (c.loop-none.invariant.1 c.args.table.now (begins c.args.table.now c.args.view c.args.n c.join.new.table c.requires.opened (search rules) c.requires.le_n.0 c.requires.le_n.1 c.join.ensures)) in
+overflow_add-count c =
+    let R = c.entries.invariant.1 c.args.table.now (begun (goal.at.overflow_add-count c).After-join (search rules)) in
+    let m = count-most-free c.requires.opened R in
     let n = (opened-counted c.args.table.now c.args.view c.requires.opened).slots-most in
     omega arith
 
-pub loop-none-smaller : goal.loop-none-smaller
+pub entries-smaller : goal.entries-smaller
 unfolding zeros
-loop-none-smaller c = falls c.args.table.now c.args.view c.args.n c.loop-none.table c.loop-none.last c.loop-none.count c.loop-none.s c.requires.opened (c.loop-none.invariant.1 c.args.table.now (begins c.args.table.now c.args.view c.args.n c.join.new.table c.requires.opened (search rules) c.requires.le_n.0 c.requires.le_n.1 c.join.ensures)) c.link_at-l.result c.link_at-l.ensures c.if-n-l.false c.put_slot.new.table c.put_slot.ensures
+entries-smaller c =
+    let R = c.entries.invariant.1 c.args.table.now (begun (goal.at.entries-smaller c).After-join (search rules)) in
+    falls c.requires.opened R c.link_at-l.ensures c.if-n-l.false c.put_slot.ensures
 
-pub loop-none-preserved : goal.loop-none-preserved
+pub entries-preserved : goal.entries-preserved
 unfolding zeros
-loop-none-preserved c = (c.put_slot.auto.table ∙ c.loop-none.invariant.0, λ b B. (releasing-on b c.args.view c.args.n c.loop-none.table c.loop-none.last c.loop-none.count c.loop-none.s B.opened (c.loop-none.invariant.1 b B) c.link_at-l.result c.link_at-l.ensures c.if-n-l.false c.put_slot.new.table c.put_slot.ensures).0)
+entries-preserved c = (c.put_slot.auto.table ∙ c.entries.invariant.0, λ b B. (releasing-on B.opened (c.entries.invariant.1 b B) c.link_at-l.ensures c.if-n-l.false c.put_slot.ensures).0)
 
 pub join-requires-2 : goal.join-requires-2
-join-requires-2 c = record { counted = holds-counted _ _ _ _ _ (c.loop-none.invariant.1 c.args.table.now (begins c.args.table.now c.args.view c.args.n c.join.new.table c.requires.opened (search rules) c.requires.le_n.0 c.requires.le_n.1 c.join.ensures)).held; last_le_slots = (last-most-free c.args.table.now c.args.view c.args.n c.loop-none.table c.loop-none.last c.loop-none.count c.loop-none.s c.requires.opened (c.loop-none.invariant.1 c.args.table.now (begins c.args.table.now c.args.view c.args.n c.join.new.table c.requires.opened (search rules) c.requires.le_n.0 c.requires.le_n.1 c.join.ensures)), omega arith) }
+join-requires-2 c =
+    let R = c.entries.invariant.1 c.args.table.now (begun (goal.at.join-requires-2 c).After-join (search rules)) in
+    record { counted = holds-counted _ _ _ _ _ R.held; last_le_slots = (last-most-free c.requires.opened R, omega arith) }
 
 pub put_row-requires : goal.put_row-requires
-put_row-requires c = record { counted = holds-counted _ _ _ _ _ (cut-held c.args.table.now c.args.view c.args.n c.loop-none.table c.loop-none.last c.loop-none.count c.loop-none.s c.requires.opened (c.loop-none.invariant.1 c.args.table.now (begins c.args.table.now c.args.view c.args.n c.join.new.table c.requires.opened (search rules) c.requires.le_n.0 c.requires.le_n.1 c.join.ensures)) c.join-2.new.table c.join-2.ensures); g_lt_logs = opened-log c.args.table.now c.args.view c.requires.opened; row_fits = cut-row c.args.table.now c.args.view c.args.n c.loop-none.table c.loop-none.last c.loop-none.count c.loop-none.s c.requires.opened (c.loop-none.invariant.1 c.args.table.now (begins c.args.table.now c.args.view c.args.n c.join.new.table c.requires.opened (search rules) c.requires.le_n.0 c.requires.le_n.1 c.join.ensures)) (search rules) (omega (arith, c.ranges.n)) c.truncate-after.result c.truncate-after.ensures }
+put_row-requires c =
+    let R = c.entries.invariant.1 c.args.table.now (begun (goal.at.put_row-requires c).After-join (search rules)) in
+    record {
+      counted = holds-counted _ _ _ _ _ (cut-held c.requires.opened R c.join-2.ensures);
+      g_lt_logs = opened-log c.args.table.now c.args.view c.requires.opened;
+      row_fits = cut-row c.requires.opened R (search rules) (omega (arith, c.ranges.n)) c.truncate-after.ensures;
+    }
 
-pub put_count-requires : goal.put_count-requires
-put_count-requires c = let m = count-most-free c.args.table.now c.args.view c.args.n c.loop-none.table c.loop-none.last c.loop-none.count c.loop-none.s c.requires.opened (c.loop-none.invariant.1 c.args.table.now (begins c.args.table.now c.args.view c.args.n c.join.new.table c.requires.opened (search rules) c.requires.le_n.0 c.requires.le_n.1 c.join.ensures)) in
+pub put_free-requires : goal.put_free-requires
+put_free-requires c =
+    let R = c.entries.invariant.1 c.args.table.now (begun (goal.at.put_free-requires c).After-join (search rules)) in
+    let m = count-most-free c.requires.opened R in
     let n = (opened-counted c.args.table.now c.args.view c.requires.opened).slots-most in
-    record { header_size_in_bounds = held-long _ _ _ _ _ (row-held c.args.table.now c.args.view c.args.n c.loop-none.table c.loop-none.last c.loop-none.count c.loop-none.s c.requires.opened (c.loop-none.invariant.1 c.args.table.now (begins c.args.table.now c.args.view c.args.n c.join.new.table c.requires.opened (search rules) c.requires.le_n.0 c.requires.le_n.1 c.join.ensures)) (search rules) (omega (arith, c.ranges.n)) c.join-2.new.table c.put_row.new.table c.truncate-after.result c.join-2.ensures c.truncate-after.ensures c.put_row.ensures); count_bound = omega arith }
+    record { header_size_in_bounds = held-long _ _ _ _ _ (row-held c.requires.opened R (search rules) (omega (arith, c.ranges.n)) c.join-2.ensures c.truncate-after.ensures c.put_row.ensures); bound = omega arith }
 
-pub put_last-requires : goal.put_last-requires
-put_last-requires c = let m = last-most-free c.args.table.now c.args.view c.args.n c.loop-none.table c.loop-none.last c.loop-none.count c.loop-none.s c.requires.opened (c.loop-none.invariant.1 c.args.table.now (begins c.args.table.now c.args.view c.args.n c.join.new.table c.requires.opened (search rules) c.requires.le_n.0 c.requires.le_n.1 c.join.ensures)) in
+pub put_free-requires-2 : goal.put_free-requires-2
+put_free-requires-2 c =
+    let R = c.entries.invariant.1 c.args.table.now (begun (goal.at.put_free-requires-2 c).After-join (search rules)) in
+    let m = last-most-free c.requires.opened R in
     let n = (opened-counted c.args.table.now c.args.view c.requires.opened).slots-most in
-    record { header_size_in_bounds = held-long _ _ _ _ _ (count_held c.args.table.now c.args.view c.args.n c.loop-none.table c.loop-none.last c.loop-none.count c.loop-none.s c.requires.opened (c.loop-none.invariant.1 c.args.table.now (begins c.args.table.now c.args.view c.args.n c.join.new.table c.requires.opened (search rules) c.requires.le_n.0 c.requires.le_n.1 c.join.ensures)) (search rules) (omega (arith, c.ranges.n)) c.join-2.new.table c.put_row.new.table c.put_count.new.table c.truncate-after.result c.join-2.ensures c.truncate-after.ensures c.put_row.ensures c.put_count.ensures); last_bound = omega arith }
+    record { header_size_in_bounds = held-long _ _ _ _ _ (count_held c.requires.opened R (search rules) (omega (arith, c.ranges.n)) c.join-2.ensures c.truncate-after.ensures c.put_row.ensures c.put_free.ensures); bound = omega arith }
 
 pub shape_of-table : goal.shape_of-table
-shape_of-table c = c.put_last.auto.table ∙ c.put_count.auto.table ∙ c.put_row.auto.table ∙ c.join-2.auto.table ∙ c.loop-none.invariant.0 ∙ c.join.auto.table
+shape_of-table c = c.put_free-2.auto.table ∙ c.put_free.auto.table ∙ c.put_row.auto.table ∙ c.join-2.auto.table ∙ c.entries.invariant.0 ∙ c.join.auto.table
 
 pub returns : goal.returns
-returns c = record { answer = struck-answer c.args.view c.args.n c.loop-none.s c.truncate-after.result c.truncate-after.ensures; blocks = refl; bytes = struck c.args.table.now c.args.view c.args.n c.loop-none.table c.loop-none.last c.loop-none.count c.loop-none.s c.requires.opened (c.loop-none.invariant.1 c.args.table.now (begins c.args.table.now c.args.view c.args.n c.join.new.table c.requires.opened (search rules) c.requires.le_n.0 c.requires.le_n.1 c.join.ensures)) (search rules) (omega (arith, c.ranges.n)) c.link_at-l.result c.link_at-l.ensures c.if-n-l.true c.join-2.new.table c.put_row.new.table c.put_count.new.table c.put_last.new.table c.truncate-after.result c.join-2.ensures c.truncate-after.ensures c.put_row.ensures c.put_count.ensures c.put_last.ensures }
+returns c =
+    let R = c.entries.invariant.1 c.args.table.now (begun (goal.at.returns c).After-join (search rules)) in
+    record {
+      low = struck-low c.args.view c.args.n c.entries.s c.truncate-after.result c.truncate-after.ensures;
+      high = struck-high c.args.view c.args.n c.entries.s c.truncate-after.result c.truncate-after.ensures;
+      bytes = struck c.requires.opened R (search rules) (omega (arith, c.ranges.n)) c.link_at-l.ensures c.if-n-l.true c.join-2.ensures c.truncate-after.ensures c.put_row.ensures c.put_free.ensures c.put_free-2.ensures;
+    }

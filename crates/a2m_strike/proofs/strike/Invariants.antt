@@ -7,8 +7,8 @@ use Rattle.a2m.proofs.ReleaseLaws.{Releasing, Begins}
 use mathlib.Core.Path.{◌≡◌}
 use Rattle.a2m_strike.proofs.strike.Given as given
 
-abbrev pub invariant-loop-none : given.invariant-loop-none
-invariant-loop-none l = (length l.table ≡ length l.initial.table) × ((b : List ℕ) → Begins b l.view l.n l.initial.table → Releasing b l.view l.n l.table l.last l.count l.s)
+abbrev pub invariant-entries : given.invariant-entries
+invariant-entries l = (length l.table ≡ length l.initial.table) × ((b : List ℕ) → Begins b l.view l.n l.initial.table → Releasing b l.view l.n l.table l.last l.count l.s)
 
-abbrev pub decreases-loop-none : given.decreases-loop-none
-decreases-loop-none l = length (chain (read_table l.table).slots (suc l.view.log) l.s)
+abbrev pub decreases-entries : given.decreases-entries
+decreases-entries l = length (chain (read_table l.table).slots (suc l.view.log) l.s)

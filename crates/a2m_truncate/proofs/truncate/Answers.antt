@@ -1,18 +1,27 @@
 -- `a2m_truncate::truncate` meets its contract. Assumes nothing.
 use Prim.Native.Nat.{ℕ}
-use Rattle.a2m.specs.Opened.{change_reply, change_blocks}
+use mathlib.Core.Path.{◌≡◌, refl, ap}
 use Rattle.a2m.specs.Call.{truncate}
-use Rattle.a2m.proofs.CallLaws.{truncate-sized, unopened, at-log}
+use Rattle.a2m.specs.TableCalls.{table_step}
+use Rattle.a2m.proofs.Answered.{as_err, changed_not, same-change}
+use Rattle.a2m.proofs.CallLaws.{truncate-sized, unopened}
 use Rattle.a2m.proofs.OpenedLaws.{opened}
-use mathlib.Core.Path.{refl, sym, ◌∙◌}
+use mathlib.Core.Bool.{true}
+use Rattle.refusal.specs.Unwritten.{unwritten, counts}
+use Rattle.a2m_truncate.proofs.truncate.Code.Mir.{function}
 use Rattle.a2m_truncate.proofs.truncate.Goals as goal
-use Rattle.a2m_truncate.proofs.truncate.Goals.{After-open}
+
+-- no literal of the body becomes the count
+pub counted : unwritten counts function.body ≡ true
+counted = refl
+
+pub returns-in_err-view : goal.returns-in_err-view
+returns-in_err-view c =
+    let call = truncate c.args.log c.args.position in
+    changed_not (table_step c.args.table.now call) _ (as_err _ c.from_residual.ensures) (unopened c.args.table.now c.args.log _ call c.in_err-view.ensures refl (truncate-sized c.args.table.now c.args.position c.args.log))
 
 pub truncate_open-requires : goal.truncate_open-requires
-truncate_open-requires c = (opened c.args.table.now c.args.log c.in-Open.view (sym c.in-Open.is ∙ (goal.at.truncate_open-requires c).After-open.«open».ensures)).0
+truncate_open-requires c = (opened c.args.table.now c.args.log c.in_ok-view.view c.in_ok-view.ensures).0
 
-pub returns-in-Open : goal.returns-in-Open
-returns-in-Open c = let both = at-log c.args.table.now (λ (g : ℕ). truncate g c.args.position) (change_reply c.truncate_open.result) (change_blocks c.truncate_open.result) c.truncate_open.new.table (opened c.args.table.now c.args.log c.in-Open.view (sym c.in-Open.is ∙ (goal.at.returns-in-Open c).After-open.«open».ensures)).1 (c.truncate_open.ensures.answer, (c.truncate_open.ensures.blocks, c.truncate_open.ensures.bytes)) in record { answer = both.0; blocks = both.1.0; bytes = both.1.1 }
-
-pub returns-in-Refused : goal.returns-in-Refused
-returns-in-Refused c = let both = unopened c.args.table.now c.args.log c.in-Refused.why (truncate c.args.log c.args.position) (sym c.in-Refused.is ∙ (goal.at.returns-in-Refused c).After-open.«open».ensures) refl (truncate-sized c.args.table.now c.args.position c.args.log) in record { answer = both.0; blocks = both.1.0; bytes = both.1.1 }
+pub returns : goal.returns
+returns c = same-change c.args.table.now (ap (λ (g : ℕ). truncate g c.args.position) (opened c.args.table.now c.args.log c.in_ok-view.view c.in_ok-view.ensures).1) c.truncate_open.ensures

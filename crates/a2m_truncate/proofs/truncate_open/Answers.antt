@@ -1,13 +1,14 @@
 -- `a2m_truncate::truncate_open` meets its contract. Assumes nothing.
-use Rattle.a2m.specs.Opened.{change_reply, change_blocks}
-use Rattle.a2m.proofs.CallLaws.{truncate-low, truncate-high, truncate-done}
+use mathlib.Core.Path.{refl, ap, ap₂}
+use Rattle.std.specs.Prelude.{Ok, Err}
+use Rattle.a2m.specs.Call.{truncate, done}
+use Rattle.a2m.specs.TableCalls.{table_step}
+use Rattle.a2m.proofs.Answered.{changed, changed_not}
+use Rattle.a2m.proofs.CallLaws.{truncate-outside, truncate-done}
 use Rattle.a2m_truncate.proofs.truncate_open.Goals as goal
 
-pub returns-then-position-row : goal.returns-then-position-row
-returns-then-position-row c = let both = truncate-low c.args.table.now c.args.position c.args.view c.requires c.if-position-row.true in record { answer = both.0; blocks = both.1.0; bytes = both.1.1 }
-
-pub returns-then-row-position : goal.returns-then-row-position
-returns-then-row-position c = let both = truncate-high c.args.table.now c.args.position c.args.view c.requires c.if-position-row.false c.if-row-position.true in record { answer = both.0; blocks = both.1.0; bytes = both.1.1 }
+pub returns-then-position-view : goal.returns-then-position-view
+returns-then-position-view c = changed_not (table_step c.args.table.now (truncate c.args.view.log c.args.position)) _ (ap Err c.into.ensures) (truncate-outside c.args.table.now c.args.position c.args.view c.requires c.then-position-view.either)
 
 pub returns : goal.returns
-returns c = let both = truncate-done c.args.table.now c.args.position c.args.view c.requires c.if-position-row.false c.if-row-position.false (change_reply c.strike.result) (change_blocks c.strike.result) c.strike.new.table c.strike.ensures.answer c.strike.ensures.blocks c.strike.ensures.bytes in record { answer = both.0; blocks = both.1.0; bytes = both.1.1 }
+returns c = changed (table_step c.args.table.now (truncate c.args.view.log c.args.position)) (Ok _) (truncate-done c.args.table.now c.args.position c.args.view c.requires c.if-position-view.false c.if-view-position.false _ _ _ (ap₂ done c.strike.ensures.low c.strike.ensures.high) refl c.strike.ensures.bytes)

@@ -12,10 +12,10 @@ use mathlib.Core.Path.{ap, ◌∙◌}
 use Rattle.a2m_attest.proofs.search.find.Goals as goal
 
 pub returns-then-row-n : goal.returns-then-row-n
-returns-then-row-n c = record { within = omega arith; found = is-unassigned (read_table c.args.table.now).slots c.args.view.row (entries_in (read_table c.args.table.now) c.args.view.log) c.args.n c.if-row-n.true }
+returns-then-row-n c = record { within = tt; found = is-unassigned (read_table c.args.table.now).slots c.args.view.row (entries_in (read_table c.args.table.now) c.args.view.log) c.args.n c.if-row-n.true }
 
 pub returns-then-n-row : goal.returns-then-n-row
-returns-then-n-row c = record { within = omega arith; found = is-forgotten (read_table c.args.table.now).slots c.args.view.row (entries_in (read_table c.args.table.now) c.args.view.log) c.args.n c.if-row-n.false c.if-n-row.true }
+returns-then-n-row c = record { within = tt; found = is-forgotten (read_table c.args.table.now).slots c.args.view.row (entries_in (read_table c.args.table.now) c.args.view.log) c.args.n c.if-row-n.false c.if-n-row.true }
 
 pub search-requires : goal.search-requires
 search-requires c = record { counted = opened-counted c.args.table.now c.args.view c.requires; first_value = opened-reaches c.args.table.now c.args.view c.requires }

@@ -1,12 +1,17 @@
 -- `a2m_put::append::append_open` meets its contract. Assumes nothing.
-use Rattle.a2m.specs.Opened.{change_reply, change_blocks}
-use lib.ListN.{length}
-use Rattle.a2m.proofs.CallLaws.{append-spent, append-full, append-promised, append-done, append-high, append-fits}
-use Rattle.entry.proofs.DigestLaws.{length-entry_digest}
-use Rattle.a2m.proofs.OpenedLaws.{opened-counted, last-most}
-use mathlib.Core.Logic.{◌≢◌}
 use native.Mathlib.Omega.{arith}
-use mathlib.Core.Path.{ap, ◌∙◌, ◌≡◌, refl}
+use mathlib.Core.Logic.{◌≢◌}
+use Rattle.std.specs.Prelude.{Ok, Err}
+use Rattle.a2m.specs.Call.{append, done}
+use Rattle.a2m.specs.TableCalls.{table_step}
+use Rattle.a2m.proofs.Answered.{as_err, changed, changed_not}
+use Rattle.a2m.proofs.CallLaws.{append-spent, append-crowded, append-done, append-high, append-fits, has_room}
+use Rattle.a2m.proofs.OpenedLaws.{opened-counted, last-within}
+use mathlib.Core.Path.{◌≡◌, refl, ap, ap₂, ◌∙◌}
+use Prim.Native.Nat.{ℕ}
+use Rattle.layout.specs.Image.{slot_at}
+use Rattle.layout.specs.Layout.{read_table}
+use Rattle.entry.specs.Digest.{entry_digest}
 use mathlib.Core.Bool.{true}
 use Rattle.refusal.specs.Unwritten.{unwritten, counts}
 use Rattle.a2m_put.proofs.append.append_open.Code.Mir.{function}
@@ -16,21 +21,28 @@ use Rattle.a2m_put.proofs.append.append_open.Goals as goal
 pub counted : unwritten counts function.body ≡ true
 counted = refl
 
-pub returns-then-row : goal.returns-then-row
-returns-then-row c = let both = append-spent c.args.table.now c.args.value.now c.args.view c.requires.opened c.requires.value_len c.if-row.true in record { answer = both.0; blocks = both.1.0; bytes = both.1.1 }
+pub returns-then-view-eq18446744073709551615 : goal.returns-then-view-eq18446744073709551615
+returns-then-view-eq18446744073709551615 c = changed_not (table_step c.args.table.now (append c.args.view.log c.args.value.now)) _ (ap Err c.into.ensures) (append-spent c.args.table.now c.args.value.now c.args.view c.requires (omega arith) c.if-view-eq18446744073709551615.true)
 
-pub returns-then-view-eq0 : goal.returns-then-view-eq0
-returns-then-view-eq0 c = let both = append-full c.args.table.now c.args.value.now c.args.view c.requires.opened c.requires.value_len c.if-row.false c.if-view-eq0.true in record { answer = both.0; blocks = both.1.0; bytes = both.1.1 }
-
-pub returns-then-view : goal.returns-then-view
-returns-then-view c = let both = append-promised c.args.table.now c.args.value.now c.args.view c.requires.opened c.requires.value_len c.if-row.false c.if-view-eq0.false c.if-view.true in record { answer = both.0; blocks = both.1.0; bytes = both.1.1 }
+pub returns-in_err-room : goal.returns-in_err-room
+returns-in_err-room c = changed_not (table_step c.args.table.now (append c.args.view.log c.args.value.now)) _ (as_err _ c.from_residual.ensures) (append-crowded c.args.table.now c.args.value.now c.args.view c.requires (omega arith) c.if-view-eq18446744073709551615.false _ c.in_err-room.ensures)
 
 pub digest_after-own-requires : goal.digest_after-own-requires
-digest_after-own-requires c = record { counted = opened-counted c.args.table.now c.args.view c.requires.opened; last_le_slots = last-most c.args.table.now c.args.view c.requires.opened; value_len = c.requires.value_len }
+digest_after-own-requires c = record { counted = opened-counted c.args.table.now c.args.view c.requires; last_slot = last-within c.args.table.now c.args.view c.requires c.last_slot.result c.last_slot.ensures.number c.last_slot.ensures.slot }
 
 pub enter-requires : goal.enter-requires
-enter-requires c = let f : c.args.view.free ≢ 0 = c.if-view-eq0.false in
-    record { opened = c.requires.opened; le_free = omega arith; after_value = append-high c.args.view.row c.append-after.result c.args.view.free c.append-after.ensures; high_bound = append-fits c.args.view.row c.append-after.result c.args.view.free c.append-after.ensures (omega arith) c.if-row.false; value_len = (c.requires.value_len, ap length c.digest_after-own.ensures.0 ∙ length-entry_digest _ _ _) }
+enter-requires c =
+    let f : c.args.view.free ≢ 0 = (has_room c.args.view c.in_ok-room.ensures).0 in
+    record {
+      opened = c.requires;
+      le_free = omega arith;
+      after_value = append-high c.args.view.row c.append-after.result c.args.view.free c.append-after.ensures;
+      high_bound = append-fits c.args.view.row c.append-after.result c.args.view.free c.append-after.ensures (omega arith) c.if-view-eq18446744073709551615.false;
+    }
 
 pub returns : goal.returns
-returns c = let both = append-done c.args.table.now c.args.value.now c.args.view c.requires.opened c.requires.value_len c.if-row.false c.if-view-eq0.false c.if-view.false c.append-after.result c.digest_after-own.result.bytes c.append-after.ensures c.digest_after-own.ensures.0 (change_reply c.enter.result) (change_blocks c.enter.result) c.enter.new.table c.enter.ensures.answer (c.enter.ensures.blocks ∙ c.digest_after-own.ensures.1) c.enter.ensures.bytes in record { answer = both.0; blocks = both.1.0; bytes = both.1.1 }
+returns c =
+    changed (table_step c.args.table.now (append c.args.view.log c.args.value.now)) (Ok c.enter.result)
+    (append-done c.args.table.now c.args.value.now c.args.view c.requires (omega arith) c.if-view-eq18446744073709551615.false c.in_ok-room.ensures c.append-after.result c.digest_after-own.result.value c.append-after.ensures
+    (c.digest_after-own.ensures.digest ∙ ap (λ (s : ℕ). entry_digest c.append-after.result.high c.args.value.now (slot_at (read_table c.args.table.now).slots s).digest) c.last_slot.ensures.number)
+    _ _ _ (ap₂ done c.enter.ensures.low c.enter.ensures.high) (c.enter.ensures.blocks ∙ c.digest_after-own.ensures.blocks) c.enter.ensures.bytes)

@@ -1,8 +1,14 @@
 -- `a2m_read::end::end_open` meets its contract. Assumes nothing.
-use Rattle.a2m.proofs.ReadLaws.{end-done}
-use Rattle.a2m.proofs.OpenedLaws.{opened-counted, opened-long, opened-log, last-most}
 use native.Mathlib.Omega.{arith}
-use mathlib.Core.Path.{◌≡◌, refl}
+use mathlib.Core.Path.{◌≡◌, refl, ◌∙◌}
+use Rattle.a2m.specs.Opened.{slot_number}
+use lib.ListN.{length}
+use Rattle.std.specs.Prelude.{Ok}
+use Rattle.a2m.specs.Call.{end}
+use Rattle.a2m.specs.TableCalls.{table_step}
+use Rattle.a2m.proofs.Answered.{ended}
+use Rattle.a2m.proofs.ReadLaws.{end-done}
+use Rattle.a2m.proofs.OpenedLaws.{opened-counted, opened-long, opened-log, last-within}
 use mathlib.Core.Bool.{true}
 use Rattle.refusal.specs.Unwritten.{unwritten, counts}
 use Rattle.a2m_read.proofs.end.end_open.Code.Mir.{function}
@@ -12,14 +18,17 @@ use Rattle.a2m_read.proofs.end.end_open.Goals as goal
 pub counted : unwritten counts function.body ≡ true
 counted = refl
 
-pub keeper_of-keeper-requires : goal.keeper_of-keeper-requires
-keeper_of-keeper-requires c = opened-long c.args.table.now c.args.view c.requires.opened
+pub keeper_of-requires : goal.keeper_of-requires
+keeper_of-requires c = opened-long c.args.table.now c.args.view c.requires
 
 pub overflow_cast-facts : goal.overflow_cast-facts
-overflow_cast-facts c = let l = opened-log c.args.table.now c.args.view c.requires.opened in let k = (opened-counted c.args.table.now c.args.view c.requires.opened).logs-most in omega arith
+overflow_cast-facts c = let l = opened-log c.args.table.now c.args.view c.requires in let k = (opened-counted c.args.table.now c.args.view c.requires).logs-most in omega arith
 
 pub attest-blocks-requires : goal.attest-blocks-requires
-attest-blocks-requires c = record { counted = opened-counted c.args.table.now c.args.view c.requires.opened; s_le_slots = last-most c.args.table.now c.args.view c.requires.opened; nonce_len = (c.requires.nonce_len.0, c.requires.nonce_len.1) }
+attest-blocks-requires c = record { counted = opened-counted c.args.table.now c.args.view c.requires; shown_slot = last-within c.args.table.now c.args.view c.requires c.last_slot-last.result c.last_slot-last.ensures.number c.last_slot-last.ensures.slot }
 
 pub returns : goal.returns
-returns c = let both = end-done c.args.table.now c.args.nonce.now c.args.receipt.now c.args.view c.requires.opened c.requires.nonce_len.0 c.requires.nonce_len.1 c.kind_at.result c.keeper_of-keeper.result c.attest-blocks.result c.attest-blocks.new.receipt c.kind_at.ensures c.keeper_of-keeper.ensures c.attest-blocks.ensures.blocks c.attest-blocks.ensures.bytes in record { answer = both.0; blocks = both.1.0; bytes = both.1.1 }
+returns c =
+    ended (table_step c.args.table.now (end c.args.view.log c.args.nonce.now (length c.args.receipt.now))) (Ok _)
+    (end-done c.args.table.now c.args.nonce.now c.args.receipt.now c.args.view c.requires (omega arith) (omega arith) c.from.result c.keeper_of.result c.attest-blocks.result (slot_number c.last_slot-last.result) c.attest-blocks.new.receipt
+    c.last_slot-last.ensures.number (c.from.ensures ∙ c.kind_at.ensures) c.keeper_of.ensures c.attest-blocks.ensures.blocks c.attest-blocks.ensures.bytes)

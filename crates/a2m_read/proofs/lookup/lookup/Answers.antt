@@ -1,32 +1,36 @@
 -- `a2m_read::lookup::lookup` meets its contract. Assumes nothing.
-use lib.ListN.{length}
 use Prim.Native.Nat.{ℕ}
-use Rattle.a2m.specs.Opened.{finding_reply, finding_blocks}
+use mathlib.Core.Path.{◌≡◌, refl, ap}
+use mathlib.Core.List.{List}
+use lib.ListN.{length}
 use Rattle.a2m.specs.Call.{lookup}
-use Rattle.a2m.proofs.ReadLaws.{lookup-nonce, lookup-receipt, lookup-sized, read_unopened, read-at-log}
-use Rattle.a2m.proofs.OpenedLaws.{opened}
-use mathlib.Core.Path.{refl, sym, ◌∙◌, ◌≡◌}
+use Rattle.a2m.specs.TableCalls.{table_step}
+use Rattle.refusal.specs.declared.Refusal.TheVariants as why
+use Rattle.receipt.proofs.Parsed.{parsed, unparsed, parsed_mut, unparsed_mut}
+use Rattle.a2m.proofs.Answered.{looked_not, same-look}
+use Rattle.a2m.proofs.ReadLaws.{lookup-nonce, lookup-receipt}
 use mathlib.Core.Bool.{true}
 use Rattle.refusal.specs.Unwritten.{unwritten, counts}
 use Rattle.a2m_read.proofs.lookup.lookup.Code.Mir.{function}
 use Rattle.a2m_read.proofs.lookup.lookup.Goals as goal
-use Rattle.a2m_read.proofs.lookup.lookup.Goals.{After-open}
 
 -- no literal of the body becomes the count
 pub counted : unwritten counts function.body ≡ true
 counted = refl
 
-pub returns-then-nonce-ne32 : goal.returns-then-nonce-ne32
-returns-then-nonce-ne32 c = let both = lookup-nonce c.args.table.now c.args.nonce.now c.args.receipt.now c.args.position c.args.log c.if-nonce-ne32.true in record { answer = both.0; blocks = both.1.0; bytes = both.1.1 }
+pub returns-in_err-nonce : goal.returns-in_err-nonce
+returns-in_err-nonce c =
+    let p = unparsed c.args.nonce.now 32 why.Length c.as_array.result _ c.from_residual.result c.as_array.ensures.cases c.ok_or.ensures.value c.in_err-nonce.was c.from_residual.ensures.1 in
+    looked_not (table_step c.args.table.now (lookup c.args.log c.args.position c.args.nonce.now (length c.args.receipt.now))) _ p.0 (lookup-nonce c.args.table.now c.args.nonce.now c.args.receipt.now c.args.position c.args.log p.1)
 
-pub returns-then-receipt-ne160 : goal.returns-then-receipt-ne160
-returns-then-receipt-ne160 c = let both = lookup-receipt c.args.table.now c.args.nonce.now c.args.receipt.now c.args.position c.args.log c.if-nonce-ne32.false c.if-receipt-ne160.true in record { answer = both.0; blocks = both.1.0; bytes = both.1.1 }
+pub returns-in_err-receipt : goal.returns-in_err-receipt
+returns-in_err-receipt c =
+    let p = parsed c.args.nonce.now 32 why.Length c.as_array.result _ c.as_array.ensures.cases c.ok_or.ensures.value c.in_ok-nonce.was in
+    let u = unparsed_mut c.args.receipt.now 160 why.Length c.as_mut_array.result _ c.from_residual-in_err-receipt.result c.as_mut_array.ensures.cases c.ok_or-2.ensures.value c.in_err-receipt.was c.from_residual-in_err-receipt.ensures.1 in
+    looked_not (table_step c.args.table.now (lookup c.args.log c.args.position c.args.nonce.now (length c.args.receipt.now))) _ u.0 (lookup-receipt c.args.table.now c.args.nonce.now c.args.receipt.now c.args.position c.args.log p.1 u.1)
 
-pub lookup_open-requires : goal.lookup_open-requires
-lookup_open-requires c = record { opened = (opened c.args.table.now c.args.log c.in-Open.view (sym c.in-Open.is ∙ (goal.at.lookup_open-requires c).After-open.«open».ensures)).0; nonce_len = (c.if-nonce-ne32.false, c.if-receipt-ne160.false) }
-
-pub returns-in-Open : goal.returns-in-Open
-returns-in-Open c = let both = read-at-log c.args.table.now (λ (g : ℕ). lookup g c.args.position c.args.nonce.now (length c.args.receipt.now)) (finding_reply c.lookup_open.result c.lookup_open.new.receipt) (finding_blocks c.lookup_open.result) c.lookup_open.new.receipt c.args.receipt.now (opened c.args.table.now c.args.log c.in-Open.view (sym c.in-Open.is ∙ (goal.at.returns-in-Open c).After-open.«open».ensures)).1 (c.lookup_open.ensures.answer, (c.lookup_open.ensures.blocks, c.lookup_open.ensures.bytes)) in record { answer = both.0; blocks = both.1.0; bytes = both.1.1 }
-
-pub returns-in-Refused : goal.returns-in-Refused
-returns-in-Refused c = let both = read_unopened c.args.table.now c.args.log c.in-Refused.why (lookup c.args.log c.args.position c.args.nonce.now (length c.args.receipt.now)) c.args.receipt.now (sym c.in-Refused.is ∙ (goal.at.returns-in-Refused c).After-open.«open».ensures) refl (lookup-sized c.args.table.now c.args.nonce.now c.args.receipt.now c.args.position c.args.log (length c.args.receipt.now) c.if-nonce-ne32.false c.if-receipt-ne160.false) in record { answer = both.0; blocks = both.1.0; bytes = both.1.1 }
+pub returns : goal.returns
+returns c =
+    let p = parsed c.args.nonce.now 32 why.Length c.as_array.result _ c.as_array.ensures.cases c.ok_or.ensures.value c.in_ok-nonce.was in
+    let q = parsed_mut c.args.receipt.now 160 why.Length c.as_mut_array.result _ c.as_mut_array.ensures.cases c.ok_or-2.ensures.value c.in_ok-receipt.was in
+    same-look c.args.table.now (λ i. lookup c.args.log c.args.position (p.0 i) (length (q.0 i))) q.0 c.lookup_sized.ensures

@@ -1,8 +1,13 @@
 -- `a2m_read::lookup::lookup_open` meets its contract. Assumes nothing.
+use native.Mathlib.Omega.{arith}
+use mathlib.Core.Path.{◌≡◌, refl, ap}
+use lib.ListN.{length}
+use Rattle.std.specs.Prelude.{Ok, Err}
+use Rattle.a2m.specs.Call.{lookup}
+use Rattle.a2m.specs.TableCalls.{table_step}
+use Rattle.a2m.proofs.Answered.{looked, looked_not}
 use Rattle.a2m.proofs.ReadLaws.{lookup-zero, lookup-done}
 use Rattle.a2m.proofs.OpenedLaws.{opened-counted, opened-long, opened-log}
-use native.Mathlib.Omega.{arith}
-use mathlib.Core.Path.{◌≡◌, refl}
 use mathlib.Core.Bool.{true}
 use Rattle.refusal.specs.Unwritten.{unwritten, counts}
 use Rattle.a2m_read.proofs.lookup.lookup_open.Code.Mir.{function}
@@ -13,16 +18,19 @@ pub counted : unwritten counts function.body ≡ true
 counted = refl
 
 pub returns-then-position-eq0 : goal.returns-then-position-eq0
-returns-then-position-eq0 c = let both = lookup-zero c.args.table.now c.args.nonce.now c.args.receipt.now c.args.position c.args.view c.requires.opened c.requires.nonce_len.0 c.requires.nonce_len.1 c.if-position-eq0.true in record { answer = both.0; blocks = both.1.0; bytes = both.1.1 }
+returns-then-position-eq0 c = looked_not (table_step c.args.table.now (lookup c.args.view.log c.args.position c.args.nonce.now (length c.args.receipt.now))) _ (ap Err c.into.ensures) (lookup-zero c.args.table.now c.args.nonce.now c.args.receipt.now c.args.position c.args.view c.requires (omega arith) (omega arith) c.if-position-eq0.true)
 
-pub keeper_of-keeper-requires : goal.keeper_of-keeper-requires
-keeper_of-keeper-requires c = opened-long c.args.table.now c.args.view c.requires.opened
+pub keeper_of-requires : goal.keeper_of-requires
+keeper_of-requires c = opened-long c.args.table.now c.args.view c.requires
 
 pub overflow_cast-facts : goal.overflow_cast-facts
-overflow_cast-facts c = let l = opened-log c.args.table.now c.args.view c.requires.opened in let k = (opened-counted c.args.table.now c.args.view c.requires.opened).logs-most in omega arith
+overflow_cast-facts c = let l = opened-log c.args.table.now c.args.view c.requires in let k = (opened-counted c.args.table.now c.args.view c.requires).logs-most in omega arith
 
 pub attest-blocks-requires : goal.attest-blocks-requires
-attest-blocks-requires c = record { counted = opened-counted c.args.table.now c.args.view c.requires.opened; s_le_slots = c.find-hit.ensures.within; nonce_len = (c.requires.nonce_len.0, c.requires.nonce_len.1) }
+attest-blocks-requires c = record { counted = opened-counted c.args.table.now c.args.view c.requires; shown_slot = c.find-hit.ensures.within }
 
 pub returns : goal.returns
-returns c = let both = lookup-done c.args.table.now c.args.nonce.now c.args.receipt.now c.args.position c.args.view c.requires.opened c.requires.nonce_len.0 c.requires.nonce_len.1 c.if-position-eq0.false c.find-hit.result c.keeper_of-keeper.result c.attest-blocks.result c.attest-blocks.new.receipt c.find-hit.ensures.found c.keeper_of-keeper.ensures c.attest-blocks.ensures.blocks c.attest-blocks.ensures.bytes in record { answer = both.0; blocks = both.1.0; bytes = both.1.1 }
+returns c =
+    looked (table_step c.args.table.now (lookup c.args.view.log c.args.position c.args.nonce.now (length c.args.receipt.now))) (Ok _)
+    (lookup-done c.args.table.now c.args.nonce.now c.args.receipt.now c.args.position c.args.view c.requires (omega arith) (omega arith) c.if-position-eq0.false c.find-hit.result c.from.result c.keeper_of.result c.attest-blocks.result c.attest-blocks.new.receipt
+    c.from.ensures c.find-hit.ensures.found c.keeper_of.ensures c.attest-blocks.ensures.blocks c.attest-blocks.ensures.bytes)
