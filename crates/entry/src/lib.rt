@@ -2,23 +2,12 @@
 #![tactic(auto)]
 
 ghost use Rattle.std.specs.Prelude.{◌≡◌, ◌+◌, ◌^◌, ◌≤◌, ◌<◌, length};
-ghost use Rattle.bigendian.specs.BigEndian.{be};
 ghost use Rattle.sha256_digest.specs.Absorbed.{absorbed};
 ghost use Rattle.sha256_running.specs.Running.{state_of};
 ghost use Rattle.entry.specs.Digest.{entry_digest};
 
-use bigendian::put_u64;
 use refusal::Hashed;
 use sha256_running::Running;
-
-// A position as 8 bytes.
-fn number(position: u64) -> [u8; 8]
-    ensures { result ≡ be 8 position }
-{
-    let mut out = [0u8; 8];
-    put_u64(&mut out, 0, position);
-    out
-}
 
 // A running digest that is lent takes in a part. The struct is copied, and what `absorb` makes of it is stored.
 fn feed(state: &mut Running, part: &[u8])
@@ -37,7 +26,7 @@ pub fn entry_digest(position: u64, value: &[u8; 32], previous: &[u8; 32]) -> Has
     ensures { (result.value ≡ entry_digest position value.now previous.now) × (result.blocks ≡ 2) }
 {
     let mut state = Running::new();
-    feed(&mut state, &number(position));
+    feed(&mut state, &position.to_be_bytes());
     feed(&mut state, value);
     feed(&mut state, previous);
     state.finish()

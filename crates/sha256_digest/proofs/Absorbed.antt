@@ -66,7 +66,7 @@ module _ (v j b : List ℕ) where
       let e : whole * 64 + k * 64 ≡ length (j ++ b) / 64 * 64 = omega (arith, count-is) in
       ap (drop (k * 64)) left_is ∙ drop-drop (k * 64) (whole * 64) (j ++ b) ∙ ap (λ (n : ℕ). drop n (j ++ b)) e
 
-blocks-take : (n : ℕ) (h m : List ℕ) → n * 64 ≤ length m → blocks n h m ≡ blocks n h (take (n * 64) m)
+pub blocks-take : (n : ℕ) (h m : List ℕ) → n * 64 ≤ length m → blocks n h m ≡ blocks n h (take (n * 64) m)
 blocks-take n h m k =
     ap (blocks n h) (sym (take-append-drop (n * 64) m))
     ∙ blocks-prefix n h (take (n * 64) m) (drop (n * 64) m) (simp length-take (omega arith))
@@ -131,11 +131,10 @@ from_initial i m h = ap (λ (s : State). absorbed s m) (state-eq h.0 refl refl h
 
 -- a block, and a text after it
 pub after_block : (i h : Hashed (List ℕ)) (b m : List ℕ) → length b ≡ 64 → (i.value ≡ H0) × (i.blocks ≡ 0)
-    → (h.value ≡ blocks 1 i.value b) × (h.blocks ≡ i.blocks + 1) → absorbed (after h 64) m ≡ absorbed start (b ++ m)
+    → (h.value ≡ blocks (length b / 64) i.value b) × (h.blocks ≡ i.blocks + length b / 64) → absorbed (after h 64) m ≡ absorbed start (b ++ m)
 unfolding absorbed after start
 after_block i h b m size e k =
-    let one : length b / 64 ≡ 1 = omega arith in
     let none : drop (length b / 64 * 64) b ≡ [] = drop_of_length-le b {i = length b / 64 * 64} (omega arith) in
-    let v : h.value ≡ blocks (length b / 64) H0 b = k.0 ∙ ap₂ (λ (n : ℕ) (u : List ℕ). blocks n u b) (sym one) e.0 in
+    let v : h.value ≡ blocks (length b / 64) H0 b = k.0 ∙ ap (λ (u : List ℕ). blocks (length b / 64) u b) e.0 in
     let n : h.blocks ≡ 0 + length b / 64 = omega (arith, e.1, k.1) in
     ap (λ (s : State). absorbed s m) (state-eq v (sym none) (omega arith) n) ∙ absorbed-append start b m

@@ -4,20 +4,15 @@
 ghost use Rattle.std.specs.Prelude.{◌≡◌, ◌+◌, ◌^◌, ◌<◌, ◌%◌, ◌++◌, length};
 ghost use Rattle.refusal.specs.Order.{answer_of, afterwards};
 ghost use Rattle.refusal.specs.Work.{worked_number, worked_blocks};
-ghost use Rattle.sha256.specs.Sha256.{K as Ks, H0, bytes as bytes_of, sha256, block_count};
+ghost use Rattle.sha256.specs.Sha256.{H0, bytes as bytes_of, sha256, block_count};
 ghost use Rattle.sha256_digest.specs.Absorbed.{after, absorbed, finished, finished_blocks};
 ghost use Rattle.sha256.specs.Hash.{hash_refusal};
 
-use bigendian::{put_u32, put_u64};
+use bigendian::put_number;
 use octets::put;
 use refusal::{Hashed, Refusal, Refused};
-use sha256_blocks::{compress_blocks, constants};
-
-pub fn wide(n: usize) -> u64
-    ensures { result ≡ n }
-{
-    n as u64
-}
+use sha256_blocks::compress_blocks;
+use sha256_rounds::constants::Constants;
 
 // The initial hash value, no block compressed.
 pub fn initial() -> Hashed<[u32; 8]>
@@ -40,21 +35,19 @@ pub fn initial() -> Hashed<[u32; 8]>
 
 // The digest of a message of which whole blocks, before bytes of them, made the hash value h, and part is the rest. Its last
 // bytes and the padding make one block more, or two.
-pub fn digest_from(h: Hashed<[u32; 8]>, before: u64, part: &[u8], k: &[u32; 64]) -> Hashed<[u8; 32]>
-    requires before_value { (before % 64 ≡ 0) × ((before + length part.now < 2 ^ 61) × (h.blocks < 2 ^ 61)) }
-    requires k_value { k.now ≡ Ks }
+pub fn digest_from(h: Hashed<[u32; 8]>, before: u64, part: &[u8], k: &Constants) -> Hashed<[u8; 32]>
+    requires { (before % 64 ≡ 0) × ((before + length part.now < 2 ^ 61) × (h.blocks < 2 ^ 61)) }
     ensures { (result.value ≡ finished (absorbed (after h before) part.now)) × (result.blocks ≡ finished_blocks (absorbed (after h before) part.now)) }
 {
-    let n = part.len();
-    let whole = n / 64;
-    let value = compress_blocks(h, part, whole, k);
+    let value = compress_blocks(h, part, k);
+    let (_, rest) = part.as_chunks::<64>();
+    let fill = rest.len();
     let mut tail = [0u8; 128];
-    put(&mut tail, 0, &part[whole * 64..]);
-    let fill = n % 64;
+    put(&mut tail, 0, rest);
     tail[fill] = 128;
-    let count = (fill + 72) / 64;
-    put_u64(&mut tail, count * 64 - 8, (before + wide(n)) * 8);
-    let last = compress_blocks(value, &tail, count, k);
+    let end = (fill + 72) / 64 * 64;
+    put_number::<8>(&mut tail, end - 8, (before + part.len() as u64) * 8);
+    let last = compress_blocks(value, &tail[..end], k);
     Hashed {
         value: digest(last.value),
         blocks: last.blocks,
@@ -66,10 +59,8 @@ pub fn digest(h: [u32; 8]) -> [u8; 32]
     ensures { result ≡ bytes_of h }
 {
     let mut out = [0u8; 32];
-    let mut i = 0;
-    while i < 8 {
-        put_u32(&mut out, i * 4, h[i]);
-        i += 1;
+    for (i, word) in h.iter().enumerate() {
+        put_number::<4>(&mut out, i * 4, u64::from(*word));
     }
     out
 }
@@ -79,8 +70,7 @@ pub fn digest_of(message: &[u8]) -> Hashed<[u8; 32]>
     requires { length message.now < 2 ^ 61 }
     ensures { (result.value ≡ sha256 message.now) × (result.blocks ≡ block_count message.now) }
 {
-    let k = constants();
-    digest_from(initial(), 0, message, &k)
+    digest_from(initial(), 0, message, &Constants::new())
 }
 
 // The digest of a block and a text after it, of which nothing is copied but the last bytes.
@@ -88,9 +78,8 @@ pub fn prefixed_digest(block: &[u8; 64], text: &[u8]) -> Hashed<[u8; 32]>
     requires { 64 + length text.now < 2 ^ 61 }
     ensures { (result.value ≡ sha256 (block.now ++ text.now)) × (result.blocks ≡ block_count (block.now ++ text.now)) }
 {
-    let k = constants();
-    let first = compress_blocks(initial(), block, 1, &k);
-    digest_from(first, 64, text, &k)
+    let k = Constants::new();
+    digest_from(compress_blocks(initial(), block, &k), 64, text, &k)
 }
 
 // A message of so many bytes has 2^64 bits, more than FIPS 180-4 allows.

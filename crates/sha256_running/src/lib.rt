@@ -6,11 +6,12 @@ ghost use Rattle.sha256.specs.Sha256.{blocks as blocks_after};
 ghost use Rattle.sha256_digest.specs.Absorbed.{start, absorbed, finished, finished_blocks};
 ghost use Rattle.sha256_running.specs.Running.{state_of};
 
-use bigendian::put_u64;
+use bigendian::put_number;
 use octets::put;
 use refusal::Hashed;
-use sha256_blocks::{compress_blocks, constants};
-use sha256_digest::{digest, digest_from, initial, wide};
+use sha256_blocks::compress_blocks;
+use sha256_digest::{digest, digest_from, initial};
+use sha256_rounds::constants::Constants;
 
 // A running digest: the hash value after the whole blocks, the block being filled, the number of bytes absorbed, and the
 // number of blocks compressed.
@@ -45,7 +46,7 @@ impl Running {
         let fill = (self.count % 64) as usize;
         let room = 64 - fill;
         let n = part.len();
-        let count = self.count + wide(n);
+        let count = self.count + n as u64;
         let chain = self.chain;
         let mut block = self.block;
         if n < room {
@@ -90,29 +91,27 @@ impl Running {
             let mut end = [0u8; 64];
             put(&mut end, 0, &block[..fill]);
             end[fill] = 128;
-            put_u64(&mut end, 56, self.count * 8);
-            let none = [0u8; 0];
-            let last = pressed(before, &end, &none);
+            put_number::<8>(&mut end, 56, self.count * 8);
+            let last = pressed(before, &end, &[]);
             return Hashed {
                 value: digest(last.value),
                 blocks: last.blocks,
             };
         }
-        let k = constants();
-        digest_from(before, self.count - wide(fill), &block[..fill], &k)
+        let k = Constants::new();
+        digest_from(before, self.count - fill as u64, &block[..fill], &k)
     }
 }
 
 // The hash value after a block and the whole blocks of what follows it.
 fn pressed(before: Hashed<[u32; 8]>, block: &[u8; 64], rest: &[u8]) -> Hashed<[u32; 8]>
-    requires { (length block.now ≡ 64) × (before.blocks + length rest.now + 1 < 2 ^ 64) }
+    requires { before.blocks + length rest.now + 1 < 2 ^ 64 }
     ensures { (result.value ≡ blocks_after (length rest.now / 64) (blocks_after 1 before.value block.now) rest.now) × (result.blocks ≡ before.blocks + 1 + length rest.now / 64) }
 {
-    let k = constants();
-    let first = compress_blocks(before, block, 1, &k);
-    let n = rest.len();
-    if n < 64 {
+    let k = Constants::new();
+    let first = compress_blocks(before, block, &k);
+    if rest.len() < 64 {
         return first;
     }
-    compress_blocks(first, rest, n / 64, &k)
+    compress_blocks(first, rest, &k)
 }

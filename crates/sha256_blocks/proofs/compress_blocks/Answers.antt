@@ -1,22 +1,17 @@
 -- `sha256_blocks::compress_blocks` meets its contract.
-use Rattle.std.proofs.Common.{◌≡◌, ℕ, ◌+◌, ◌-◌, ◌*◌, List, take, drop, refl, ap, ◌∙◌, ap₂, add-one, arith, length-drop, length-take}
-use Rattle.sha256.specs.Sha256.{compress, blocks as blocks_after}
+use Rattle.std.proofs.Common.{◌≡◌, ℕ, ◌*◌, ◌/◌, List, [], length, get_or, take, drop, refl, ap, ap₂, ◌∙◌, add-one, arith}
+use Rattle.sha256.specs.Sha256.{compress, blocks}
+use Rattle.sha256_blocks.proofs.Chunks.{chunk-is}
 use Rattle.sha256_blocks.proofs.compress_blocks.Goals as goal
 
-pub loop-i-init : goal.loop-i-init
-unfolding blocks_after
-loop-i-init c = (omega arith, (refl, omega arith))
+pub loop-block-init : goal.loop-block-init
+unfolding blocks
+loop-block-init c = (refl, omega arith)
 
-pub compress-next-requires : goal.compress-next-requires
-compress-next-requires c = (c.requires.0, simp (length-take, length-drop) (omega arith))
-
-pub loop-i-preserved : goal.loop-i-preserved
-unfolding blocks_after
-loop-i-preserved c = let e : c.loop-i.i * 64 + 64 - c.loop-i.i * 64 ≡ 64 = omega arith in (
-  omega arith,
-  (rw add-one (c.compress-next.ensures ∙ ap₂ (λ (h : List ℕ) (n : ℕ). compress h (take n (drop (c.loop-i.i * 64) c.args.s.now))) c.loop-i.invariant.1.0 e), omega arith),
-)
-
-pub returns : goal.returns
-returns c = let e : c.loop-i.i ≡ c.args.n = omega arith in
-    (c.loop-i.invariant.1.0 ∙ ap (λ (i : ℕ). blocks_after i c.args.before.value c.args.s.now) e, omega arith)
+pub loop-block-preserved : goal.loop-block-preserved
+unfolding blocks
+loop-block-preserved c = let s : List ℕ = c.args.s.now in
+    let i : ℕ = c.loop-block.block-index in
+    let block : get_or c.as_chunks.result.0.now i [] ≡ take 64 (drop (i * 64) s) =
+    ap (λ (l : List (List ℕ)). get_or l i []) c.as_chunks.ensures.front ∙ chunk-is (length s / 64) i s [] (omega arith) in
+    (rw add-one (c.compress-next.ensures ∙ ap₂ compress c.loop-block.invariant.0 block), omega arith)

@@ -1,14 +1,9 @@
 -- `sha256_words::big1` meets its contract.
-use mathlib.Core.Path.{ap, ◌∙◌}
-use Prim.Native.Nat.{ℕ}
-use native.Mathlib.Omega.{arith}
-use lib.Bits.{bit_xor}
+use Rattle.std.proofs.Common.{arith}
 use Rattle.sha256.specs.Words.{rotr, Σ1}
 use Rattle.sha256.proofs.Rotations.{chained}
 use Rattle.sha256_words.proofs.big1.Goals as goal
 
 pub returns : goal.returns
-unfolding Σ1
-returns c = c.rotated-3.ensures
-    ∙ ap (λ (u : ℕ). rotr 6 (bit_xor c.args.x u)) (c.rotated-2.ensures ∙ ap (λ (u : ℕ). rotr 5 (bit_xor c.args.x u)) c.rotated.ensures)
-    ∙ chained 6 5 14 c.args.x (omega arith) c.ranges.x.fits
+unfolding Σ1 rotr
+returns c = rw (c.rotate_right-3.ensures, c.rotate_right-2.ensures, c.rotate_right.ensures) (chained 6 5 14 c.args.x (omega arith) c.ranges.x.fits)

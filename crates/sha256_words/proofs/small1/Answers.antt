@@ -1,13 +1,10 @@
 -- `sha256_words::small1` meets its contract.
-use mathlib.Core.Path.{ap, ◌∙◌}
-use Prim.Native.Nat.{ℕ, ◌/◌, ◌^◌}
-use native.Mathlib.Omega.{arith}
-use lib.Bits.{bit_xor}
+use Rattle.std.specs.Int.Bits.{bit_xor}
+use Rattle.std.proofs.Common.{ℕ, ◌/◌, ◌^◌, ap, arith}
 use Rattle.sha256.specs.Words.{rotr, σ1}
 use Rattle.sha256.proofs.Rotations.{paired}
 use Rattle.sha256_words.proofs.small1.Goals as goal
 
 pub returns : goal.returns
-unfolding σ1
-returns c = ap (λ (u : ℕ). bit_xor u (c.args.x / 2 ^ 10))
-    (c.rotated-2.ensures ∙ ap (λ (u : ℕ). rotr 17 (bit_xor c.args.x u)) c.rotated.ensures ∙ paired 17 2 c.args.x (omega arith) c.ranges.x.fits)
+unfolding σ1 rotr
+returns c = rw (c.rotate_right-2.ensures, c.rotate_right.ensures) (ap (λ (u : ℕ). bit_xor u (c.args.x / 2 ^ 10)) (paired 17 2 c.args.x (omega arith) c.ranges.x.fits))

@@ -16,7 +16,7 @@ put-requires c = let size : length c.args.self.block ≡ 64 = omega arith in
 pub returns-then-n-room : goal.returns-then-n-room
 returns-then-n-room c = let s : Running = c.args.self in
     let size : length s.block ≡ 64 = omega arith in
-    let n : ℕ = s.count + c.wide.result in
+    let n : ℕ = s.count + length c.args.part.now in
     ap (λ (b : List ℕ). state_of (record { chain = s.chain; block = b; count = n; blocks = s.blocks })) c.put.ensures
     ∙ short s c.args.part.now n size (omega arith) (omega arith)
 
@@ -31,5 +31,5 @@ pub returns : goal.returns
 returns c = let s : Running = c.args.self in
     let p : List ℕ = c.args.part.now in
     let size : length s.block ≡ 64 = omega arith in
-    fills s p size (omega (arith, c.if-n-room.false)) (s.count + c.wide.result) (length p - (length p - room s) % 64) c.pressed-last.result
-    c.put-2.ensures c.pressed-last.ensures c.put-3.ensures refl (omega (arith, c.wide.ensures))
+    fills s p size (omega (arith, c.if-n-room.false)) (s.count + length c.args.part.now) (length p - (length p - room s) % 64) c.pressed-last.result
+    c.put-2.ensures c.pressed-last.ensures c.put-3.ensures refl (omega arith)
