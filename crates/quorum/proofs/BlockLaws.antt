@@ -16,9 +16,8 @@ use Rattle.quorum.specs.Bits.{sum_below}
 use Rattle.roster.specs.Roster.{size, is_member, member}
 use Rattle.quorum.specs.Certificate.{receipt_at, receipt_blocks}
 use Rattle.quorum.specs.Tally.{blocks_below}
-use Rattle.roster.specs.declared.Found.{Found}
-use Rattle.roster.specs.declared.Found.TheVariants.{At, Nothing}
-use Rattle.roster.proofs.RosterLaws.{is_nothing, absent-is, member_below}
+use Rattle.std.specs.Prelude.{Option, Some, None, is_some}
+use Rattle.roster.proofs.RosterLaws.{is_some-member, member_below}
 
 pub receipt-few : (roster r : List ℕ) → receipt_blocks roster r ≤ 6
 unfolding receipt_blocks
@@ -28,26 +27,22 @@ receipt-few roster r = go (possible (read_attestation r) && is_member roster (re
     go true = omega arith
     go false = omega arith
 
-module _ (roster r : List ℕ) (k : ℕ) (e : k ≡ (read_attestation r).keeper) where
+module _ (roster r : List ℕ) (n : ℕ) (e : size roster ≡ n) (k : ℕ) (q : k ≡ (read_attestation r).keeper) where
   -- what the search finds tells whether a member has the keeper number
-  is_member_lem : (f : Found) → member roster k (length roster / 40) ≡ f → is_member roster (read_attestation r).keeper ≡ not (is_nothing f)
-  unfolding is_member size
-  is_member_lem f h =
-      ap not (sym (absent-is roster (read_attestation r).keeper (length roster / 40)) ∙ ap is_nothing (ap (λ (x : ℕ). member roster x (length roster / 40)) (sym e) ∙ h))
+  known : is_some (member roster k n) ≡ is_member roster (read_attestation r).keeper
+  unfolding is_member
+  known = ap₂ (λ (x m : ℕ). is_some (member roster x m)) q (sym e) ∙ is_some-member roster (read_attestation r).keeper (size roster)
 
   -- a stranger's receipt adds none
-  pub stranger-blocks : member roster k (length roster / 40) ≡ Nothing → (b : ℕ) → b ≡ b + receipt_blocks roster r
+  pub stranger-blocks : member roster k n ≡ None → 0 ≡ receipt_blocks roster r
   unfolding receipt_blocks
-  stranger-blocks h b = simp (is_member_lem Nothing h, and-false (possible (read_attestation r))) (omega arith)
+  stranger-blocks h = simp (sym known ∙ ap is_some h, and-false (possible (read_attestation r)))
 
   -- a member's adds what its verification reports
-  pub member-blocks : (nonce : List ℕ) (i n : ℕ) {b : ℕ} → member roster k (length roster / 40) ≡ At i → n ≡ 32 → length nonce ≡ 32 → length r ≡ 160
-      → b ≡ verify_blocks (take n (drop (i * 40 + 8) roster)) r nonce → b ≡ receipt_blocks roster r
+  pub member-blocks : (key nonce : List ℕ) (i : ℕ) {b : ℕ} → member roster k n ≡ Some i → length key ≡ 32 → length nonce ≡ 32 → length r ≡ 160
+      → b ≡ verify_blocks key r nonce → b ≡ receipt_blocks roster r
   unfolding receipt_blocks
-  member-blocks nonce i n h s m l v =
-      let key : List ℕ = take n (drop (i * 40 + 8) roster) in
-      let size : length key ≡ 32 = ap (λ (x : ℕ). length (take x (drop (i * 40 + 8) roster))) s ∙ length_part roster (i * 40 + 8) 32 (omega (arith, (member_below roster k (length roster / 40) i h).0)) in
-      v ∙ blocks-by key r nonce size m l ∙ simp (is_member_lem (At i) h, and-true (possible (read_attestation r)))
+  member-blocks key nonce i h s m l v = v ∙ blocks-by key r nonce s m l ∙ simp (sym known ∙ ap is_some h, and-true (possible (read_attestation r)))
 
 module _ (roster cert : List ℕ) where
   pub blocks_start : 0 ≡ blocks_below roster cert 0

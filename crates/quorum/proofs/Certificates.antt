@@ -22,7 +22,7 @@ use Rattle.refusal.proofs.AnswerLaws.{no-fault}
 use Rattle.quorum.specs.Bits.{count_below, mask_below}
 use Rattle.roster.specs.Profile.{permitted}
 use Rattle.roster.specs.Roster.{size, is_roster, distinct}
-use Rattle.quorum.specs.Certificate.{receipt_count, is_certificate, receipt_at, pair_at, is_none, good_by, shows_in, shows, certified, good_at, first_of, first_place, named, unread, certificate_blocks, certificate_refusal, certificate, Admitted, GoodBy, GenuineBy, GoodAt, Shows, Members, Certified, Named, NamesExactly}
+use Rattle.quorum.specs.Certificate.{receipt_count, is_certificate, receipt_at, pair_at, is_none, good_by, shows_in, shows, certified, good_at, first_of, first_place, named, unread, certificate_blocks, certificate_refusal, certificate, Admitted, GoodBy, GenuineBy, GoodAt, Shows, Members, Certified, Named, NamesExactly, Station, station_answer, station_blocks}
 use Rattle.roster.proofs.Profiles.{permitted-exactly}
 use Rattle.roster.proofs.RosterLaws.{roster-exactly}
 use Rattle.quorum.proofs.Masks.{mask_lt, mask-bit, mask-by-bits, ones-mask, count-eq, any_at, any_some}
@@ -379,8 +379,10 @@ module _ (n k : ℕ) (roster nonce : List ℕ) (log position : ℕ) (cert : List
         λ u. t.1 (u.0, named-as roster cert H G (back roster cert G H a) k place mask u.1),
       )
 
--- an answer that is the verdict on a list of bytes names exactly; the blocks stand beside it
-pub certificate_exactly : {n k : ℕ} {roster nonce : List ℕ} {log position : ℕ} {cert : List ℕ} {given : Answer} {blocks : ℕ} → Bytes cert → Judged n k roster nonce log position cert given blocks
-    → (given ≡ certificate n k roster nonce log position cert) × (NamesExactly n k roster nonce log position cert given × (blocks ≡ certificate_blocks n k roster nonce cert))
-certificate_exactly {n} {k} {roster} {nonce} {log} {position} {cert} b e =
-    (e.0, (subst (NamesExactly n k roster nonce log position cert) (sym e.0) (named-genuine n k roster nonce log position cert b), e.1))
+-- a verdict that has the answer and the blocks for a list of bytes names exactly
+pub certificate_exactly : {n k : ℕ} {roster nonce : List ℕ} {log position : ℕ} {cert : List ℕ} (v : Station) {w : Station} → Bytes cert → v ≡ w
+    → Judged n k roster nonce log position cert (station_answer w) (station_blocks w)
+    → (station_answer v ≡ certificate n k roster nonce log position cert) × (NamesExactly n k roster nonce log position cert (station_answer v) × (station_blocks v ≡ certificate_blocks n k roster nonce cert))
+certificate_exactly {n} {k} {roster} {nonce} {log} {position} {cert} v b z e =
+    let a : station_answer v ≡ certificate n k roster nonce log position cert = ap station_answer z ∙ e.0 in
+    (a, (subst (NamesExactly n k roster nonce log position cert) (sym a) (named-genuine n k roster nonce log position cert b), ap station_blocks z ∙ e.1))

@@ -1,6 +1,6 @@
 -- Good receipts: by whom, in terms of the verifier's answer; and that the member found by the keeper number is the one.
 use mathlib.Core.Path.{◌≡◌, refl, sym, ap, ap₂, ◌∙◌}
-use mathlib.Core.Logic.{◌↔◌}
+use mathlib.Core.Logic.{◌↔◌, ⊎_elim}
 use Prim.Native.Nat.{ℕ, ◌+◌, ◌*◌, ◌/◌, ◌≤◌, ◌<◌}
 use native.Mathlib.Omega.{arith}
 use mathlib.Core.Bool.{Bool, true, false, cond}
@@ -9,10 +9,9 @@ use lib.Dec.{eqb}
 use lib.ListN.{length, get_or, take, drop}
 use borrow.Author.Tests.{eqb-true, eq-eqb, ne_eqb}
 use Rattle.octets.specs.Octets.{Bytes}
-use Rattle.octets.proofs.Tests.{and_left, and_right, and_both, and-false}
+use Rattle.octets.proofs.Tests.{and_left, and_right, and_both, and-false, equal_or_not}
 use Rattle.refusal.specs.Number.{number_of}
 use Rattle.refusal.specs.declared.Refusal.{Refusal}
-use Rattle.refusal.specs.declared.Outcome.TheVariants.{Done, Refused as Turned}
 use Rattle.refusal.proofs.NumberLaws.{outcome_number-injective}
 use Rattle.refusal.specs.Answer.{Answer, answer}
 use Rattle.receipt.specs.Attestation.{Attestation, read_attestation}
@@ -21,15 +20,18 @@ use Rattle.receipt.specs.declared.Question.{Question}
 use Rattle.receipt.proofs.Verifier.{says, complete, sound, passes, carries}
 use Rattle.roster.specs.Roster.{size, keeper_at, key_at, distinct, member}
 use Rattle.quorum.specs.Certificate.{asked_of, good_by, GoodBy, GenuineBy}
-use Rattle.quorum.specs.Tally.{if_good, good_member, code_of}
-use Rattle.roster.specs.declared.Found.{Found}
-use Rattle.roster.specs.declared.Found.TheVariants.{At, Nothing}
+use Rattle.quorum.specs.Tally.{if_good, good_member, is_member_i}
+use Rattle.std.specs.Prelude.{Option, Some, None, Result, Ok, Err}
 use Rattle.roster.proofs.RosterLaws.{member_below, member_is, distinct-sound}
+
+not-good : (b : Bool) {c : Bool} → c ≡ b → (c ≡ true → ⊥) → c ≡ false
+not-good true e h = absurd (h e)
+not-good false e h = e
 
 -- no refusal has number 0
 refused-some : (w : Refusal) → number_of w ≡ 0 → ⊥
 refused-some w e =
-    let o : Turned w ≡ Done = outcome_number-injective (Turned w) Done e in
+    let o : ◌≡◌ {A = Result Unit Refusal} (Err w) (Ok tt) = outcome_number-injective (Err w) (Ok tt) e in
     let z : ◌≡◌ {A = ℕ} 0 1 = cc in omega arith
 
 kind-in : (a : Attestation) (k l p d f : ℕ) → carried a ≡ k ∷ l ∷ p ∷ d ∷ f ∷ [] → a.kind ≡ d
@@ -107,76 +109,68 @@ module _ (roster nonce : List ℕ) (log position : ℕ) (r : List ℕ) where
 
   -- the member found by the keeper number
 
-  if-good : (f : Found) (i : ℕ) → member roster (read_attestation r).keeper (size roster) ≡ f → if_good roster nonce log position r f ≡ At i
+  if-good : (f : Option ℕ) (i : ℕ) → member roster (read_attestation r).keeper (size roster) ≡ f → if_good roster nonce log position r f ≡ Some i
       → (i < size roster) × (good_by roster nonce log position r i ≡ true)
-  if-good (At j) i m h = by (good_by roster nonce log position r j) refl h
+  if-good (Some j) i m h = by (good_by roster nonce log position r j) refl h
     where
-      by : (b : Bool) → good_by roster nonce log position r j ≡ b → cond b (At j) Nothing ≡ At i → (i < size roster) × (good_by roster nonce log position r i ≡ true)
+      by : (b : Bool) → good_by roster nonce log position r j ≡ b → cond b (Some j) None ≡ Some i → (i < size roster) × (good_by roster nonce log position r i ≡ true)
       by true e k =
           let z : j ≡ i = cc in
           let l = member_below roster (read_attestation r).keeper (size roster) j m in
           (omega arith, ap (good_by roster nonce log position r) (sym z) ∙ e)
       by false e k = let z : ◌≡◌ {A = ℕ} 0 1 = cc in absurd (omega arith)
-  if-good Nothing i m h = let z : ◌≡◌ {A = ℕ} 0 1 = cc in absurd (omega arith)
+  if-good None i m h = let z : ◌≡◌ {A = ℕ} 0 1 = cc in absurd (omega arith)
 
-  pub member-good : (i : ℕ) → good_member roster nonce log position r ≡ At i → (i < size roster) × (good_by roster nonce log position r i ≡ true)
+  pub member-good : (i : ℕ) → good_member roster nonce log position r ≡ Some i → (i < size roster) × (good_by roster nonce log position r i ≡ true)
   unfolding good_member
   member-good i h = if-good (member roster (read_attestation r).keeper (size roster)) i refl h
 
-  pub good-member : distinct roster (size roster) ≡ true → (i : ℕ) → i < size roster → good_by roster nonce log position r i ≡ true → good_member roster nonce log position r ≡ At i
+  pub good-member : distinct roster (size roster) ≡ true → (i : ℕ) → i < size roster → good_by roster nonce log position r i ≡ true → good_member roster nonce log position r ≡ Some i
   unfolding good_member
   good-member d i h g =
       ap (λ (x : ℕ). if_good roster nonce log position r (member roster x (size roster))) (good-keeper i g)
       ∙ ap (if_good roster nonce log position r) (member_is roster (size roster) i d h)
-      ∙ ap (λ (b : Bool). cond b (At i) Nothing) g
+      ∙ ap (λ (b : Bool). cond b (Some i) None) g
 
-  pub code_below : code_of (good_member roster nonce log position r) ≤ size roster
-  code_below = by (good_member roster nonce log position r) refl
+  pub member_most : (i : ℕ) → good_member roster nonce log position r ≡ Some i → i < size roster
+  member_most i e = (member-good i e).0
+
+  -- the tally tells the member
+  pub member_tells : distinct roster (size roster) ≡ true → (i : ℕ) → i < size roster → is_member_i (good_member roster nonce log position r) i ≡ good_by roster nonce log position r i
+  unfolding is_member_i
+  member_tells d i h = by (good_member roster nonce log position r) refl
     where
-      by : (f : Found) → good_member roster nonce log position r ≡ f → code_of f ≤ size roster
-      by (At i) e = let b = (member-good i e).0 in omega arith
-      by Nothing e = omega arith
-
-  -- the code tells the member
-  pub code_is : distinct roster (size roster) ≡ true → (i : ℕ) → i < size roster → eqb (code_of (good_member roster nonce log position r)) (i + 1) ≡ good_by roster nonce log position r i
-  code_is d i h = by (good_by roster nonce log position r i) refl
-    where
-      none_other : (f : Found) → good_member roster nonce log position r ≡ f → good_by roster nonce log position r i ≡ false → code_of f ≡ i + 1 → ⊥
-      none_other (At j) e g c =
-          let z : j ≡ i = omega arith in
-          let t : good_by roster nonce log position r i ≡ true = ap (good_by roster nonce log position r) (sym z) ∙ (member-good j e).1 in
-          let w : ◌≡◌ {A = ℕ} 0 1 = cc in omega arith
-      none_other Nothing e g c = omega arith
-
-      by : (b : Bool) → good_by roster nonce log position r i ≡ b → eqb (code_of (good_member roster nonce log position r)) (i + 1) ≡ good_by roster nonce log position r i
-      by true g = eq-eqb (code_of (good_member roster nonce log position r)) (i + 1) (ap code_of (good-member d i h g)) ∙ sym g
-      by false g = ne_eqb (code_of (good_member roster nonce log position r)) (i + 1) (none_other (good_member roster nonce log position r) refl g) ∙ sym g
+      by : (f : Option ℕ) → good_member roster nonce log position r ≡ f → is_member_i f i ≡ good_by roster nonce log position r i
+      by (Some j) e =
+          let g = (member-good j e).1 in
+          ⊎_elim (λ (z : j ≡ i). eq-eqb j i z ∙ sym (ap (good_by roster nonce log position r) (sym z) ∙ g))
+          (λ z. ne_eqb j i z ∙ sym (not-good (good_by roster nonce log position r i) refl (λ t. z (good-once d j i (member-good j e).0 h g t)))) (equal_or_not j i)
+      by None e = sym (not-good (good_by roster nonce log position r i) refl (λ t. let a = good-member d i h t in let z : ◌≡◌ {A = ℕ} 0 1 = cc in omega arith))
 
   -- what the program notes for a receipt: no member, refused, of another kind, or good
 
-  pub of_none : (k : ℕ) → k ≡ (read_attestation r).keeper → member roster k (length roster / 40) ≡ Nothing → Nothing ≡ good_member roster nonce log position r
-  unfolding good_member size
-  of_none k e h = ap (if_good roster nonce log position r) (sym (ap (λ (x : ℕ). member roster x (length roster / 40)) (sym e) ∙ h))
+  module _ (n k : ℕ) (s : size roster ≡ n) (e : k ≡ (read_attestation r).keeper) where
+    of-found : (f : Option ℕ) → member roster k n ≡ f → if_good roster nonce log position r f ≡ good_member roster nonce log position r
+    unfolding good_member
+    of-found f h = ap (if_good roster nonce log position r) (sym h ∙ ap₂ (member roster) e (sym s))
 
-  of-item : (k i : ℕ) → k ≡ (read_attestation r).keeper → member roster k (length roster / 40) ≡ At i → cond (good_by roster nonce log position r i) (At i) Nothing ≡ good_member roster nonce log position r
-  unfolding good_member size
-  of-item k i e h = ap (if_good roster nonce log position r) (sym (ap (λ (x : ℕ). member roster x (length roster / 40)) (sym e) ∙ h))
+    pub of_none : member roster k n ≡ None → None ≡ good_member roster nonce log position r
+    of_none h = of-found None h
 
-  module _ (k i n : ℕ) (e : k ≡ (read_attestation r).keeper) (h : member roster k (length roster / 40) ≡ At i) (size_is : n ≡ 32) where
-    -- the question asked with the keeper number that was read
-    asked : {a : Answer} → a ≡ verdict (take n (drop (i * 40 + 8) roster)) r nonce (record { keeper = k; log = log; ask = (asked_of roster nonce log position i).ask }) → a ≡ verdict_by i
-    unfolding key_at
-    asked v =
-        v ∙ ap₂ (λ (m x : ℕ). verdict (take m (drop (i * 40 + 8) roster)) r nonce (record { keeper = x; log = log; ask = (asked_of roster nonce log position i).ask }))
-        size_is (sym (member_below roster k (length roster / 40) i h).1)
+    module _ (i : ℕ) (key : List ℕ) (h : member roster k n ≡ Some i) (key_is : key ≡ key_at roster i) where
+      -- the question asked with the keeper number that was read
+      asked : {a : Answer} → a ≡ verdict key r nonce (record { keeper = k; log = log; ask = (asked_of roster nonce log position i).ask }) → a ≡ verdict_by i
+      asked v =
+          v ∙ ap₂ (λ (x : List ℕ) (m : ℕ). verdict x r nonce (record { keeper = m; log = log; ask = (asked_of roster nonce log position i).ask }))
+          key_is (sym (member_below roster k n i h).1)
 
-    pub passed_over : (w : Refusal) → answer (number_of w) [] ≡ verdict (take n (drop (i * 40 + 8) roster)) r nonce (record { keeper = k; log = log; ask = (asked_of roster nonce log position i).ask })
-        → Nothing ≡ good_member roster nonce log position r
-    passed_over w v = ap (λ (b : Bool). cond b (At i) Nothing) (sym (good-refused i w (asked v))) ∙ of-item k i e h
+      pub passed_over : (w : Refusal) → answer (number_of w) [] ≡ verdict key r nonce (record { keeper = k; log = log; ask = (asked_of roster nonce log position i).ask })
+          → None ≡ good_member roster nonce log position r
+      passed_over w v = ap (λ (b : Bool). cond b (Some i) None) (sym (good-refused i w (asked v))) ∙ of-found (Some i) h
 
-    module _ (k' l p d f : ℕ) (v : answer 0 (k' ∷ l ∷ p ∷ d ∷ f ∷ []) ≡ verdict (take n (drop (i * 40 + 8) roster)) r nonce (record { keeper = k; log = log; ask = (asked_of roster nonce log position i).ask })) where
-      pub other-kind : (d ≡ 1 → ⊥) → Nothing ≡ good_member roster nonce log position r
-      other-kind o = ap (λ (b : Bool). cond b (At i) Nothing) (sym (good-other i k' l p d f (asked v) o)) ∙ of-item k i e h
+      module _ (k' l p d f : ℕ) (v : answer 0 (k' ∷ l ∷ p ∷ d ∷ f ∷ []) ≡ verdict key r nonce (record { keeper = k; log = log; ask = (asked_of roster nonce log position i).ask })) where
+        pub other-kind : (d ≡ 1 → ⊥) → None ≡ good_member roster nonce log position r
+        other-kind o = ap (λ (b : Bool). cond b (Some i) None) (sym (good-other i k' l p d f (asked v) o)) ∙ of-found (Some i) h
 
-      pub counted : d ≡ 1 → At i ≡ good_member roster nonce log position r
-      counted o = ap (λ (b : Bool). cond b (At i) Nothing) (sym (good-assigned i k' l p d f (asked v) o)) ∙ of-item k i e h
+        pub counted : d ≡ 1 → Some i ≡ good_member roster nonce log position r
+        counted o = ap (λ (b : Bool). cond b (Some i) None) (sym (good-assigned i k' l p d f (asked v) o)) ∙ of-found (Some i) h

@@ -4,6 +4,7 @@ pub mod FreshEnds
 pub mod Good
 pub mod Masks
 pub mod OnePair
+pub mod Piles
 pub mod Skipped
 pub mod StationLaws
 pub mod Tallies

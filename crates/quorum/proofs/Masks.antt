@@ -11,9 +11,10 @@ use lib.Dec.{eqb}
 use lib.Arith.{digits_div}
 use lib.Pow.{pow-add, pow_pos, pow-lt}
 use borrow.Author.Tests.{eq-eqb, ne_eqb}
-use Rattle.octets.proofs.Tests.{equal_or_not, or_cases}
+use Rattle.octets.proofs.Tests.{and-true, and-false, equal_or_not, or_cases}
 use Rattle.quorum.specs.Bits.{count_below, any_below, mask_below}
-use Rattle.quorum.specs.Tally.{with_code}
+use Rattle.std.specs.Prelude.{Option, Some, None}
+use Rattle.quorum.specs.Tally.{with_member, is_member_i}
 
 top : (b : Bool) (n m : ℕ) → m < 2 ^ n → cond b 1 0 * 2 ^ n + m < 2 ^ suc n
 top true n m h = omega (arith, pow-suc 2 n, one-mul (2 ^ n))
@@ -94,32 +95,11 @@ module _ (f : ℕ → Bool) where
       (λ e. set-low n k (omega arith) (mask-set n k (omega arith))) (equal_or_not k n)
 
   -- a place's receipt taken into the mask
-  pub mask-with : (n code : ℕ) (b : Bool) → code ≤ n → with_code (mask_below n f) code b ≡ mask_below n (λ i. f i || (eqb code (i + 1) && b))
-  unfolding with_code
-  mask-with n code b h =
-      ⊎_elim
-      (λ (e : code ≡ 0). simp (eq-eqb code 0 e) (mask-eq n f (λ i. f i || (eqb code (i + 1) && b)) (λ i k. sym (ap (λ (x : Bool). f i || (x && b)) (ne_eqb code (i + 1) (λ z. omega arith)) ∙ or-false (f i)))))
-      (λ e. simp (ne_eqb code 0 e) (shows b e)) (equal_or_not code 0)
-    where
-      same_test : (i : ℕ) → (code ≡ 0 → ⊥) → eqb (code - 1) i ≡ eqb code (i + 1)
-      same_test i z =
-          ⊎_elim (λ (e : code ≡ i + 1). eq-eqb (code - 1) i (omega arith) ∙ sym (eq-eqb code (i + 1) e))
-          (λ e. ne_eqb (code - 1) i (λ q. omega arith) ∙ sym (ne_eqb code (i + 1) e)) (equal_or_not code (i + 1))
-
-      and-true : (a : Bool) → a ≡ a && true
-      and-true true = refl
-      and-true false = refl
-
-      and-false : (a : Bool) → false ≡ a && false
-      and-false true = refl
-      and-false false = refl
-
-      shows : (b : Bool) → (code ≡ 0 → ⊥) → cond b (bit_or (mask_below n f) (2 ^ (code - 1))) (mask_below n f) ≡ mask_below n (λ i. f i || (eqb code (i + 1) && b))
-      shows true z =
-          mask-set n (code - 1) (omega arith)
-          ∙ mask-eq n (λ i. f i || eqb (code - 1) i) (λ i. f i || (eqb code (i + 1) && true)) (λ i k. ap (λ (x : Bool). f i || x) (same_test i z ∙ and-true (eqb code (i + 1))))
-      shows false z =
-          mask-eq n f (λ i. f i || (eqb code (i + 1) && false)) (λ i k. sym (or-false (f i)) ∙ ap (λ (x : Bool). f i || x) (and-false (eqb code (i + 1))))
+  pub mask-with : (n : ℕ) (m : Option ℕ) (b : Bool) → ((i : ℕ) → m ≡ Some i → i < n) → with_member (mask_below n f) m b ≡ mask_below n (λ i. f i || (is_member_i m i && b))
+  unfolding with_member is_member_i
+  mask-with n None b h = mask-eq n f (λ i. f i || false) (λ i k. sym (or-false (f i)))
+  mask-with n (Some j) true h = mask-set n j (h j refl) ∙ mask-eq n (λ i. f i || eqb j i) (λ i. f i || (eqb j i && true)) (λ i k. ap (λ (x : Bool). f i || x) (sym (and-true (eqb j i))))
+  mask-with n (Some j) false h = mask-eq n f (λ i. f i || (eqb j i && false)) (λ i k. sym (ap (λ (x : Bool). f i || x) (and-false (eqb j i)) ∙ or-false (f i)))
 
 -- what is not below n does not count
 pub mask-more : (n d : ℕ) (f : ℕ → Bool) → ((i : ℕ) → n ≤ i → f i ≡ false) → mask_below (n + d) f ≡ mask_below n f

@@ -1,10 +1,12 @@
 -- Document 01, "Certificates": good receipts, the members whose good receipts show a pair, and the verdict; since document 02 [7] under a
 -- station profile, n members of which k are needed.
-use Rattle.std.specs.Prelude.{ℕ, zero, suc, ◌*◌, ◌/◌, ◌%◌, ◌^◌, ◌≤◌, ◌<◌, ◌≡◌, ◌↔◌, Bool, true, false, not, ◌&&◌, ◌||◌, cond, List, [], ◌∷◌, ◌++◌, length, eqb, leb}
+use Rattle.std.specs.Prelude.{ℕ, zero, suc, ◌*◌, ◌/◌, ◌%◌, ◌^◌, ◌≤◌, ◌<◌, ◌≡◌, ◌↔◌, Bool, true, false, not, ◌&&◌, ◌||◌, cond, List, [], ◌∷◌, ◌++◌, length, eqb, leb, Result, Ok, Err}
 use Rattle.std.proofs.Math.Option.{Option, none, some}
 use Rattle.std.specs.Int.Count.{ones}
 use Rattle.octets.specs.Octets.{part, same}
 use Rattle.refusal.specs.Number.{number_of}
+use Rattle.refusal.specs.declared.Hashed.{Hashed}
+use Rattle.refusal.specs.declared.Refused.{Refused}
 use Rattle.refusal.specs.Order.{Fault, fault, first_fault, afterwards}
 use Rattle.refusal.specs.Answer.{Answer, answer, answer_with}
 use Rattle.receipt.specs.Attestation.{receipt_size, Attestation, read_attestation, pair_in}
@@ -15,18 +17,25 @@ use Rattle.receipt.specs.declared.Question.{Question}
 use Rattle.quorum.specs.Bits.{count_below, sum_below, any_below, mask_below}
 use Rattle.roster.specs.Profile.{permitted, Permitted}
 use Rattle.roster.specs.Roster.{size, keeper_at, key_at, is_member, is_roster, IsRoster}
-use Rattle.quorum.specs.declared.Station.{Station}
-use Rattle.quorum.specs.declared.Station.TheVariants as variants
+use Rattle.quorum.specs.declared.Certified as declared
 
--- number and values of each verdict: one that stands carries "the first good receipt" and "the members"
+-- the verdict: what a certificate that stands names, or a refusal, with the blocks hashed for it
+abbrev pub Station : Type 0
+Station = Result (Hashed declared.Certified) Refused
+
+-- "the first good receipt" and "the members"
+abbrev pub certified_values : declared.Certified → List ℕ
+certified_values c = c.place ∷ c.mask ∷ []
+
+-- number and values of each verdict
 abbrev pub station_answer : Station → Answer
-station_answer (variants.Certified place mask blocks) = answer 0 (place ∷ mask ∷ [])
-station_answer (variants.Refused why blocks) = answer (number_of why) []
+station_answer (Ok done) = answer 0 (certified_values done.value)
+station_answer (Err refused) = answer (number_of refused.why) []
 
 -- the blocks hashed for it
 abbrev pub station_blocks : Station → ℕ
-station_blocks (variants.Certified place mask blocks) = blocks
-station_blocks (variants.Refused why blocks) = blocks
+station_blocks (Ok done) = done.blocks
+station_blocks (Err refused) = refused.blocks
 
 -- the number of receipts in a certificate
 unfoldable pub receipt_count : List ℕ → ℕ

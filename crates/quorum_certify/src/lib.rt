@@ -7,11 +7,10 @@ ghost use Rattle.std.specs.Prelude.{◌≡◌};
 ghost use Rattle.quorum.specs.Certificate.{certificate, station_answer, certificate_blocks, station_blocks, NamesExactly};
 
 use places::first_place;
-use quorum::Station;
+use quorum::{Certified, receipts_in};
 use quorum_tally::tally_of;
-use receipt::RECEIPT;
-use refusal::Refusal;
-use roster::{is_permitted, is_roster};
+use refusal::{Hashed, Refusal, Refused};
+use roster::{is_permitted, items};
 
 // The verdict on a certificate of a station of `members` keepers, of which `needed` must agree. Refused with 7: a nonce of another
 // length than 32; 17: no such profile; 12: no roster of so many members; 9: not 0 to 32 whole receipts; 13: no pair is certified.
@@ -23,44 +22,28 @@ pub fn certify(
     log: u64,
     position: u64,
     cert: &[u8],
-) -> Station
+) -> Result<Hashed<Certified>, Refused>
     ensures answer { station_answer result ≡ certificate members needed roster.now nonce.now log position cert.now }
     ensures exactly { NamesExactly members needed roster.now nonce.now log position cert.now (station_answer result) }
     ensures blocks { station_blocks result ≡ certificate_blocks members needed roster.now nonce.now cert.now }
 {
-    if nonce.len() != 32 {
-        return Station::Refused {
-            why: Refusal::Length,
-            blocks: 0,
-        };
-    }
+    let nonce = nonce.as_array::<32>().ok_or(Refusal::Length)?;
     if !is_permitted(members, needed) {
-        return Station::Refused {
-            why: Refusal::Profile,
-            blocks: 0,
-        };
+        return Err(Refusal::Profile.into());
     }
-    if !is_roster(members, roster) {
-        return Station::Refused {
-            why: Refusal::Roster,
-            blocks: 0,
-        };
-    }
-    if cert.len() % RECEIPT != 0 {
-        return Station::Refused {
-            why: Refusal::NoReceipt,
-            blocks: 0,
-        };
-    }
-    let count = cert.len() / RECEIPT;
-    if 32 < count {
-        return Station::Refused {
-            why: Refusal::NoReceipt,
-            blocks: 0,
-        };
-    }
-    let need = needed as u32;
-    let tally = tally_of(roster, nonce, log, position, cert, count);
-    let codes = tally.codes;
-    first_place(&codes, cert, need, count, tally.blocks)
+    let Some(items) = items(members, roster) else {
+        return Err(Refusal::Roster.into());
+    };
+    let Some(pile) = receipts_in(cert) else {
+        return Err(Refusal::NoReceipt.into());
+    };
+    let tally = tally_of(items, nonce, log, position, pile);
+    let blocks = tally.blocks;
+    let Some(value) = first_place(&tally.value, pile, needed as u32) else {
+        return Err(Refused {
+            why: Refusal::TooFew,
+            blocks,
+        });
+    };
+    Ok(Hashed { value, blocks })
 }

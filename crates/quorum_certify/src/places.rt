@@ -1,93 +1,50 @@
 // The first place of a certificate whose pair is certified.
-ghost use Rattle.std.specs.Prelude.{◌≡◌, ◌+◌, ◌-◌, ◌*◌, ◌^◌, ◌≤◌, ◌<◌, length, get_or};
-ghost use Rattle.std.specs.Int.Bits.{bit_or};
-ghost use Rattle.octets.specs.Octets.{same};
-ghost use Rattle.receipt.specs.Attestation.{receipt_size};
-ghost use Rattle.quorum.specs.Certificate.{pair_at, station_answer, station_blocks};
-ghost use Rattle.quorum.specs.Tally.{Bounded, with_code, mask_at, tried_at, first_in};
+ghost use Rattle.std.specs.Prelude.{◌≡◌, ◌<◌, ◌≤◌, length};
+ghost use Rattle.std.specs.List.{concat};
+ghost use Rattle.quorum.specs.Tally.{Bounded, mask_at, tried_at, first_in, found_answer};
 
 use octets::equal;
-use quorum::{Station, Tried, pair_at};
-use refusal::Refusal;
+use quorum::Certified;
+use receipt_fields::pair_of;
 
-// The mask with a member's bit set; the lowest bit is item 0's.
-fn with_bit(mask: u32, code: u8) -> u32
-    requires { (1 ≤ code) × (code ≤ 32) }
-    ensures { result ≡ bit_or mask (2 ^ (code - 1)) }
-{
-    let k = (code - 1) as u32;
-    mask | (1u32 << k)
-}
-
-// The mask with the member of place q in it, if its receipt is good and shows the pair of place p.
-fn with_place(mask: u32, tally: &[u8], cert: &[u8], p: usize, q: usize) -> u32
-    requires q_in_bounds { (q < length tally.now) × (get_or tally.now q 0 ≤ 32) }
-    requires receipt_size_in_bounds { (p * receipt_size + receipt_size ≤ length cert.now) × (q * receipt_size + receipt_size ≤ length cert.now) }
-    ensures { result ≡ with_code mask (get_or tally.now q 0) (same (pair_at cert.now q) (pair_at cert.now p)) }
-{
-    let code = tally[q];
-    if code == 0 {
-        return mask;
-    }
-    let a = pair_at(cert, q);
-    let b = pair_at(cert, p);
-    if !equal(a, b) {
-        return mask;
-    }
-    with_bit(mask, code)
-}
-
-// The members that show the pair of place p, one bit each.
-fn mask_of(tally: &[u8], cert: &[u8], count: usize, p: usize) -> u32
-    requires count_in_bounds { (count ≤ length tally.now) × ((count * receipt_size ≤ length cert.now) × (p < count)) }
-    requires bounded { Bounded tally.now count }
-    ensures { result ≡ mask_at tally.now cert.now count p }
+// The members that show the pair of place p, one bit each; the lowest bit is item 0's.
+fn mask_of(members: &[Option<u8>; 32], pile: &[[u8; 160]], p: usize) -> u32
+    requires sizes { (length pile.now ≤ 32) × (p < length pile.now) }
+    requires bounded { Bounded members.now (length pile.now) }
+    ensures { result ≡ mask_at members.now (concat pile.now) (length pile.now) p }
 {
     let mut mask: u32 = 0;
-    let mut q = 0;
-    while q < count {
-        mask = with_place(mask, tally, cert, p, q);
-        q += 1;
+    for (q, r) in pile.iter().enumerate() {
+        if let Some(i) = members[q] {
+            if equal(pair_of(r), pair_of(&pile[p])) {
+                mask |= 1 << i;
+            }
+        }
     }
     mask
 }
 
-// Whether place p has a good receipt whose pair `need` members show.
-fn try_place(tally: &[u8], cert: &[u8], need: u32, count: usize, p: usize) -> Tried
-    requires count_in_bounds { (count ≤ length tally.now) × ((count * receipt_size ≤ length cert.now) × (p < count)) }
-    requires bounded { Bounded tally.now count }
-    ensures { result ≡ tried_at tally.now cert.now need count p }
+// The mask of place p, if its receipt is good and `need` members show its pair.
+fn try_place(members: &[Option<u8>; 32], pile: &[[u8; 160]], need: u32, p: usize) -> Option<u32>
+    requires sizes { (length pile.now ≤ 32) × (p < length pile.now) }
+    requires bounded { Bounded members.now (length pile.now) }
+    ensures { result ≡ tried_at members.now (concat pile.now) need (length pile.now) p }
 {
-    if tally[p] == 0 {
-        return Tried::Fails;
-    }
-    let mask = mask_of(tally, cert, count, p);
-    let members = u32::count_ones(mask);
-    if need <= members {
-        return Tried::Stands(mask);
-    }
-    Tried::Fails
+    members[p]?;
+    let mask = mask_of(members, pile, p);
+    (need <= mask.count_ones()).then_some(mask)
 }
 
-// The first good receipt whose pair is certified; the blocks hashed go with the verdict.
-pub fn first_place(tally: &[u8], cert: &[u8], need: u32, count: usize, blocks: u64) -> Station
-    requires count_in_bounds { (count ≤ length tally.now) × (count * receipt_size ≤ length cert.now) }
-    requires bounded { Bounded tally.now count }
-    ensures { (station_answer result ≡ first_in tally.now cert.now need count count 0) × (station_blocks result ≡ blocks) }
+// The first good receipt whose pair is certified.
+pub fn first_place(members: &[Option<u8>; 32], pile: &[[u8; 160]], need: u32) -> Option<Certified>
+    requires size { length pile.now ≤ 32 }
+    requires bounded { Bounded members.now (length pile.now) }
+    ensures { found_answer result ≡ first_in members.now (concat pile.now) need (length pile.now) (length pile.now) 0 }
 {
-    let mut p = 0;
-    while p < count {
-        if let Tried::Stands(mask) = try_place(tally, cert, need, count, p) {
-            return Station::Certified {
-                place: p,
-                mask,
-                blocks,
-            };
+    for place in 0..pile.len() {
+        if let Some(mask) = try_place(members, pile, need, place) {
+            return Some(Certified { place, mask });
         }
-        p += 1;
     }
-    Station::Refused {
-        why: Refusal::TooFew,
-        blocks,
-    }
+    None
 }

@@ -3,6 +3,9 @@ use mathlib.Core.Path.{◌≡◌, sym, ap, ◌∙◌}
 use Prim.Native.Nat.{ℕ, zero, suc, ◌+◌, ◌*◌, ◌/◌, ◌%◌, ◌≤◌, ◌<◌}
 use native.Mathlib.Nat.{suc-mul, zero-mul}
 use native.Mathlib.Omega.{arith}
+use mathlib.Core.Bool.{Bool, true, false}
+use borrow.Author.Tests.{eqb-true, eqb-false}
+use Rattle.std.specs.Bool.{◌==◌}
 use mathlib.Core.List.{List, [], ◌∷◌, ◌++◌}
 use lib.ListN.{length, get_or, take, drop, length-append, length-drop, take-append-drop}
 use Rattle.std.proofs.lemmas.List.{nil_from_length}
@@ -38,3 +41,10 @@ concat-first_chunks n (suc k) l h =
 
 pub cut : (n : ℕ) (l : List ℕ) (xs : List (List ℕ)) → xs ≡ first_chunks (suc n) (length l / suc n) l → length l % suc n ≡ 0 → concat xs ≡ l
 cut n l xs e h = ap concat e ∙ concat-first_chunks (suc n) (length l / suc n) l (omega arith)
+
+-- nothing is left behind the arrays: the rest that `as_chunks` gave is empty
+pub nothing_left : (rest m : ℕ) (b : Bool) → rest ≡ m → b ≡ (rest == 0) → b ≡ true → m ≡ 0
+nothing_left rest m b l e t = sym l ∙ eqb-true rest 0 (sym e ∙ t)
+
+pub something_left : (rest m : ℕ) (b : Bool) → rest ≡ m → b ≡ (rest == 0) → b ≡ false → m ≡ 0 → ⊥
+something_left rest m b l e f z = eqb-false rest 0 (sym e ∙ f) (l ∙ z)

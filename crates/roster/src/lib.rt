@@ -1,10 +1,10 @@
 // The profile of a station, and the members of its roster.
 #![tactic(auto)]
 
-ghost use Rattle.std.specs.Prelude.{◌≡◌, ◌+◌, ◌*◌, ◌≤◌, ◌<◌, true, false, length, MatchOption};
+ghost use Rattle.std.specs.Prelude.{◌≡◌, true, false, length, MatchOption};
 ghost use Rattle.std.specs.List.{concat};
 ghost use Rattle.roster.specs.Profile.{permitted};
-ghost use Rattle.roster.specs.Roster.{keeper_at, key_at, member, absent, distinct, is_roster};
+ghost use Rattle.roster.specs.Roster.{size, keeper_at, member, distinct, is_roster};
 
 use bigendian::number_at;
 
@@ -42,7 +42,7 @@ fn are_distinct(roster: &[[u8; 40]]) -> bool
 
 // The items of a roster of so many members, with distinct keeper numbers.
 pub fn items(members: u64, roster: &[u8]) -> Option<&[[u8; 40]]>
-    ensures { MatchOption result (is_roster members roster.now ≡ false) (λ items. (is_roster members roster.now ≡ true) × (concat items.now ≡ roster.now)) }
+    ensures { MatchOption result (is_roster members roster.now ≡ false) (λ items. (is_roster members roster.now ≡ true) × ((concat items.now ≡ roster.now) × (length items.now ≡ size roster.now))) }
 {
     let (items, rest) = roster.as_chunks::<40>();
     if rest.is_empty() && items.len() as u64 == members && are_distinct(items) {

@@ -1,49 +1,77 @@
 -- `quorum_certify::certify` meets its contract.
-use Rattle.receipt.specs.Attestation.{receipt_size}
-use Rattle.quorum.specs.Certificate.{receipt_count, pile_blocks}
+use Rattle.std.proofs.Common.{◌≡◌, refl, sym, ap, ◌∙◌, arith, Ok, Err}
+use Rattle.refusal.specs.declared.Refusal.TheVariants.{Length, TooFew}
+use Rattle.receipt.proofs.Parsed.{parsed, unparsed}
 use Rattle.roster.specs.Roster.{size}
 use Rattle.roster.proofs.Profiles.{permitted-exactly}
-use Rattle.quorum.proofs.Tallies.{other-nonce, no-profile, no-roster, not-whole, too-many-receipts, is-certificate, members-most, codes-bounded, by_codes}
+use Rattle.quorum.proofs.Tallies.{other-nonce, no-profile, no-roster, no-receipts, members-most, tally-bounded, by_slices, receipts-exactly}
 use Rattle.quorum.proofs.Certificates.{certificate_exactly}
-use mathlib.Core.Path.{sym, ◌∙◌}
-use native.Mathlib.Omega.{arith}
-use lib.ListN.{length}
-use Prim.Native.Nat.{◌/◌}
+use Rattle.quorum.specs.Tally.{found_answer}
+use Rattle.std.specs.List.{concat}
+use Rattle.std.specs.Prelude.{length}
 use Rattle.quorum_certify.proofs.certify.Goals as goal
 
-pub returns-then-nonce-ne32 : goal.returns-then-nonce-ne32
-returns-then-nonce-ne32 c = let d = certificate_exactly (λ i. omega (arith, c.type_inv.cert i))
-    (other-nonce c.args.members c.args.needed c.args.roster.now c.args.nonce.now c.args.log c.args.position c.args.cert.now c.if-nonce-ne32.true) in record { answer = d.0; exactly = d.1.0; blocks = d.1.1 }
+pub returns-in_err-nonce : goal.returns-in_err-nonce
+returns-in_err-nonce c =
+    let u = unparsed c.args.nonce.now 32 Length c.as_array.result c.in_err-nonce.field-0.0 c.from_residual.result c.as_array.ensures.cases c.ok_or.ensures.value c.in_err-nonce.was c.from_residual.ensures.1 in
+    let d = certificate_exactly _ (λ i. omega (arith, c.type_inv.cert i)) u.0 (other-nonce c.args.members c.args.needed c.args.roster.now c.args.nonce.now c.args.log c.args.position c.args.cert.now u.1) in
+    record { answer = d.0; exactly = d.1.0; blocks = d.1.1 }
 
 pub returns-then-not-is_permitted : goal.returns-then-not-is_permitted
-returns-then-not-is_permitted c = let d = certificate_exactly (λ i. omega (arith, c.type_inv.cert i))
-    (no-profile c.args.members c.args.needed c.args.roster.now c.args.nonce.now c.args.log c.args.position c.args.cert.now c.if-nonce-ne32.false (sym c.is_permitted.ensures ∙ c.if-not-is_permitted.true)) in record { answer = d.0; exactly = d.1.0; blocks = d.1.1 }
+returns-then-not-is_permitted c =
+    let n = parsed c.args.nonce.now 32 Length c.as_array.result c.in_ok-nonce.nonce c.as_array.ensures.cases c.ok_or.ensures.value c.in_ok-nonce.was in
+    let d = certificate_exactly _ (λ i. omega (arith, c.type_inv.cert i)) (ap Err c.into.ensures) (no-profile c.args.members c.args.needed c.args.roster.now c.args.nonce.now c.args.log c.args.position c.args.cert.now n.1 (sym c.is_permitted.ensures ∙ c.if-not-is_permitted.true)) in
+    record { answer = d.0; exactly = d.1.0; blocks = d.1.1 }
 
-pub returns-then-not-is_roster : goal.returns-then-not-is_roster
-returns-then-not-is_roster c = let d = certificate_exactly (λ i. omega (arith, c.type_inv.cert i))
-    (no-roster c.args.members c.args.needed c.args.roster.now c.args.nonce.now c.args.log c.args.position c.args.cert.now c.if-nonce-ne32.false (sym c.is_permitted.ensures ∙ c.if-not-is_permitted.false) (sym c.is_roster.ensures ∙ c.if-not-is_roster.true)) in record { answer = d.0; exactly = d.1.0; blocks = d.1.1 }
+pub returns-in_default : goal.returns-in_default
+returns-in_default c =
+    let n = parsed c.args.nonce.now 32 Length c.as_array.result c.in_ok-nonce.nonce c.as_array.ensures.cases c.ok_or.ensures.value c.in_ok-nonce.was in
+    let p = sym c.is_permitted.ensures ∙ c.if-not-is_permitted.false in
+    let d = certificate_exactly _ (λ i. omega (arith, c.type_inv.cert i)) (ap Err c.into-in_default.ensures) (no-roster c.args.members c.args.needed c.args.roster.now c.args.nonce.now c.args.log c.args.position c.args.cert.now n.1 p c.in_default.ensures) in
+    record { answer = d.0; exactly = d.1.0; blocks = d.1.1 }
 
-pub returns-then-cert-ne0 : goal.returns-then-cert-ne0
-returns-then-cert-ne0 c = let d = certificate_exactly (λ i. omega (arith, c.type_inv.cert i))
-    (not-whole c.args.members c.args.needed c.args.roster.now c.args.nonce.now c.args.log c.args.position c.args.cert.now c.if-nonce-ne32.false (sym c.is_permitted.ensures ∙ c.if-not-is_permitted.false) (sym c.is_roster.ensures ∙ c.if-not-is_roster.false) c.if-cert-ne0.true) in record { answer = d.0; exactly = d.1.0; blocks = d.1.1 }
-
-pub returns-then-count-gt32 : goal.returns-then-count-gt32
-returns-then-count-gt32 c = let d = certificate_exactly (λ i. omega (arith, c.type_inv.cert i))
-    (too-many-receipts c.args.members c.args.needed c.args.roster.now c.args.nonce.now c.args.log c.args.position c.args.cert.now c.if-nonce-ne32.false (sym c.is_permitted.ensures ∙ c.if-not-is_permitted.false) (sym c.is_roster.ensures ∙ c.if-not-is_roster.false) c.if-cert-ne0.false c.if-count-gt32.true) in record { answer = d.0; exactly = d.1.0; blocks = d.1.1 }
-
-pub overflow_cast-need : goal.overflow_cast-need
-overflow_cast-need c = let p = (permitted-exactly c.args.members c.args.needed).0 (sym c.is_permitted.ensures ∙ c.if-not-is_permitted.false) in
-    omega (arith, p.most, p.not_more)
+pub returns-in_default-receipts_in : goal.returns-in_default-receipts_in
+returns-in_default-receipts_in c =
+    let n = parsed c.args.nonce.now 32 Length c.as_array.result c.in_ok-nonce.nonce c.as_array.ensures.cases c.ok_or.ensures.value c.in_ok-nonce.was in
+    let p = sym c.is_permitted.ensures ∙ c.if-not-is_permitted.false in
+    let d = certificate_exactly _ (λ i. omega (arith, c.type_inv.cert i)) (ap Err c.into-in_default-receipts_in.ensures) (no-receipts c.args.members c.args.needed c.args.roster.now c.args.nonce.now c.args.log c.args.position c.args.cert.now n.1 p c.in-Some.ensures.0 c.in_default-receipts_in.ensures) in
+    record { answer = d.0; exactly = d.1.0; blocks = d.1.1 }
 
 pub tally_of-tally-requires : goal.tally_of-tally-requires
-tally_of-tally-requires c = let m = members-most c.args.members c.args.needed c.args.roster.now c.args.nonce.now c.args.log c.args.position c.args.cert.now c.if-nonce-ne32.false (sym c.is_permitted.ensures ∙ c.if-not-is_permitted.false) (sym c.is_roster.ensures ∙ c.if-not-is_roster.false) in
-    record { receipt_size_in_bounds = (omega (arith, c.if-cert-ne0.false), (c.if-count-gt32.false, m)); nonce_len = c.if-nonce-ne32.false }
+tally_of-tally-requires c =
+    let n = parsed c.args.nonce.now 32 Length c.as_array.result c.in_ok-nonce.nonce c.as_array.ensures.cases c.ok_or.ensures.value c.in_ok-nonce.was in
+    let p = sym c.is_permitted.ensures ∙ c.if-not-is_permitted.false in
+    let m = members-most c.args.members c.args.needed c.args.roster.now c.args.nonce.now c.args.log c.args.position c.args.cert.now n.1 p c.in-Some.ensures.0 in
+    let few = ((receipts-exactly c.args.cert.now).0 c.in-Some-receipts_in.ensures.0).most in
+    (omega (arith, m, c.in-Some.ensures.1.1), omega (arith, few, c.in-Some-receipts_in.ensures.1.1))
+
+pub overflow_cast-needed : goal.overflow_cast-needed
+overflow_cast-needed c =
+    let p = (permitted-exactly c.args.members c.args.needed).0 (sym c.is_permitted.ensures ∙ c.if-not-is_permitted.false) in omega (arith, p.most, p.not_more)
 
 pub first_place-requires : goal.first_place-requires
-first_place-requires c = let m = members-most c.args.members c.args.needed c.args.roster.now c.args.nonce.now c.args.log c.args.position c.args.cert.now c.if-nonce-ne32.false (sym c.is_permitted.ensures ∙ c.if-not-is_permitted.false) (sym c.is_roster.ensures ∙ c.if-not-is_roster.false) in record { count_in_bounds = (omega (arith, c.tally_of-tally.ensures.0, c.if-count-gt32.false), omega (arith, c.if-cert-ne0.false)); bounded = codes-bounded c.args.roster.now c.args.nonce.now c.args.log c.args.position c.args.cert.now c.tally_of-tally.result.codes (length c.args.cert.now / receipt_size) m c.tally_of-tally.ensures.1.0 }
+first_place-requires c =
+    let n = parsed c.args.nonce.now 32 Length c.as_array.result c.in_ok-nonce.nonce c.as_array.ensures.cases c.ok_or.ensures.value c.in_ok-nonce.was in
+    let p = sym c.is_permitted.ensures ∙ c.if-not-is_permitted.false in
+    let m = members-most c.args.members c.args.needed c.args.roster.now c.args.nonce.now c.args.log c.args.position c.args.cert.now n.1 p c.in-Some.ensures.0 in
+    let few = ((receipts-exactly c.args.cert.now).0 c.in-Some-receipts_in.ensures.0).most in
+    record {
+      size = omega (arith, few, c.in-Some-receipts_in.ensures.1.1);
+      bounded = tally-bounded (concat c.in-Some.items.now) c.in_ok-nonce.nonce.now c.args.log c.args.position (concat c.in-Some-receipts_in.pile.now) c.tally_of-tally.result.value (length c.in-Some-receipts_in.pile.now) (omega (arith, m, ap size c.in-Some.ensures.1.0)) c.tally_of-tally.ensures.members;
+    }
+
+pub returns-in_default-first_place : goal.returns-in_default-first_place
+returns-in_default-first_place c =
+    let n = parsed c.args.nonce.now 32 Length c.as_array.result c.in_ok-nonce.nonce c.as_array.ensures.cases c.ok_or.ensures.value c.in_ok-nonce.was in
+    let p = sym c.is_permitted.ensures ∙ c.if-not-is_permitted.false in
+    let j = by_slices c.args.members c.args.needed c.args.roster.now c.args.nonce.now c.args.log c.args.position c.args.cert.now n.1 p c.in-Some.ensures.0 c.tally_of-tally.result.value _ _ _ _ c.in-Some.ensures.1.0 n.0 c.in-Some-receipts_in.ensures.1.0 c.in-Some-receipts_in.ensures.1.1 c.in-Some-receipts_in.ensures.0 c.tally_of-tally.ensures.members (ap found_answer (sym c.in_default-first_place.is) ∙ c.first_place.ensures) c.tally_of-tally.ensures.blocks in
+    let d = certificate_exactly (Err (record { why = TooFew; blocks = c.tally_of-tally.result.blocks })) (λ i. omega (arith, c.type_inv.cert i)) refl j in
+    record { answer = d.0; exactly = d.1.0; blocks = d.1.1 }
 
 pub returns : goal.returns
-unfolding size receipt_count pile_blocks
-returns c = let whole = is-certificate c.args.cert.now c.if-cert-ne0.false c.if-count-gt32.false in
-    let w = by_codes c.args.members c.args.needed c.args.roster.now c.args.nonce.now c.args.log c.args.position c.args.cert.now c.if-nonce-ne32.false (sym c.is_permitted.ensures ∙ c.if-not-is_permitted.false) (sym c.is_roster.ensures ∙ c.if-not-is_roster.false) c.tally_of-tally.result.codes whole c.tally_of-tally.ensures.1.0 in
-    let d = certificate_exactly (λ i. omega (arith, c.type_inv.cert i)) (c.first_place.ensures.0 ∙ w.0, c.first_place.ensures.1 ∙ c.tally_of-tally.ensures.1.1 ∙ w.1) in record { answer = d.0; exactly = d.1.0; blocks = d.1.1 }
+returns c =
+    let n = parsed c.args.nonce.now 32 Length c.as_array.result c.in_ok-nonce.nonce c.as_array.ensures.cases c.ok_or.ensures.value c.in_ok-nonce.was in
+    let p = sym c.is_permitted.ensures ∙ c.if-not-is_permitted.false in
+    let j = by_slices c.args.members c.args.needed c.args.roster.now c.args.nonce.now c.args.log c.args.position c.args.cert.now n.1 p c.in-Some.ensures.0 c.tally_of-tally.result.value _ _ _ _ c.in-Some.ensures.1.0 n.0 c.in-Some-receipts_in.ensures.1.0 c.in-Some-receipts_in.ensures.1.1 c.in-Some-receipts_in.ensures.0 c.tally_of-tally.ensures.members (ap found_answer (sym c.in-Some-first_place.is) ∙ c.first_place.ensures) c.tally_of-tally.ensures.blocks in
+    let d = certificate_exactly (Ok (record { value = c.in-Some-first_place.value; blocks = c.tally_of-tally.result.blocks })) (λ i. omega (arith, c.type_inv.cert i)) refl j in
+    record { answer = d.0; exactly = d.1.0; blocks = d.1.1 }

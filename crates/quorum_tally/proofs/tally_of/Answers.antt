@@ -1,31 +1,26 @@
 -- `quorum_tally::tally_of` meets its contract.
-use Rattle.quorum.specs.Tally.{good_member, blocks_below}
-use native.Mathlib.Nat.{not-suc-le-zero}
-use Rattle.quorum.proofs.BlockLaws.{blocks_start, blocks_step, blocks-few}
-use Rattle.quorum.proofs.Tallies.{zero-at, codes-step}
-use native.Mathlib.Omega.{arith}
-use mathlib.Core.Path.{◌≡◌, refl, ap, ◌∙◌}
+use Rattle.std.specs.List.{concat}
+use Rattle.std.proofs.Common.{ℕ, ◌+◌, ◌<◌, length, length-set, refl, ap, ◌∙◌, arith, not-suc-le-zero}
+use Rattle.quorum.specs.Tally.{good_member}
+use Rattle.quorum.proofs.BlockLaws.{blocks_start, blocks_step, blocks-few, receipt-few}
+use Rattle.quorum.proofs.Piles.{receipt-of}
+use Rattle.quorum.proofs.Tallies.{tallied-step}
 use Rattle.quorum_tally.proofs.tally_of.Goals as goal
 
 pub loop-p-init : goal.loop-p-init
-loop-p-init c = (omega arith, (blocks_start c.args.roster.now c.args.cert.now, (refl, ((λ q h. absurd (not-suc-le-zero h)), (λ q h. zero-at 32 q)))))
+loop-p-init c = (refl, (λ q h. absurd (not-suc-le-zero h), blocks_start (concat c.args.roster.now) (concat c.args.pile.now)))
 
-pub receipt_at-r-requires : goal.receipt_at-r-requires
-receipt_at-r-requires c = omega (arith, c.requires.receipt_size_in_bounds.0)
-
-pub count_receipt-tally-requires : goal.count_receipt-tally-requires
-count_receipt-tally-requires c = let few = blocks-few c.args.roster.now c.args.cert.now c.loop-p.p in
-    record { p_bound = (omega (arith, c.requires.receipt_size_in_bounds.1.0), (c.receipt_at-r.ensures.1, c.requires.receipt_size_in_bounds.1.1)); nonce_len = (c.requires.nonce_len, omega (arith, c.loop-p.invariant.1.0, few)) }
+pub overflow_add-blocks : goal.overflow_add-blocks
+overflow_add-blocks c =
+    omega (arith, c.loop-p.invariant.1.1, blocks-few (concat c.args.roster.now) (concat c.args.pile.now) c.loop-p.p, c.member_of-found.ensures.blocks, receipt-few (concat c.args.roster.now), c.requires.1)
 
 pub loop-p-preserved : goal.loop-p-preserved
-loop-p-preserved c = (
-  omega arith,
-  (
-    blocks_step c.args.roster.now c.args.cert.now c.loop-p.p c.loop-p.invariant.1.0 c.receipt_at-r.ensures.0 c.count_receipt-tally.ensures.1,
-    codes-step c.args.roster.now c.args.nonce.now c.args.log c.args.position c.args.cert.now c.loop-p.tally.codes c.loop-p.p c.loop-p.invariant.1.1.0 (omega (arith, c.requires.receipt_size_in_bounds.1.0)) c.loop-p.invariant.1.1.1.0 c.loop-p.invariant.1.1.1.1 (ap (good_member c.args.roster.now c.args.nonce.now c.args.log c.args.position) c.receipt_at-r.ensures.0) c.count_receipt-tally.ensures.0,
-  ),
-)
-
-pub returns : goal.returns
-returns c = let all : c.loop-p.p ≡ c.args.count = omega arith in
-    (c.loop-p.invariant.1.1.0, ((λ q h. c.loop-p.invariant.1.1.1.0 q (omega arith)), c.loop-p.invariant.1.0 ∙ ap (blocks_below c.args.roster.now c.args.cert.now) all))
+loop-p-preserved c =
+    let r = receipt-of c.args.pile.now c.told-pile c.loop-p.p (omega arith) in (
+      length-set _ _ _ ∙ c.loop-p.invariant.0,
+      (
+        tallied-step (concat c.args.roster.now) c.args.nonce.now c.args.log c.args.position (concat c.args.pile.now) c.loop-p.members c.loop-p.p (omega (arith, c.loop-p.invariant.0, c.requires.1)) c.loop-p.invariant.1.0
+            (c.member_of-found.ensures.member ∙ ap (good_member (concat c.args.roster.now) c.args.nonce.now c.args.log c.args.position) r),
+        blocks_step (concat c.args.roster.now) (concat c.args.pile.now) c.loop-p.p c.loop-p.invariant.1.1 r (ap (λ (n : ℕ). c.loop-p.blocks + n) c.member_of-found.ensures.blocks),
+      ),
+    )

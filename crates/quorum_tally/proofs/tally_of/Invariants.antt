@@ -1,11 +1,8 @@
-use lib.ListN.{get_or, length}
-use Rattle.quorum.specs.Tally.{Codes, blocks_below}
-use Prim.Native.Nat.{ℕ, ◌-◌, ◌≤◌}
-use mathlib.Core.Path.{◌≡◌}
-use Rattle.quorum_tally.proofs.tally_of.Given as given
+use Rattle.std.specs.List.{concat}
+use Rattle.std.proofs.Common.{◌≡◌, length}
+use Rattle.quorum.specs.Tally.{Tallied, blocks_below}
+use Rattle.quorum_tally.proofs.tally_of.Given as goal
 
-abbrev pub invariant-loop-p : given.invariant-loop-p
-invariant-loop-p l = (l.p ≤ l.count) × ((l.tally.blocks ≡ blocks_below l.roster l.cert l.p) × ((length l.tally.codes ≡ 32) × (Codes l.roster l.nonce l.log l.position l.cert l.p l.tally.codes × ((q : ℕ) → l.p ≤ q → ◌≡◌ {A = ℕ} (get_or l.tally.codes q 0) 0))))
-
-abbrev pub decreases-loop-p : given.decreases-loop-p
-decreases-loop-p l = l.count - l.p
+-- the places up to here are in the tally, and their blocks are counted
+abbrev pub invariant-loop-p : goal.invariant-loop-p
+invariant-loop-p l = (length l.members ≡ 32) × (Tallied (concat l.roster) l.nonce l.log l.position (concat l.pile) l.p l.members × (l.blocks ≡ blocks_below (concat l.roster) (concat l.pile) l.p))

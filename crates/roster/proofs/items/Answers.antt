@@ -1,5 +1,6 @@
 -- `roster::items` meets its contract.
-use Rattle.roster.proofs.OnEnd.{cut}
+use Rattle.roster.specs.Roster.{size}
+use Rattle.roster.proofs.OnEnd.{cut, nothing_left, something_left}
 use Rattle.roster.proofs.RosterLaws.{no_items, other-size, of-items}
 use Rattle.std.specs.Bool.{◌==◌}
 use Rattle.std.proofs.Common.{◌≡◌, ℕ, ◌%◌, Bool, true, length, sym, ◌∙◌}
@@ -7,15 +8,12 @@ use borrow.Author.Tests.{eqb-true, eqb-false}
 use Rattle.roster.proofs.items.Goals.{else-is_empty-via-then-is_empty+then-items-members+else-are_distinct, else-is_empty-via-then-is_empty+else-items-members, else-is_empty-via-else-is_empty}
 use Rattle.roster.proofs.items.Goals as goal
 
--- nothing is left behind the items
-nothing_left : (rest m : ℕ) (b : Bool) → rest ≡ m → b ≡ (rest == 0) → b ≡ true → m ≡ 0
-nothing_left rest m b l e t = sym l ∙ eqb-true rest 0 (sym e ∙ t)
-
 pub returns-then-are_distinct : goal.returns-then-are_distinct
+unfolding size
 returns-then-are_distinct c =
     let whole = nothing_left _ (length c.args.roster.now % 40) _ c.as_chunks.ensures.back_len c.is_empty.ensures c.if-is_empty.true in
     let bytes = cut 39 c.args.roster.now c.as_chunks.result.0.now c.as_chunks.ensures.front whole in
-    (sym (of-items _ c.args.members _ whole c.as_chunks.ensures.front_len c.if-items-members.true bytes) ∙ sym c.are_distinct.ensures ∙ c.if-are_distinct.true, bytes)
+    (sym (of-items _ c.args.members _ whole c.as_chunks.ensures.front_len c.if-items-members.true bytes) ∙ sym c.are_distinct.ensures ∙ c.if-are_distinct.true, (bytes, c.as_chunks.ensures.front_len))
 
 pub returns-else-is_empty : goal.returns-else-is_empty
 returns-else-is_empty c = elim c.else-is_empty.branch [
@@ -26,5 +24,5 @@ returns-else-is_empty c = elim c.else-is_empty.branch [
   | else-is_empty-via-then-is_empty+else-items-members w ↦
       let whole = nothing_left _ (length c.args.roster.now % 40) _ c.as_chunks.ensures.back_len c.is_empty.ensures w.if-is_empty.true in
       sym (other-size c.args.roster.now c.args.members whole (λ e. w.if-items-members.false (c.as_chunks.ensures.front_len ∙ e)))
-  | else-is_empty-via-else-is_empty w ↦ sym (no_items c.args.roster.now c.args.members (λ e. eqb-false _ 0 (sym c.is_empty.ensures ∙ w.if-is_empty.false) (c.as_chunks.ensures.back_len ∙ e)))
+  | else-is_empty-via-else-is_empty w ↦ sym (no_items c.args.roster.now c.args.members (something_left _ (length c.args.roster.now % 40) _ c.as_chunks.ensures.back_len c.is_empty.ensures w.if-is_empty.false))
 ]

@@ -1,36 +1,34 @@
 -- `quorum_certify::places::first_place` meets its contract.
-use Rattle.quorum.specs.declared.Tried.{Tried}
-use Prim.Native.Nat.{suc, ℕ, ◌+◌, ◌-◌}
-use native.Mathlib.Numerals.{add-one}
+use Rattle.std.proofs.Common.{◌≡◌, ℕ, suc, ◌+◌, ◌-◌, ◌<◌, List, length, refl, sym, ap, ◌∙◌, add-one, arith, Option}
+use Rattle.std.specs.List.{concat}
+use Rattle.quorum.specs.Tally.{first_in, or_else, tried_at}
 use Rattle.quorum.proofs.Tallies.{first_step, first-none}
-use Rattle.quorum.specs.Tally.{first_in, or_else}
-use native.Mathlib.Omega.{arith}
-use mathlib.Core.Path.{◌≡◌, refl, sym, ap, ◌∙◌}
 use Rattle.quorum_certify.proofs.places.first_place.Goals as goal
 
-pub loop-p-init : goal.loop-p-init
-loop-p-init c = let e : c.args.count ≡ c.args.count - 0 = omega arith in (omega arith, ap (λ (j : ℕ). first_in c.args.tally.now c.args.cert.now c.args.need c.args.count j 0) e)
+-- one place of the search
+step : (t : List (Option ℕ)) (cert : List ℕ) (need n p : ℕ) {r : Option ℕ} → p < n → r ≡ tried_at t cert need n p
+    → first_in t cert need n (n - p) p ≡ or_else r p (first_in t cert need n (n - (p + 1)) (p + 1))
+step t cert need n p {r} h e =
+    let z : n - p ≡ suc (n - (p + 1)) = omega arith in
+    ap (λ (j : ℕ). first_in t cert need n j p) z ∙ first_step t cert need n p (n - (p + 1))
+    ∙ ap (λ (o : Option ℕ). or_else o p (first_in t cert need n (n - (p + 1)) (suc p))) (sym e)
+    ∙ ap (λ (q : ℕ). or_else r p (first_in t cert need n (n - (p + 1)) q)) (sym (add-one p))
 
-pub try_place-requires : goal.try_place-requires
-try_place-requires c = record { count_in_bounds = (c.requires.count_in_bounds.0, (c.requires.count_in_bounds.1, omega arith)); bounded = c.requires.bounded }
+pub returns-in-Some : goal.returns-in-Some
+returns-in-Some c =
+    let n = length c.args.pile.now in
+    sym (c.loop-place.invariant ∙ step c.args.members.now (concat c.args.pile.now) c.args.need n c.loop-place.place (omega arith) c.try_place.ensures
+    ∙ ap (λ (o : Option ℕ). or_else o c.loop-place.place (first_in c.args.members.now (concat c.args.pile.now) c.args.need n (n - (c.loop-place.place + 1)) (c.loop-place.place + 1))) c.in-Some.is)
 
-pub returns-in-Stands : goal.returns-in-Stands
-returns-in-Stands c = let e : c.args.count - c.loop-p.p ≡ suc (c.args.count - (c.loop-p.p + 1)) = omega arith in
-    let f = first_in c.args.tally.now c.args.cert.now c.args.need c.args.count in (
-      sym (c.loop-p.invariant.1 ∙ ap (λ (j : ℕ). f j c.loop-p.p) e ∙ first_step c.args.tally.now c.args.cert.now c.args.need c.args.count c.loop-p.p (c.args.count - (c.loop-p.p + 1))
-          ∙ ap (λ (t : Tried). or_else t c.loop-p.p (f (c.args.count - (c.loop-p.p + 1)) (suc c.loop-p.p))) (sym c.try_place.ensures ∙ c.in-Stands.is)),
-      refl,
-    )
-
-pub loop-p-preserved : goal.loop-p-preserved
-loop-p-preserved c = let e : c.args.count - c.loop-p.p ≡ suc (c.args.count - (c.loop-p.p + 1)) = omega arith in
-    let f = first_in c.args.tally.now c.args.cert.now c.args.need c.args.count in (
-      omega arith,
-      c.loop-p.invariant.1 ∙ ap (λ (j : ℕ). f j c.loop-p.p) e ∙ first_step c.args.tally.now c.args.cert.now c.args.need c.args.count c.loop-p.p (c.args.count - (c.loop-p.p + 1))
-          ∙ ap (λ (t : Tried). or_else t c.loop-p.p (f (c.args.count - (c.loop-p.p + 1)) (suc c.loop-p.p))) (sym c.try_place.ensures ∙ c.in_default.is)
-          ∙ ap (f (c.args.count - (c.loop-p.p + 1))) (sym (add-one c.loop-p.p)),
-    )
+pub loop-place-preserved : goal.loop-place-preserved
+loop-place-preserved c =
+    let n = length c.args.pile.now in
+    c.loop-place.invariant ∙ step c.args.members.now (concat c.args.pile.now) c.args.need n c.loop-place.place (omega arith) c.try_place.ensures
+    ∙ ap (λ (o : Option ℕ). or_else o c.loop-place.place (first_in c.args.members.now (concat c.args.pile.now) c.args.need n (n - (c.loop-place.place + 1)) (c.loop-place.place + 1))) c.in_default.is
 
 pub returns : goal.returns
-returns c = let e : c.args.count - c.loop-p.p ≡ 0 = omega arith in
-    (first-none c.args.tally.now c.args.cert.now c.args.need c.args.count c.loop-p.p ∙ sym (c.loop-p.invariant.1 ∙ ap (λ (j : ℕ). first_in c.args.tally.now c.args.cert.now c.args.need c.args.count j c.loop-p.p) e), refl)
+returns c =
+    let n = length c.args.pile.now in
+    let z : n - c.loop-place.place ≡ 0 = omega arith in
+    first-none c.args.members.now (concat c.args.pile.now) c.args.need n c.loop-place.place
+    ∙ sym (c.loop-place.invariant ∙ ap (λ (j : ℕ). first_in c.args.members.now (concat c.args.pile.now) c.args.need n j c.loop-place.place) z)

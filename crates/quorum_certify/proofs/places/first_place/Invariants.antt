@@ -1,10 +1,7 @@
-use Prim.Native.Nat.{◌-◌, ◌≤◌}
+use Rattle.std.specs.List.{concat}
+use Rattle.std.proofs.Common.{◌≡◌, ◌-◌, length}
 use Rattle.quorum.specs.Tally.{first_in}
-use mathlib.Core.Path.{◌≡◌}
-use Rattle.quorum_certify.proofs.places.first_place.Given as given
+use Rattle.quorum_certify.proofs.places.first_place.Given as goal
 
-abbrev pub invariant-loop-p : given.invariant-loop-p
-invariant-loop-p l = (l.p ≤ l.count) × (first_in l.tally l.cert l.need l.count l.count 0 ≡ first_in l.tally l.cert l.need l.count (l.count - l.p) l.p)
-
-abbrev pub decreases-loop-p : given.decreases-loop-p
-decreases-loop-p l = l.count - l.p
+abbrev pub invariant-loop-place : goal.invariant-loop-place
+invariant-loop-place l = let n = length l.pile in first_in l.members (concat l.pile) l.need n n 0 ≡ first_in l.members (concat l.pile) l.need n (n - l.place) l.place

@@ -1,10 +1,7 @@
+use Rattle.std.specs.List.{concat}
+use Rattle.std.proofs.Common.{◌≡◌}
 use Rattle.quorum.specs.Tally.{mask_at}
-use Prim.Native.Nat.{◌-◌, ◌≤◌}
-use mathlib.Core.Path.{◌≡◌}
-use Rattle.quorum_certify.proofs.places.mask_of.Given as given
+use Rattle.quorum_certify.proofs.places.mask_of.Given as goal
 
-abbrev pub invariant-loop-q : given.invariant-loop-q
-invariant-loop-q l = (l.q ≤ l.count) × (l.mask ≡ mask_at l.tally l.cert l.q l.p)
-
-abbrev pub decreases-loop-q : given.decreases-loop-q
-decreases-loop-q l = l.count - l.q
+abbrev pub invariant-loop-q : goal.invariant-loop-q
+invariant-loop-q l = l.mask ≡ mask_at l.members (concat l.pile) l.q l.p
