@@ -11,3 +11,4 @@ pub mod TestLaws
 pub mod HeaderLaws
 pub mod BlankLaws
 pub mod FreeLaws
+pub mod FillLaws

@@ -1,5 +1,5 @@
 -- Laws for code that writes a carried table: the rows one after the other, and the slots at once.
-use Prim.Native.Nat.{ℕ, ◌+◌, ◌-◌, ◌*◌, ◌≤◌, ◌<◌}
+use Prim.Native.Nat.{ℕ, ◌-◌, ◌*◌, ◌≤◌}
 use mathlib.Core.Path.{◌≡◌, sym, ap, ap₂, ◌∙◌}
 use mathlib.Core.List.{List}
 use mathlib.Core.Bool.{true}
@@ -7,9 +7,9 @@ use native.Mathlib.Omega.{arith}
 use borrow.Rule.Slice.PartMut.{put_mid}
 use lib.ListN.{length, take, drop, get_or}
 use Rattle.octets.specs.Octets.{Bytes, part, splice}
-use Rattle.octets.proofs.Parts.{length_part, put_back}
+use Rattle.octets.proofs.Parts.{put_back}
 use Rattle.layout.specs.declared.Row.{Row}
-use Rattle.layout.specs.Image.{Image, row_at, fresh_row, free_slot}
+use Rattle.layout.specs.Image.{Image, fresh_row, free_slot}
 use Rattle.layout.specs.Lists.{flat}
 use Rattle.layout.specs.Layout.{plan01, stocked, header_size, row_size, slot_size, row_offset, row_offset_in, table_size, logs_of, slots_of, keeper_of, free_of, key_of, row_bytes, slot_bytes, header_bytes}
 use Rattle.layout.specs.Layout01.{cells_of01, read01}
@@ -25,7 +25,7 @@ use Rattle.table.specs.Conditions01.{Whole01}
 use Rattle.table.proofs.ConditionLaws01.{whole01-exactly, whole01-fits}
 use Rattle.table.proofs.WalkLaws.{chain-short}
 use Rattle.table.proofs.LinkLaws.{chain-within}
-use Rattle.table.proofs.FillLaws.{fill_none, fill-turn, fill-length, fill_done, parts-written}
+use Rattle.table.proofs.FillLaws.{parts-written}
 
 -- what a whole table tells of its counts
 pub whole01-counted : (old : List ℕ) (logs slots : ℕ) → whole01 old ≡ true → logs ≡ logs_of old → slots ≡ slots_of old → Counted01 old logs slots
@@ -36,10 +36,6 @@ whole01-counted old logs slots e l s =
 
 pub whole01-long : (old : List ℕ) → whole01 old ≡ true → header_size ≤ length old
 whole01-long old e = let w : Whole01 old = (whole01-exactly old).0 e in let r = w.counts in omega (arith, w.sized, r.logs-least, r.slots-least)
-
-pub key-size : (old key : List ℕ) → whole01 old ≡ true → key ≡ key_of old → length key ≡ 32
-unfolding key_of
-key-size old key e k = ap length k ∙ length_part old 20 32 (omega (arith, whole01-long old e))
 
 module _ (old : List ℕ) (logs slots : ℕ) (c : Counted01 old logs slots) where
   -- the free chain stays in the table
@@ -52,28 +48,11 @@ module _ (old : List ℕ) (logs slots : ℕ) (c : Counted01 old logs slots) wher
   abbrev rows : List Row
   rows = (read01 old).rows
 
-  count : length rows ≡ logs
+  pub count : length rows ≡ logs
   count = length_rows01 old ∙ sym c.logs-are
 
   sizes : (i : ℕ) → length (row_bytes (get_or rows i (fresh_row 0))) ≡ row_size
   sizes i = length-row_bytes (get_or rows i (fresh_row 0))
-
-  pub rows_none : (o : List ℕ) → o ≡ splice o 0 (flat row_bytes (take 0 rows))
-  rows_none o = fill_none row_bytes row_size (fresh_row 0) rows sizes (length-row_bytes (fresh_row 0)) o
-
-  module _ (o b : List ℕ) (g : ℕ) (z : length o ≡ row_size * logs) where
-    size : length o ≡ row_size * length rows
-    size = z ∙ ap (λ (k : ℕ). row_size * k) (sym count)
-
-    pub rows-turn : (y : List ℕ) (r : Row) → g < logs → b ≡ splice o 0 (flat row_bytes (take g rows)) → r ≡ row_at rows g → y ≡ row_bytes r
-        → put_mid (row_size * g) (row_size * g + row_size - row_size * g) b y ≡ splice o 0 (flat row_bytes (take (g + 1) rows))
-    rows-turn y r h w e k = fill-turn row_bytes row_size (fresh_row 0) rows sizes (length-row_bytes (fresh_row 0)) o b y g (omega (arith, count)) size w (k ∙ ap row_bytes e)
-
-    pub rows-length : g < logs → b ≡ splice o 0 (flat row_bytes (take (g + 1) rows)) → length b ≡ length o
-    rows-length h w = fill-length row_bytes row_size (fresh_row 0) rows sizes (length-row_bytes (fresh_row 0)) o b (g + 1) (omega (arith, count)) size w
-
-    pub rows-done : logs ≤ g → g ≤ logs → b ≡ splice o 0 (flat row_bytes (take g rows)) → b ≡ flat row_bytes rows
-    rows-done h k w = fill_done row_bytes row_size (fresh_row 0) rows sizes (length-row_bytes (fresh_row 0)) o b g (omega (arith, count)) (omega (arith, count)) size w
 
   module _ (bytes : Bytes old) (e : whole01 old ≡ true) where
     m : Image

@@ -5,7 +5,7 @@ use mathlib.Core.Bool.{Bool, true, false, not, ◌&&◌}
 use mathlib.Core.List.{List, [], ◌∷◌}
 use mathlib.Core.Logic.{◌≢◌}
 use native.Mathlib.Omega.{arith}
-use borrow.Author.Tests.{eq-eqb, ne_eqb, le-leb, lt-leb, not-true, not-false}
+use borrow.Author.Tests.{eq-eqb, ne_eqb, le-leb, lt-leb}
 use lib.Dec.{eqb}
 use lib.ListN.{length}
 use Rattle.refusal.specs.declared.Refusal.{Refusal}
@@ -33,7 +33,7 @@ use Rattle.layout.proofs.StrictCells.{length-strict, strict-are}
 use Rattle.layout.proofs.TableLaws.{length-rows, length-slots, cells_are}
 use Rattle.table.proofs.LinkedLaws.{free-broken, rows-broken, free-met, rows-met, not-all-met, all-met}
 use Rattle.table.proofs.StrictLaws.{pads-same, linked-pads}
-use Rattle.table.proofs.Found.{Checked, met_of, holding_of, found_whole}
+use Rattle.table.proofs.Found.{Checked, found_whole}
 use Rattle.std.proofs.Common.{Some, None, Result, Ok, Err}
 use Rattle.refusal.specs.declared.Refusal.TheVariants.{Torn}
 

@@ -81,7 +81,7 @@ module _ (size logs slots key_size : ℕ) (reserves : List ℕ) where
 
 module _ (b : List ℕ) (logs slots keeper : ℕ) (key reserves : List ℕ) where
   -- an answer, and the bytes after it
-  abbrev Answers : ℕ → List ℕ → Type 0
+  abbrev pub Answers : ℕ → List ℕ → Type 0
   Answers n a = (n ≡ answer_of (format_refusal (length b) logs slots (length key) reserves)) × (a ≡ format_bytes b logs slots keeper key reserves)
 
   answers : (o : Option ℕ) → format_refusal (length b) logs slots (length key) reserves ≡ o → Answers (answer_of o) (afterwards o (write_table (formatted slots keeper key reserves)) b)

@@ -71,9 +71,9 @@ module _ {slots : List Slot} {k first n last s : ℕ} (t : FreeTurn slots k firs
               len = t.len;
               short = omega (arith, t.short);
               rest =
-                free_step
-                ∙ free-blank slots n last s (walk slots 0 (k - (n + 1)) (slot_at slots s).next) h
-                ∙ ap (λ (y : Link). free_rest slots (n + 1) s (walk slots 0 (k - (n + 1)) y.next)) (sym link);
+                  free_step
+                  ∙ free-blank slots n last s (walk slots 0 (k - (n + 1)) (slot_at slots s).next) h
+                  ∙ ap (λ (y : Link). free_rest slots (n + 1) s (walk slots 0 (k - (n + 1)) y.next)) (sym link);
             }
 
 -- the chain of log g: n of the table's k slots met, the last of which is `last`, at position floor, and the next is s
@@ -133,7 +133,7 @@ module _ {slots : List Slot} {k g : ℕ} {r : Row} {n floor last s : ℕ} (t : L
               len = t.len;
               short = omega (arith, t.short);
               rest =
-                log-step
-                ∙ log-higher slots r n floor last s (walk slots (suc g) (k - (n + 1)) (slot_at slots s).next) (subst (λ (y : Link). floor < y.position) link h)
-                ∙ ap (λ (y : Link). log_rest slots r (n + 1) y.position s (walk slots (suc g) (k - (n + 1)) y.next)) (sym link);
+                  log-step
+                  ∙ log-higher slots r n floor last s (walk slots (suc g) (k - (n + 1)) (slot_at slots s).next) (subst (λ (y : Link). floor < y.position) link h)
+                  ∙ ap (λ (y : Link). log_rest slots r (n + 1) y.position s (walk slots (suc g) (k - (n + 1)) y.next)) (sym link);
             }

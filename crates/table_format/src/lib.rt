@@ -11,48 +11,37 @@ ghost use Rattle.table.specs.Free.{queued_next, queue, write_table};
 ghost use Rattle.table.specs.Reserve.{sum};
 ghost use Rattle.table.specs.Format.{formatted, format_refusal, format_bytes};
 
-use layout::Row;
-use layout::places::{HEADER, ROW, SLOT, table_size};
-use layout_header::{in_range, write_header};
+use layout::places::{HEADER, ROW, SLOT};
+use layout::{Counts, Row, Slot};
+use layout_header::{Header, in_range, write_header};
 use layout_rows::write_row;
 use layout_slots::write_slot;
-use refusal::{Refusal, Worked};
+use refusal::{Hashed, Refusal, Refused};
 
 // Whether the reserves together do not pass the slots: each is taken from what is left of these, so nothing wraps.
 fn reserves_fit(reserves: &[u64], slots: u64) -> bool
     ensures { result ≡ leb (sum reserves.now) slots }
 {
     let mut left = slots;
-    let mut i = 0;
-    while i < reserves.len() {
-        let reserve = reserves[i];
-        if left < reserve {
+    for reserve in reserves {
+        if left < *reserve {
             return false;
         }
-        left -= reserve;
-        i += 1;
+        left -= *reserve;
     }
     true
 }
 
-// Fresh rows, one for each reserve, over the rows' part of a table.
+// Fresh rows, one for each reserve, over the rows' part of a table. `table_carry` fills rows too, off an old table. One function over
+// a closure that gives the row was tried; its proof did not close: no ghost list can be picked at a closure that borrows.
 fn fill_rows(part: &mut [u8], reserves: &[u64])
     requires reserves_len_bound { (length reserves.now ≤ 16) × (sum reserves.now ≤ 800) }
     requires part_len { length part.old ≡ row_size * length reserves.now }
     ensures { part.new ≡ flat row_bytes (map fresh_row reserves.now) }
 {
-    let mut g = 0;
-    while g < reserves.len() {
+    for (g, reserve) in reserves.iter().enumerate() {
         let at = ROW * g;
-        let row = Row {
-            low: 1,
-            high: 0,
-            first: 0,
-            last: 0,
-            reserve: reserves[g] as usize,
-        };
-        write_row(&mut part[at..at + ROW], row);
-        g += 1;
+        write_row(&mut part[at..at + ROW], Row::fresh(*reserve as usize));
     }
 }
 
@@ -63,7 +52,14 @@ fn write_free(part: &mut [u8], next: usize)
     ensures { part.new ≡ slot_bytes (free_slot next) }
 {
     let zero = [0u8; 32];
-    write_slot(part, 0, next, 0, &zero, &zero);
+    let slot = Slot {
+        owner: 0,
+        next,
+        position: 0,
+        value: &zero,
+        digest: &zero,
+    };
+    write_slot(part, slot);
 }
 
 // The slot that follows slot s in the queue 1 to S.
@@ -80,35 +76,32 @@ fn fill_slots(part: &mut [u8], slots: usize)
     requires part_len { length part.old ≡ slot_size * slots }
     ensures { part.new ≡ flat slot_bytes (queue slots) }
 {
-    let mut i = 0;
-    while i < slots {
+    for i in 0..slots {
         let at = SLOT * i;
         let next = queued_next(slots, i + 1);
         write_free(&mut part[at..at + SLOT], next);
-        i += 1;
     }
 }
 
 // A formatted table over the whole buffer.
-fn fill(table: &mut [u8], slots: usize, keeper: u64, key: &[u8], reserves: &[u64])
+fn fill(table: &mut [u8], slots: usize, keeper: u64, key: &[u8; 32], reserves: &[u64])
     requires reserves_len_bound { (length reserves.now ≤ 16) × (slots ≤ 800) × (sum reserves.now ≤ 800) }
-    requires table_len { (length table.old ≡ table_size (length reserves.now) slots) × (length key.now ≡ 32) }
+    requires table_len { length table.old ≡ table_size (length reserves.now) slots }
     ensures { table.new ≡ write_table (formatted slots keeper key.now reserves.now) }
 {
     let logs = reserves.len();
     let rows = HEADER;
     let start = rows + ROW * logs;
     let end = start + SLOT * slots;
-    write_header(
-        &mut table[0..rows],
-        logs,
-        slots,
+    let header = Header {
+        counts: Counts { logs, slots },
         keeper,
-        1,
-        slots,
-        slots,
+        free: 1,
+        count: slots,
+        last: slots,
         key,
-    );
+    };
+    write_header(&mut table[0..rows], header);
     fill_rows(&mut table[rows..start], reserves);
     fill_slots(&mut table[start..end], slots);
 }
@@ -122,43 +115,30 @@ pub fn format(
     keeper: u64,
     key: &[u8],
     reserves: &[u64],
-) -> Worked
+) -> Result<Hashed<()>, Refused>
     ensures answer { worked_number result ≡ answer_of (format_refusal (length table.old) logs slots (length key.now) reserves.now) }
     ensures blocks { worked_blocks result ≡ 0 }
     ensures bytes { table.new ≡ format_bytes table.old logs slots keeper key.now reserves.now }
 {
     if !in_range(logs, slots) {
-        return Worked::Refused {
-            why: Refusal::Counts,
-            blocks: 0,
-        };
+        return Err(Refusal::Counts.into());
     }
-    let g = logs as usize;
-    let s = slots as usize;
-    if key.len() != 32 {
-        return Worked::Refused {
-            why: Refusal::Length,
-            blocks: 0,
-        };
-    }
-    if table.len() != table_size(g, s) {
-        return Worked::Refused {
-            why: Refusal::Length,
-            blocks: 0,
-        };
-    }
-    if reserves.len() != g {
-        return Worked::Refused {
-            why: Refusal::Length,
-            blocks: 0,
-        };
+    let counts = Counts {
+        logs: logs as usize,
+        slots: slots as usize,
+    };
+    let Some(key) = key.as_array::<32>() else {
+        return Err(Refusal::Length.into());
+    };
+    if table.len() != counts.size() || reserves.len() != counts.logs {
+        return Err(Refusal::Length.into());
     }
     if !reserves_fit(reserves, slots) {
-        return Worked::Refused {
-            why: Refusal::Counts,
-            blocks: 0,
-        };
+        return Err(Refusal::Counts.into());
     }
-    fill(table, s, keeper, key, reserves);
-    Worked::Done { blocks: 0 }
+    fill(table, counts.slots, keeper, key, reserves);
+    Ok(Hashed {
+        value: (),
+        blocks: 0,
+    })
 }
