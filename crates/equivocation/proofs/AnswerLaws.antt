@@ -1,10 +1,10 @@
 -- The answer beside a certificate's: its refusals and its blocks; and that no two answers are alike.
-use mathlib.Core.Path.{◌≡◌, sym, ap, ap₂}
+use mathlib.Core.Path.{◌≡◌, refl, sym, ap, ap₂}
 use mathlib.Core.Logic.{◌↔◌, ◌≢◌}
 use Prim.Native.Nat.{ℕ}
 use native.Mathlib.Omega.{arith}
 use mathlib.Core.Bool.{Bool, true, false, not, cond}
-use mathlib.Core.List.{List, [], ◌∷◌}
+use mathlib.Core.List.{List}
 use mathlib.Core.Option.{none, some, none-ne-some, some-injective}
 use lib.ListN.{length}
 use borrow.Author.Tests.{eq-eqb}
@@ -15,9 +15,10 @@ use Rattle.refusal.proofs.NumberLaws.{number_of-injective, number_of-positive}
 use Rattle.roster.specs.Profile.{permitted}
 use Rattle.roster.specs.Roster.{is_roster}
 use Rattle.quorum.specs.Certificate.{is_certificate, unread, is_none, first_place, certificate_refusal, certificate_blocks}
-use Rattle.equivocation.specs.Pairs.{contradiction_answer, contradiction_blocks, contradiction_refusal, contradiction_blocks_of}
-use Rattle.equivocation.specs.declared.Contradiction.{Contradiction}
-use Rattle.equivocation.specs.declared.Contradiction.TheVariants.{Pair, Nothing, Refused}
+use Rattle.equivocation.specs.Pairs.{Contradiction, pair_values, contradiction_answer, contradiction_blocks, contradiction_refusal, contradiction_blocks_of}
+use Rattle.equivocation.specs.declared.Pair.{Pair}
+use Rattle.refusal.specs.declared.Refusal.{Refusal}
+use Rattle.std.specs.Prelude.{Option, Some, None, Ok, Err}
 
 module _ (n k : ℕ) (roster pile : List ℕ) where
   module _ (nonce : List ℕ) (sized : length nonce ≡ 32) where
@@ -40,14 +41,21 @@ module _ (n k : ℕ) (roster pile : List ℕ) where
         go true true true false = (λ e. e, λ e. e)
         go true true true true = (λ e. absurd (none-ne-some m e), λ e. absurd (h (sym (some-injective 13 m e))))
 
+pair-injective : (o p : Option Pair) → pair_values o ≡ pair_values p → o ≡ p
+pair-injective (Some a) (Some b) h = let f : a.first ≡ b.first = cc in let s : a.second ≡ b.second = cc in λ i. Some (record { first = f i; second = s i })
+pair-injective (Some a) None h = let z : ◌≡◌ {A = ℕ} 0 1 = cc in absurd (omega arith)
+pair-injective None (Some b) h = let z : ◌≡◌ {A = ℕ} 0 1 = cc in absurd (omega arith)
+pair-injective None None h = refl
+
+abbrev hashed : Option Pair → ℕ → Contradiction
+hashed o m = Ok (record { value = o; blocks = m })
+
+abbrev refused : Refusal → ℕ → Contradiction
+refused w m = Err (record { why = w; blocks = m })
+
 -- no two answers have one number, places and number of blocks
 pub contradiction-injective : (s t : Contradiction) → contradiction_answer s ≡ contradiction_answer t → contradiction_blocks s ≡ contradiction_blocks t → s ≡ t
-contradiction-injective (Pair a b m) (Pair p q l) h e = let v : ◌≡◌ {A = List ℕ} (a ∷ b ∷ []) (p ∷ q ∷ []) = ap (λ (x : Answer). x.values) h in cc
-contradiction-injective (Pair a b m) (Nothing l) h e = let v : ◌≡◌ {A = List ℕ} (a ∷ b ∷ []) [] = ap (λ (x : Answer). x.values) h in let z : ◌≡◌ {A = ℕ} 0 1 = cc in absurd (omega arith)
-contradiction-injective (Pair a b m) (Refused w l) h e = let v : ◌≡◌ {A = List ℕ} (a ∷ b ∷ []) [] = ap (λ (x : Answer). x.values) h in let z : ◌≡◌ {A = ℕ} 0 1 = cc in absurd (omega arith)
-contradiction-injective (Nothing m) (Pair p q l) h e = let v : ◌≡◌ {A = List ℕ} [] (p ∷ q ∷ []) = ap (λ (x : Answer). x.values) h in let z : ◌≡◌ {A = ℕ} 0 1 = cc in absurd (omega arith)
-contradiction-injective (Nothing m) (Nothing l) h e = ap Nothing e
-contradiction-injective (Nothing m) (Refused w l) h e = let u : 0 ≡ number_of w = ap (λ (x : Answer). x.number) h in let p = number_of-positive w in absurd (omega arith)
-contradiction-injective (Refused v m) (Pair p q l) h e = let u : ◌≡◌ {A = List ℕ} [] (p ∷ q ∷ []) = ap (λ (x : Answer). x.values) h in let z : ◌≡◌ {A = ℕ} 0 1 = cc in absurd (omega arith)
-contradiction-injective (Refused v m) (Nothing l) h e = let u : number_of v ≡ 0 = ap (λ (x : Answer). x.number) h in let p = number_of-positive v in absurd (omega arith)
-contradiction-injective (Refused v m) (Refused w l) h e = ap₂ Refused (number_of-injective v w (ap (λ (x : Answer). x.number) h)) e
+contradiction-injective (Ok x) (Ok y) h e = ap₂ hashed (pair-injective x.value y.value (ap (λ (a : Answer). a.values) h)) e
+contradiction-injective (Ok x) (Err y) h e = let u : 0 ≡ number_of y.why = ap (λ (a : Answer). a.number) h in let p = number_of-positive y.why in absurd (omega arith)
+contradiction-injective (Err x) (Ok y) h e = let u : number_of x.why ≡ 0 = ap (λ (a : Answer). a.number) h in let p = number_of-positive x.why in absurd (omega arith)
+contradiction-injective (Err x) (Err y) h e = ap₂ refused (number_of-injective x.why y.why (ap (λ (a : Answer). a.number) h)) e

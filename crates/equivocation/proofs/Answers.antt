@@ -1,14 +1,11 @@
 -- The ways out of the search for a contradiction: refused by 17, 12 or 9, or what is found among the marked places.
 use mathlib.Core.Path.{◌≡◌, refl, ◌∙◌}
-use Prim.Native.Nat.{ℕ, ◌/◌, ◌%◌, ◌<◌}
+use Prim.Native.Nat.{ℕ}
 use native.Mathlib.Omega.{arith}
-use mathlib.Core.Bool.{true, false}
+use mathlib.Core.Bool.{Bool, true, false}
 use mathlib.Core.List.{List, []}
-use lib.ListN.{length}
-use borrow.Author.Tests.{eq-eqb, ne_eqb, lt-leb}
 use Rattle.refusal.specs.Order.{first_fault, afterwards}
 use Rattle.refusal.specs.Answer.{Answer, answer, answer_with}
-use Rattle.receipt.specs.Attestation.{receipt_size}
 use Rattle.roster.specs.Profile.{permitted}
 use Rattle.roster.specs.Roster.{is_roster}
 use Rattle.roster.proofs.RosterLaws.{roster-distinct}
@@ -32,19 +29,15 @@ module _ (n k : ℕ) (roster pile : List ℕ) where
     no-roster h = simp (p, h) (refl, refl)
 
     module _ (r : is_roster n roster ≡ true) where
-      pub not-whole : (length pile % receipt_size ≡ 0 → ⊥) → Judged (answer 9 []) 0
-      unfolding contradiction contradiction_refusal contradiction_blocks_of first_fault answer_with afterwards is_certificate
-      not-whole h = simp (p, r, ne_eqb (length pile % receipt_size) 0 h) (refl, refl)
-
-      pub too_many : length pile % receipt_size ≡ 0 → 32 < length pile / receipt_size → Judged (answer 9 []) 0
-      unfolding contradiction contradiction_refusal contradiction_blocks_of first_fault answer_with afterwards is_certificate receipt_count
-      too_many w h = simp (p, r, eq-eqb (length pile % receipt_size) 0 w, lt-leb (length pile / receipt_size) 32 h) (refl, refl)
+      pub not-receipts : is_certificate pile ≡ false → Judged (answer 9 []) 0
+      unfolding contradiction contradiction_refusal contradiction_blocks_of first_fault answer_with afterwards
+      not-receipts h = simp (p, r, h) (refl, refl)
 
       -- the receipts are looked at
       pub looked-at : is_certificate pile ≡ true → Judged (answer 0 (places_of (first_pair roster pile))) (pile_blocks roster pile)
       unfolding contradiction contradiction_refusal contradiction_blocks_of first_fault answer_with afterwards
       looked-at h = simp (p, r, h) (refl, refl)
 
-      pub by-marks : is_certificate pile ≡ true → (marks : List ℕ) → Marked roster pile (receipt_count pile) marks → Judged (first_in marks pile (receipt_count pile) 0) (pile_blocks roster pile)
+      pub by-marks : is_certificate pile ≡ true → (marks : List Bool) → Marked roster pile (receipt_count pile) marks → Judged (first_in marks pile (receipt_count pile) 0) (pile_blocks roster pile)
       unfolding first_pair
       by-marks h marks m = let w = looked-at h in (first-is roster pile marks (roster-distinct roster n r) m (receipt_count pile) 0 (omega arith) ∙ w.0, w.1)

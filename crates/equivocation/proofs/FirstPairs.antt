@@ -16,7 +16,7 @@ use Rattle.roster.proofs.Profiles.{permitted-exactly}
 use Rattle.roster.proofs.RosterLaws.{roster-exactly}
 use Rattle.quorum.specs.Certificate.{receipt_count, is_certificate}
 use Rattle.quorum.proofs.Tallies.{receipts-exactly}
-use Rattle.equivocation.specs.Pairs.{is_pair, second_of, or_later, first_of, first_pair, places_of, contradiction_refusal, contradiction, contradiction_blocks_of, Admitted, IsPair, FirstPair, FindsExactly}
+use Rattle.equivocation.specs.Pairs.{Contradiction, contradiction_answer, contradiction_blocks, is_pair, second_of, or_later, first_of, first_pair, places_of, contradiction_refusal, contradiction, contradiction_blocks_of, Admitted, IsPair, FirstPair, FindsExactly}
 use Rattle.equivocation.proofs.Answers.{looked-at}
 use Rattle.equivocation.proofs.PairLaws.{is-pair}
 
@@ -235,3 +235,9 @@ pub answer_exactly : {n k : ℕ} {roster pile : List ℕ} {given : Answer} {bloc
     → (given ≡ contradiction n k roster pile) × (FindsExactly n k roster pile given × (blocks ≡ contradiction_blocks_of n k roster pile))
 answer_exactly {n = n} {k = k} {roster = roster} {pile = pile} e =
     (e.0, (subst (FindsExactly n k roster pile) (sym e.0) (pair-exactly n k roster pile, nothing-exactly n k roster pile), e.1))
+
+-- and of the call's, which is y
+pub judged_exactly : {n k : ℕ} {roster pile : List ℕ} {x : Contradiction} (y : Contradiction) → x ≡ y
+    → (contradiction_answer y ≡ contradiction n k roster pile) × (contradiction_blocks y ≡ contradiction_blocks_of n k roster pile)
+    → (contradiction_answer x ≡ contradiction n k roster pile) × (FindsExactly n k roster pile (contradiction_answer x) × (contradiction_blocks x ≡ contradiction_blocks_of n k roster pile))
+judged_exactly y e j = answer_exactly (ap contradiction_answer e ∙ j.0, ap contradiction_blocks e ∙ j.1)

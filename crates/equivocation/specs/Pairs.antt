@@ -1,6 +1,6 @@
 -- Document 02 [13], a keeper that contradicts itself: which receipts of a pile count, which two of them contradict each other, and the
 -- answer, "the first pair, by first then second place".
-use Rattle.std.specs.Prelude.{ℕ, zero, suc, ◌<◌, ◌≡◌, ◌↔◌, ◌⊎◌, Bool, not, ◌&&◌, ◌||◌, cond, List, [], ◌∷◌, length, eqb}
+use Rattle.std.specs.Prelude.{ℕ, zero, suc, ◌<◌, ◌≡◌, ◌↔◌, ◌⊎◌, Bool, not, ◌&&◌, ◌||◌, cond, List, [], ◌∷◌, length, eqb, Result, Ok, Err}
 use Rattle.std.proofs.Math.Option.{Option, none, some}
 use Rattle.octets.specs.Octets.{same}
 use Rattle.refusal.specs.Number.{number_of}
@@ -15,20 +15,29 @@ use Rattle.roster.specs.Profile.{Permitted}
 use Rattle.roster.specs.Roster.{size, keeper_at, key_at, IsRoster}
 use Rattle.quorum.specs.Bits.{any_below}
 use Rattle.quorum.specs.Certificate.{receipt_count, receipt_at, pile_faults, pile_blocks, IsCertificate}
-use Rattle.equivocation.specs.declared.Contradiction.{Contradiction}
-use Rattle.equivocation.specs.declared.Contradiction.TheVariants as variants
+use Rattle.refusal.specs.declared.Hashed.{Hashed}
+use Rattle.refusal.specs.declared.Refused.{Refused}
+use Rattle.std.specs.Prelude as rust
+use Rattle.equivocation.specs.declared.Pair.{Pair}
 
--- number and values of each answer: a pair is its two places; "If there is none, say so": 0 without places
+-- the answer: the pair's places, or that there is none, or a refusal, with the blocks hashed for it
+abbrev pub Contradiction : Type 0
+Contradiction = Result (Hashed (rust.Option Pair)) Refused
+
+-- the values of what was found: a pair is its two places; "If there is none, say so": none
+abbrev pub pair_values : rust.Option Pair → List ℕ
+pair_values (rust.Some pair) = pair.first ∷ pair.second ∷ []
+pair_values rust.None = []
+
+-- number and values of each answer: 0 and what was found
 abbrev pub contradiction_answer : Contradiction → Answer
-contradiction_answer (variants.Pair first second blocks) = answer 0 (first ∷ second ∷ [])
-contradiction_answer (variants.Nothing blocks) = answer 0 []
-contradiction_answer (variants.Refused why blocks) = answer (number_of why) []
+contradiction_answer (Ok done) = answer 0 (pair_values done.value)
+contradiction_answer (Err refused) = answer (number_of refused.why) []
 
 -- the blocks hashed for it
 abbrev pub contradiction_blocks : Contradiction → ℕ
-contradiction_blocks (variants.Pair first second blocks) = blocks
-contradiction_blocks (variants.Nothing blocks) = blocks
-contradiction_blocks (variants.Refused why blocks) = blocks
+contradiction_blocks (Ok done) = done.blocks
+contradiction_blocks (Err refused) = refused.blocks
 
 -- "Each receipt is checked for the question it carries itself", LOOKUP of its position or END
 unfoldable pub own_question : Attestation → Question

@@ -1,98 +1,72 @@
 // The first pair of marked places whose receipts contradict each other.
-ghost use Rattle.std.specs.Prelude.{◌≡◌, ◌+◌, ◌-◌, ◌*◌, ◌≤◌, ◌<◌, length};
-ghost use Rattle.receipt.specs.Attestation.{receipt_size, read_attestation};
-ghost use Rattle.quorum.specs.Certificate.{receipt_at};
-ghost use Rattle.equivocation.specs.Pairs.{stories_differ, conflicting, contradiction_answer, contradiction_blocks};
-ghost use Rattle.equivocation.specs.Marks.{against, second_for, first_in};
+ghost use Rattle.std.specs.Prelude.{◌≡◌, ◌+◌, ◌-◌, ◌≤◌, ◌<◌, eqb};
+ghost use Rattle.std.specs.List.{concat};
+ghost use Rattle.refusal.specs.Answer.{answer};
+ghost use Rattle.receipt.specs.Attestation.{read_attestation};
+ghost use Rattle.receipt.specs.Kind.{kind_number};
+ghost use Rattle.quorum.specs.Certificate.{receipt_count};
+ghost use Rattle.equivocation.specs.Pairs.{stories_differ, conflicting, pair_values};
+ghost use Rattle.equivocation.specs.Marks.{second_for, first_in};
 
-use super::Contradiction;
+use crate::Pair;
 use octets::equal;
-use quorum::receipt_at;
+use receipt::Kind;
 use receipt_fields::{keeper_of, kind_of, log_of, pair_of, position_of};
-use roster::Found;
+
+// Whether a receipt is of a kind.
+fn is(r: &[u8; 160], kind: Kind) -> bool
+    ensures { result ≡ eqb (read_attestation r.now).kind (kind_number kind) }
+{
+    kind_of(r) == u8::from(kind)
+}
 
 // Whether both are assigned with different values or digests, or one is assigned and one skipped.
-fn stories_differ(r: &[u8], s: &[u8]) -> bool
-    requires { (length r.now ≡ receipt_size) × (length s.now ≡ receipt_size) }
+#[tactic(auto, unfolding(crate::specs::Pairs::stories_differ))]
+fn stories_differ(r: &[u8; 160], s: &[u8; 160]) -> bool
     ensures { result ≡ stories_differ (read_attestation r.now) (read_attestation s.now) }
 {
-    let first = kind_of(r);
-    let second = kind_of(s);
-    if first == 1 {
-        if second == 1 {
-            return !equal(pair_of(r), pair_of(s));
-        }
-        return second == 2;
+    if is(r, Kind::Assigned) && is(s, Kind::Assigned) {
+        return !equal(pair_of(r), pair_of(s));
     }
-    if first == 2 {
-        return second == 1;
-    }
-    false
+    is(r, Kind::Assigned) && is(s, Kind::Skipped) || is(r, Kind::Skipped) && is(s, Kind::Assigned)
 }
 
 // Whether two receipts of one keeper, log and position tell different stories.
-fn conflict(r: &[u8], s: &[u8]) -> bool
-    requires { (length r.now ≡ receipt_size) × (length s.now ≡ receipt_size) }
+#[tactic(auto, unfolding(crate::specs::Pairs::conflicting))]
+fn conflict(r: &[u8; 160], s: &[u8; 160]) -> bool
     ensures { result ≡ conflicting (read_attestation r.now) (read_attestation s.now) }
 {
-    if keeper_of(r) != keeper_of(s) {
-        return false;
-    }
-    if log_of(r) != log_of(s) {
-        return false;
-    }
-    if position_of(r) != position_of(s) {
-        return false;
-    }
-    stories_differ(r, s)
-}
-
-// Whether place q is marked and its receipt contradicts that of place p.
-fn is_against(marks: &[u8], pile: &[u8], p: usize, q: usize) -> bool
-    requires { (q < length marks.now) × ((p * receipt_size + receipt_size ≤ length pile.now) × (q * receipt_size + receipt_size ≤ length pile.now)) }
-    ensures { result ≡ against marks.now pile.now p q }
-{
-    if marks[q] == 0 {
-        return false;
-    }
-    let r = receipt_at(pile, p);
-    let s = receipt_at(pile, q);
-    conflict(r, s)
+    keeper_of(r) == keeper_of(s)
+        && log_of(r) == log_of(s)
+        && position_of(r) == position_of(s)
+        && stories_differ(r, s)
 }
 
 // The first place after p that makes a pair with it: both are marked, and they contradict each other.
-fn second_of(marks: &[u8], pile: &[u8], count: usize, p: usize) -> Found
-    requires { (count ≤ length marks.now) × ((count * receipt_size ≤ length pile.now) × (p < count)) }
-    ensures { result ≡ second_for marks.now pile.now p (count - (p + 1)) }
+fn second_of(marks: &[bool; 32], receipts: &[[u8; 160]], p: usize) -> Option<usize>
+    requires { (receipt_count (concat receipts.now) ≤ 32) × (p < receipt_count (concat receipts.now)) }
+    ensures { result ≡ second_for marks.now (concat receipts.now) p (receipt_count (concat receipts.now) - (p + 1)) }
 {
-    if marks[p] == 0 {
-        return Found::Nothing;
+    if !marks[p] {
+        return None;
     }
-    let mut q = p + 1;
-    while q < count {
-        if is_against(marks, pile, p, q) {
-            return Found::At(q);
+    for q in p + 1..receipts.len() {
+        if marks[q] && conflict(&receipts[p], &receipts[q]) {
+            return Some(q);
         }
-        q += 1;
     }
-    Found::Nothing
+    None
 }
 
-// The first pair, by first then second place; the blocks hashed go with the answer.
-pub fn first_pair(marks: &[u8], pile: &[u8], count: usize, blocks: u64) -> Contradiction
-    requires { (count ≤ length marks.now) × (count * receipt_size ≤ length pile.now) }
-    ensures { (contradiction_answer result ≡ first_in marks.now pile.now count 0) × (contradiction_blocks result ≡ blocks) }
+// The first pair, by first then second place.
+pub fn first_pair(marks: &[bool; 32], receipts: &[[u8; 160]]) -> Option<Pair>
+    requires { receipt_count (concat receipts.now) ≤ 32 }
+    ensures { answer 0 (pair_values result) ≡ first_in marks.now (concat receipts.now) (receipt_count (concat receipts.now)) 0 }
 {
-    let mut p = 0;
-    while p < count {
-        if let Found::At(q) = second_of(marks, pile, count, p) {
-            return Contradiction::Pair {
-                first: p,
-                second: q,
-                blocks,
-            };
+    for first in 0..receipts.len() {
+        if let Some(second) = second_of(marks, receipts, first) {
+            return Some(Pair { first, second });
         }
-        p += 1;
     }
-    Contradiction::Nothing { blocks }
+    None
 }

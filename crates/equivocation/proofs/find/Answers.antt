@@ -1,12 +1,23 @@
 -- `equivocation::find` meets its contract.
-use mathlib.Core.Path.{◌≡◌, refl, sym, ◌∙◌}
-use native.Mathlib.Omega.{arith}
-use Rattle.quorum.specs.Certificate.{receipt_count, pile_blocks}
-use Rattle.quorum.proofs.Tallies.{is-certificate}
-use Rattle.equivocation.proofs.FirstPairs.{answer_exactly}
-use Rattle.equivocation.proofs.Answers.{no-profile, no-roster, not-whole, too_many, by-marks}
+use mathlib.Core.Path.{◌≡◌, refl, sym, ap, ap₂, ◌∙◌}
 use mathlib.Core.Bool.{true}
+use mathlib.Core.List.{List}
+use Prim.Native.Nat.{ℕ, ◌≤◌}
+use native.Mathlib.Omega.{arith}
+use Rattle.std.specs.List.{concat}
+use Rattle.std.specs.Prelude.{Ok, Err}
 use Rattle.refusal.specs.Unwritten.{unwritten, counts}
+use Rattle.refusal.specs.Work.{unhashed}
+use Rattle.refusal.specs.declared.Refusal.TheVariants.{Profile, Roster, NoReceipt}
+use Rattle.roster.specs.Profile.{permitted}
+use Rattle.roster.specs.Roster.{size, is_roster}
+use Rattle.roster.proofs.Profiles.{permitted-exactly}
+use Rattle.roster.proofs.RosterLaws.{roster-size}
+use Rattle.quorum.specs.Certificate.{receipt_count, is_certificate, pile_blocks}
+use Rattle.quorum.proofs.Tallies.{receipts-exactly}
+use Rattle.equivocation.specs.Pairs.{contradiction, contradiction_blocks_of}
+use Rattle.equivocation.proofs.FirstPairs.{judged_exactly}
+use Rattle.equivocation.proofs.Answers.{no-profile, no-roster, not-receipts, by-marks}
 use Rattle.equivocation.proofs.find.Code.Mir.{function}
 use Rattle.equivocation.proofs.find.Goals as goal
 
@@ -15,24 +26,40 @@ pub counted : unwritten counts function.body ≡ true
 counted = refl
 
 pub returns-then-not-is_permitted : goal.returns-then-not-is_permitted
-returns-then-not-is_permitted c = let d = answer_exactly (no-profile c.args.members c.args.needed c.args.roster.now c.args.pile.now (sym c.is_permitted.ensures ∙ c.if-not-is_permitted.true)) in record { answer = d.0; exactly = d.1.0; blocks = d.1.1 }
+returns-then-not-is_permitted c =
+    let d = judged_exactly (Err (unhashed Profile)) (ap Err c.into.ensures) (no-profile c.args.members c.args.needed c.args.roster.now c.args.pile.now (sym c.is_permitted.ensures ∙ c.if-not-is_permitted.true)) in
+    record { answer = d.0; exactly = d.1.0; blocks = d.1.1 }
 
-pub returns-then-not-is_roster : goal.returns-then-not-is_roster
-returns-then-not-is_roster c = let d = answer_exactly (no-roster c.args.members c.args.needed c.args.roster.now c.args.pile.now (sym c.is_permitted.ensures ∙ c.if-not-is_permitted.false) (sym c.is_roster.ensures ∙ c.if-not-is_roster.true)) in record { answer = d.0; exactly = d.1.0; blocks = d.1.1 }
+pub returns-in_default : goal.returns-in_default
+returns-in_default c =
+    let d = judged_exactly (Err (unhashed Roster)) (ap Err c.into-in_default.ensures) (no-roster c.args.members c.args.needed c.args.roster.now c.args.pile.now (sym c.is_permitted.ensures ∙ c.if-not-is_permitted.false) c.in_default.ensures) in
+    record { answer = d.0; exactly = d.1.0; blocks = d.1.1 }
 
-pub returns-then-pile-ne0 : goal.returns-then-pile-ne0
-returns-then-pile-ne0 c = let d = answer_exactly (not-whole c.args.members c.args.needed c.args.roster.now c.args.pile.now (sym c.is_permitted.ensures ∙ c.if-not-is_permitted.false) (sym c.is_roster.ensures ∙ c.if-not-is_roster.false) c.if-pile-ne0.true) in record { answer = d.0; exactly = d.1.0; blocks = d.1.1 }
+pub returns-in_default-receipts_in : goal.returns-in_default-receipts_in
+returns-in_default-receipts_in c =
+    let d = judged_exactly (Err (unhashed NoReceipt)) (ap Err c.into-in_default-receipts_in.ensures) (not-receipts c.args.members c.args.needed c.args.roster.now c.args.pile.now (sym c.is_permitted.ensures ∙ c.if-not-is_permitted.false) c.in-Some.ensures.0 c.in_default-receipts_in.ensures) in
+    record { answer = d.0; exactly = d.1.0; blocks = d.1.1 }
 
-pub returns-then-count-gt32 : goal.returns-then-count-gt32
-returns-then-count-gt32 c = let d = answer_exactly (too_many c.args.members c.args.needed c.args.roster.now c.args.pile.now (sym c.is_permitted.ensures ∙ c.if-not-is_permitted.false) (sym c.is_roster.ensures ∙ c.if-not-is_roster.false) c.if-pile-ne0.false c.if-count-gt32.true) in record { answer = d.0; exactly = d.1.0; blocks = d.1.1 }
+-- a roster of a permitted profile has at most 32 items, and a pile of receipts at most 32 of these
+few : (n k : ℕ) {roster items : List ℕ} → permitted n k ≡ true → (is_roster n roster ≡ true) × (items ≡ roster) → size items ≤ 32
+few n k {roster = roster} p r = let z = roster-size roster n r.0 in let q = (permitted-exactly n k).0 p in let e = ap size r.1 in omega (arith, q.most)
+
+short : {pile receipts : List ℕ} → (is_certificate pile ≡ true) × (receipts ≡ pile) → receipt_count receipts ≤ 32
+short {pile = pile} q = let e = ap receipt_count q.1 in let w = (receipts-exactly pile).0 q.0 in omega (arith, w.most)
 
 pub marks_of-marks-requires : goal.marks_of-marks-requires
-marks_of-marks-requires c = (omega (arith, c.if-pile-ne0.false), c.if-count-gt32.false)
+marks_of-marks-requires c = (few c.args.members c.args.needed (sym c.is_permitted.ensures ∙ c.if-not-is_permitted.false) (c.in-Some.ensures.0, c.in-Some.ensures.1.0), short (c.in-Some-receipts_in.ensures.0, c.in-Some-receipts_in.ensures.1.0))
 
 pub first_pair-requires : goal.first_pair-requires
-first_pair-requires c = (omega (arith, c.marks_of-marks.ensures.0, c.if-count-gt32.false), omega (arith, c.if-pile-ne0.false))
+first_pair-requires c = short (c.in-Some-receipts_in.ensures.0, c.in-Some-receipts_in.ensures.1.0)
 
 pub returns : goal.returns
-unfolding receipt_count pile_blocks
-returns c = let w = by-marks c.args.members c.args.needed c.args.roster.now c.args.pile.now (sym c.is_permitted.ensures ∙ c.if-not-is_permitted.false) (sym c.is_roster.ensures ∙ c.if-not-is_roster.false) (is-certificate c.args.pile.now c.if-pile-ne0.false c.if-count-gt32.false) c.marks_of-marks.result.places c.marks_of-marks.ensures.1.0 in
-    let d = answer_exactly (c.first_pair.ensures.0 ∙ w.0, c.first_pair.ensures.1 ∙ c.marks_of-marks.ensures.1.1 ∙ w.1) in record { answer = d.0; exactly = d.1.0; blocks = d.1.1 }
+unfolding pile_blocks
+returns c =
+    let r = c.in-Some.ensures in
+    let q = c.in-Some-receipts_in.ensures in
+    let w = by-marks c.args.members c.args.needed (concat c.in-Some.roster.now) (concat c.in-Some-receipts_in.receipts.now) (sym c.is_permitted.ensures ∙ c.if-not-is_permitted.false)
+    (ap (is_roster c.args.members) r.1.0 ∙ r.0) (ap is_certificate q.1.0 ∙ q.0) c.marks_of-marks.result.value c.marks_of-marks.ensures.marks in
+    let d = judged_exactly (Ok (record { value = c.first_pair.result; blocks = c.marks_of-marks.result.blocks })) refl
+    (c.first_pair.ensures ∙ w.0 ∙ ap₂ (contradiction c.args.members c.args.needed) r.1.0 q.1.0, c.marks_of-marks.ensures.blocks ∙ w.1 ∙ ap₂ (contradiction_blocks_of c.args.members c.args.needed) r.1.0 q.1.0) in
+    record { answer = d.0; exactly = d.1.0; blocks = d.1.1 }

@@ -1,12 +1,12 @@
-use mathlib.Core.Path.{◌≡◌}
-use Prim.Native.Nat.{◌-◌, ◌≤◌}
-use lib.ListN.{length}
+use Rattle.std.proofs.Common.{◌≡◌, length}
+use Rattle.std.specs.List.{concat}
 use Rattle.quorum.specs.Tally.{blocks_below}
 use Rattle.equivocation.specs.Marks.{Marked}
-use Rattle.equivocation.proofs.checking.marks_of.Given as given
+use Rattle.equivocation.proofs.checking.marks_of.Given as goal
 
-abbrev pub invariant-loop-p : given.invariant-loop-p
-invariant-loop-p l = (l.p ≤ l.count) × ((l.blocks ≡ blocks_below l.roster l.pile l.p) × ((length l.places ≡ 32) × Marked l.roster l.pile l.p l.places))
-
-abbrev pub decreases-loop-p : given.decreases-loop-p
-decreases-loop-p l = l.count - l.p
+abbrev pub invariant-loop-p : goal.invariant-loop-p
+invariant-loop-p l = record {
+  blocks : l.blocks ≡ blocks_below (concat l.roster) (concat l.receipts) l.p;
+  size : length l.marks ≡ 32;
+  marks : Marked (concat l.roster) (concat l.receipts) l.p l.marks;
+}

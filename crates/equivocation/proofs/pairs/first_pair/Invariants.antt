@@ -1,10 +1,8 @@
-use mathlib.Core.Path.{◌≡◌}
-use Prim.Native.Nat.{◌-◌, ◌≤◌}
+use Rattle.std.proofs.Common.{◌≡◌, ◌-◌}
+use Rattle.std.specs.List.{concat}
+use Rattle.quorum.specs.Certificate.{receipt_count}
 use Rattle.equivocation.specs.Marks.{first_in}
-use Rattle.equivocation.proofs.pairs.first_pair.Given as given
+use Rattle.equivocation.proofs.pairs.first_pair.Given as goal
 
-abbrev pub invariant-loop-p : given.invariant-loop-p
-invariant-loop-p l = (l.p ≤ l.count) × (first_in l.marks l.pile l.count 0 ≡ first_in l.marks l.pile (l.count - l.p) l.p)
-
-abbrev pub decreases-loop-p : given.decreases-loop-p
-decreases-loop-p l = l.count - l.p
+abbrev pub invariant-loop-first : goal.invariant-loop-first
+invariant-loop-first l = first_in l.marks (concat l.receipts) (receipt_count (concat l.receipts)) 0 ≡ first_in l.marks (concat l.receipts) (receipt_count (concat l.receipts) - l.first) l.first
