@@ -13,23 +13,23 @@ loop-left-init c = let h = holds-new _ c.new-s.ensures in (omega (arith, holds-c
 pub slice_bounds-absorb-end : goal.slice_bounds-absorb-end
 slice_bounds-absorb-end c = simp (length-take, length-replicate) (omega arith)
 
-pub absorb-next-requires : goal.absorb-next-requires
-absorb-next-requires c = (simp (length-take, length-replicate) (omega arith), omega arith)
+pub absorb-s-requires : goal.absorb-s-requires
+absorb-s-requires c = (simp (length-take, length-replicate) (omega arith), omega arith)
 
 pub loop-left-preserved : goal.loop-left-preserved
 loop-left-preserved c = (
-  omega (arith, absorb-counts _ _ _ c.absorb-next.ensures, first-size c.args.n (omega arith)),
-  absorb-within _ _ _ c.absorb-next.ensures (omega arith),
+  omega (arith, absorb-counts _ _ _ c.absorb-s.ensures, first-size c.args.n (omega arith)),
+  absorb-within _ _ _ c.absorb-s.ensures (omega arith),
 )
 
 pub slice_bounds-absorb-end-2 : goal.slice_bounds-absorb-end-2
 slice_bounds-absorb-end-2 c = simp (length-take, length-replicate) (omega arith)
 
-pub absorb-last-requires : goal.absorb-last-requires
-absorb-last-requires c = (simp (length-take, length-replicate) (omega arith), omega arith)
+pub absorb-requires : goal.absorb-requires
+absorb-requires c = (simp (length-take, length-replicate) (omega arith), omega arith)
 
 pub finish-requires : goal.finish-requires
 finish-requires c = (
-  omega (arith, absorb-counts _ _ _ c.absorb-last.ensures, first-size c.loop-left.left (omega arith)),
-  absorb-within _ _ _ c.absorb-last.ensures (omega arith),
+  omega (arith, absorb-counts _ _ _ c.absorb.ensures, first-size c.loop-left.left (omega arith)),
+  absorb-within _ _ _ c.absorb.ensures (omega arith),
 )
