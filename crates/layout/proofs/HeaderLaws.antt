@@ -117,7 +117,7 @@ pub fits_false : (b : List ℕ) (t : Bool) → ◌≡◌ {A = Option Counts} Non
 fits_false b true e = cc
 fits_false b false e = refl
 
-fits_are : (b : List ℕ) (t : Bool) (c : Counts) → Some c ≡ counts_if t b → (c.logs ≡ logs_of b) × (c.slots ≡ slots_of b)
+pub fits_are : (b : List ℕ) (t : Bool) (c : Counts) → Some c ≡ counts_if t b → (c.logs ≡ logs_of b) × (c.slots ≡ slots_of b)
 fits_are b true c e = (cc, cc)
 fits_are b false c e = (cc, cc)
 

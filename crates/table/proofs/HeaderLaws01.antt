@@ -1,21 +1,23 @@
 -- The tests on the header of an A2MT table, test by test as the code makes them, and what they tell when passed.
 use Prim.Native.Nat.{ℕ, ◌≤◌, ◌<◌}
 use mathlib.Core.Path.{◌≡◌, refl, sym, ap, ap₂, ◌∙◌}
-use mathlib.Core.Bool.{Bool, true, false, not, ◌&&◌}
+use mathlib.Core.Bool.{Bool, true, false, ◌&&◌}
 use mathlib.Core.List.{List}
 use mathlib.Core.Logic.{◌≢◌}
 use native.Mathlib.Omega.{arith}
-use borrow.Author.Tests.{eq-eqb, ne_eqb, not-true, not-false}
+use borrow.Author.Tests.{eq-eqb, ne_eqb}
 use lib.Dec.{eqb}
 use lib.ListN.{length}
 use Rattle.octets.specs.Octets.{Bytes, part, same, zeros}
 use Rattle.octets.proofs.Parts.{length_part}
 use Rattle.bigendian.specs.BigEndian.{be, unbe}
+use Rattle.std.proofs.Common.{Some}
+use Rattle.layout.specs.declared.Counts.{Counts}
 use Rattle.layout.specs.Layout.{plan01, header_size, zero_offset, count_offset, logs_of, slots_of}
 use Rattle.layout.specs.Layout01.{table_size01}
 use Rattle.layout.specs.Fits.{Counted01}
-use Rattle.layout.specs.Tests.{in_range}
-use Rattle.layout.proofs.HeaderLaws.{in-range, zero_test}
+use Rattle.layout.specs.Tests.{in_range, counts_if}
+use Rattle.layout.proofs.HeaderLaws.{in-range, zero_test, fits_true, fits_are}
 use Rattle.layout.proofs.TestLaws.{and_yes, and_no, and-not, field-same, zero-bytes}
 use Rattle.table.specs.Whole01.{constants_fit01, header_fits01}
 use Rattle.table.proofs.ConditionLaws01.{header-conditions01}
@@ -28,10 +30,10 @@ mark01-four : be 4 mark_number01 ≡ plan01.mark
 unfolding be
 mark01-four = refl
 
--- the constants: x are the mark's bytes, y and z the zero ones
+-- the constants
 
 module _ (b : List ℕ) (bytes : Bytes b) (long : header_size ≤ length b) where
-  module _ (x : ℕ) (mark : x ≡ unbe (part b 0 4)) where
+  module _ {x : ℕ} (mark : x ≡ unbe (part b 0 4)) where
     mark-test01 : eqb x mark_number01 ≡ same (part b 0 4) plan01.mark
     mark-test01 = ap (λ (n : ℕ). eqb n mark_number01) mark ∙ field-same b 0 4 mark_number01 bytes (omega arith) (omega arith) ∙ ap (same (part b 0 4)) mark01-four
 
@@ -39,7 +41,7 @@ module _ (b : List ℕ) (bytes : Bytes b) (long : header_size ≤ length b) wher
     unfolding constants_fit01
     other-mark01 h = sym (and_no _ (and_no _ (sym mark-test01 ∙ ne_eqb x mark_number01 h)))
 
-    module _ (m : x ≡ mark_number01) (y : ℕ) (zero : y ≡ unbe (part b zero_offset 1)) where
+    module _ {y : ℕ} (zero : y ≡ unbe (part b zero_offset 1)) where
       zero-test01 : eqb y 0 ≡ same (part b zero_offset 1) (zeros 1)
       zero-test01 = ap (λ (n : ℕ). eqb n 0) zero ∙ zero_test b zero_offset bytes (omega arith)
 
@@ -47,9 +49,9 @@ module _ (b : List ℕ) (bytes : Bytes b) (long : header_size ≤ length b) wher
       unfolding constants_fit01
       other-zero01 h = sym (and_no _ (and-not (same (part b 0 4) plan01.mark) (sym zero-test01 ∙ ne_eqb y 0 h)))
 
-      pub by-unused01 : y ≡ 0 → (z : ℕ) → z ≡ unbe (part b count_offset 2) → eqb z 0 ≡ constants_fit01 b
+      pub by-unused01 : {z : ℕ} → x ≡ mark_number01 → y ≡ 0 → z ≡ unbe (part b count_offset 2) → eqb z 0 ≡ constants_fit01 b
       unfolding constants_fit01
-      by-unused01 h z e =
+      by-unused01 m h e =
           ap (λ (n : ℕ). eqb n 0) e
           ∙ zero-bytes (part b count_offset 2)
           ∙ ap (λ (n : ℕ). same (part b count_offset 2) (zeros n)) (length_part b count_offset 2 (omega arith))
@@ -59,38 +61,45 @@ module _ (b : List ℕ) (bytes : Bytes b) (long : header_size ≤ length b) wher
 
 module _ (b : List ℕ) where
   -- the shortest A2MT table, of one log and one slot, is longer than a header
-  pub too-short01 : length b < header_size → false ≡ header_fits01 b
+  pub too-short01 : length b < header_size → header_fits01 b ≡ false
   unfolding header_fits01
   too-short01 h = go (in_range (logs_of b) (slots_of b)) refl
     where
-      go : (t : Bool) → in_range (logs_of b) (slots_of b) ≡ t → false ≡ constants_fit01 b && in_range (logs_of b) (slots_of b) && eqb (length b) (table_size01 (logs_of b) (slots_of b))
+      go : (t : Bool) → in_range (logs_of b) (slots_of b) ≡ t → constants_fit01 b && in_range (logs_of b) (slots_of b) && eqb (length b) (table_size01 (logs_of b) (slots_of b)) ≡ false
       go true e =
           let r = in-range (logs_of b) (slots_of b) e in
-          sym (and-not (constants_fit01 b && in_range (logs_of b) (slots_of b)) (ne_eqb (length b) (table_size01 (logs_of b) (slots_of b)) (λ q. omega (arith, r.logs-least, r.slots-least))))
-      go false e = sym (and_no _ (and-not (constants_fit01 b) e))
+          and-not (constants_fit01 b && in_range (logs_of b) (slots_of b)) (ne_eqb (length b) (table_size01 (logs_of b) (slots_of b)) (λ q. omega (arith, r.logs-least, r.slots-least)))
+      go false e = and_no _ (and-not (constants_fit01 b) e)
 
-  pub other-constants01 : (t : Bool) → t ≡ constants_fit01 b → not t ≡ true → false ≡ header_fits01 b
+  pub other-constants01 : constants_fit01 b ≡ false → header_fits01 b ≡ false
   unfolding header_fits01
-  other-constants01 t e h = sym (and_no _ (and_no _ (sym e ∙ not-true t h)))
+  other-constants01 h = and_no _ (and_no _ h)
 
-  module _ (logs slots : ℕ) (l : logs ≡ logs_of b) (s : slots ≡ slots_of b) where
-    pub other-counts01 : (t : Bool) → t ≡ in_range logs slots → not t ≡ true → false ≡ header_fits01 b
+  module _ (c : Counts) (logs : c.logs ≡ logs_of b) (slots : c.slots ≡ slots_of b) where
+    pub other-counts01 : in_range c.logs c.slots ≡ false → header_fits01 b ≡ false
     unfolding header_fits01
-    other-counts01 t e h = sym (and_no _ (and-not (constants_fit01 b) (sym (e ∙ ap₂ in_range l s) ∙ not-true t h)))
+    other-counts01 h = and_no _ (and-not (constants_fit01 b) (sym (ap₂ in_range logs slots) ∙ h))
 
-    pub by-length01 : (t u : Bool) → t ≡ constants_fit01 b → not t ≡ false → u ≡ in_range logs slots → not u ≡ false → eqb (length b) (table_size01 logs slots) ≡ header_fits01 b
+    pub other-length01 : length b ≢ table_size01 c.logs c.slots → header_fits01 b ≡ false
     unfolding header_fits01
-    by-length01 t u e h f k = ap (eqb (length b)) (ap₂ table_size01 l s) ∙ sym (and_yes _ (and_yes _ (sym e ∙ not-false t h) ∙ (sym (f ∙ ap₂ in_range l s) ∙ not-false u k)))
+    other-length01 h = and-not (constants_fit01 b && in_range (logs_of b) (slots_of b)) (ne_eqb (length b) (table_size01 (logs_of b) (slots_of b)) (λ e. h (e ∙ sym (ap₂ table_size01 logs slots))))
 
-    -- what a passed header tells
-    pub counted01 : (t : Bool) → t ≡ header_fits01 b → not t ≡ false → Counted01 b logs slots
-    counted01 t e h =
-        let f = header-conditions01 b (sym e ∙ not-false t h) in
-        let r = f.counts in
-        record { logs-are = l; slots-are = s; logs-most = omega (arith, r.logs-most); slots-most = omega (arith, r.slots-most); sized = f.sized ∙ sym (ap₂ table_size01 l s) }
+    pub all-fit01 : constants_fit01 b ≡ true → in_range c.logs c.slots ≡ true → length b ≡ table_size01 c.logs c.slots → header_fits01 b ≡ true
+    unfolding header_fits01
+    all-fit01 h k l =
+        and_yes _ (and_yes _ h ∙ (sym (ap₂ in_range logs slots) ∙ k))
+        ∙ eq-eqb (length b) (table_size01 (logs_of b) (slots_of b)) (l ∙ ap₂ table_size01 logs slots)
 
-  pub header-long01 : (t : Bool) → t ≡ header_fits01 b → not t ≡ false → header_size ≤ length b
-  header-long01 t e h =
-      let f = header-conditions01 b (sym e ∙ not-false t h) in
+  -- what a passed header tells
+  pub counted01 : (c : Counts) → Some c ≡ counts_if (header_fits01 b) b → Counted01 b c.logs c.slots
+  counted01 c e =
+      let f = header-conditions01 b (fits_true b (header_fits01 b) c e) in
+      let r = f.counts in
+      let a = fits_are b (header_fits01 b) c e in
+      record { logs-are = a.0; slots-are = a.1; logs-most = omega (arith, r.logs-most); slots-most = omega (arith, r.slots-most); sized = f.sized ∙ sym (ap₂ table_size01 a.0 a.1) }
+
+  pub header-long01 : header_fits01 b ≡ true → header_size ≤ length b
+  header-long01 e =
+      let f = header-conditions01 b e in
       let r = f.counts in
       omega (arith, f.sized, r.logs-least, r.slots-least)
