@@ -13,8 +13,10 @@ use Rattle.receipt.specs.Attestation.{Attestation}
 use Rattle.layout.specs.declared.Row.{Row}
 use Rattle.layout.specs.Layout.{logs_of, read_table}
 use Rattle.table.specs.Whole.{whole}
-use Rattle.a2m.specs.declared.Change.{Change}
-use Rattle.a2m.specs.declared.Change.TheVariants as change
+use Rattle.std.specs.Prelude.{Result, Ok, Err}
+use Rattle.refusal.specs.declared.Hashed.{Hashed}
+use Rattle.refusal.specs.declared.Refused.{Refused}
+use Rattle.a2m.specs.declared.Bounds.{Bounds}
 use Rattle.a2m.specs.Call.{Call, append, advance, log_of, Wide, Reply, refused, found, ended}
 use Rattle.a2m.specs.ImageCalls.{row_in, wrong_length}
 use Rattle.a2m.specs.TableCalls.{table_refusal, table_step}
@@ -85,15 +87,15 @@ value_read x y n e h = e ∙ ap number_in h
 
 -- ---- a change
 
-module _ (b b' : List ℕ) (call : Call) (ch : Change) (sized : wrong_length call ≡ false) (says : change_reply ch ≡ (table_step b call).reply) (after : b' ≡ (table_step b call).state) where
+module _ (b b' : List ℕ) (call : Call) (ch : Result (Hashed Bounds) Refused) (sized : wrong_length call ≡ false) (says : change_reply ch ≡ (table_step b call).reply) (after : b' ≡ (table_step b call).state) where
   pub change-named : ChangeNamed b' (log_of call) ch
   change-named = go ch says
     where
-      go : (c : Change) → change_reply c ≡ (table_step b call).reply → ChangeNamed b' (log_of call) c
-      go (change.Done low high blocks) h = tt
-      go (change.Refused why blocks) h =
-          let e : b' ≡ b = after ∙ (refused_unchanged b call (number_of why) (sym h)).0 in
-          subst (λ (x : List ℕ). Named x (log_of call) (number_of why)) (sym e) (refused-named b call (number_of why) sized (sym h))
+      go : (c : Result (Hashed Bounds) Refused) → change_reply c ≡ (table_step b call).reply → ChangeNamed b' (log_of call) c
+      go (Ok made) h = tt
+      go (Err f) h =
+          let e : b' ≡ b = after ∙ (refused_unchanged b call (number_of f.why) (sym h)).0 in
+          subst (λ (x : List ℕ). Named x (log_of call) (number_of f.why)) (sym e) (refused-named b call (number_of f.why) sized (sym h))
 
   pub change-answers : Bytes b → Wide call → Changes call → change_answer ch (row_in (read_table b') (log_of call)) ≡ call_answer b call
   unfolding call_answer
@@ -102,11 +104,11 @@ module _ (b b' : List ℕ) (call : Call) (ch : Change) (sized : wrong_length cal
       row : Row
       row = row_in (read_table (table_step b call).state) (log_of call)
 
-      go : (c : Change) → change_reply c ≡ (table_step b call).reply → change_answer c (row_in (read_table b') (log_of call)) ≡ reply_answer (table_step b call).reply (row_in (read_table (table_step b call).state) (log_of call))
-      go (change.Done low high blocks) h =
-          let d = done-row b bytes call w is low high (sym h) in
+      go : (c : Result (Hashed Bounds) Refused) → change_reply c ≡ (table_step b call).reply → change_answer c (row_in (read_table b') (log_of call)) ≡ reply_answer (table_step b call).reply (row_in (read_table (table_step b call).state) (log_of call))
+      go (Ok made) h =
+          let d = done-row b bytes call w is made.value.low made.value.high (sym h) in
           ap₂ (Bounded 0) (sym d.0) (sym d.1) ∙ ap (λ (r : Reply). reply_answer r (row_in (read_table (table_step b call).state) (log_of call))) h
-      go (change.Refused why blocks) h = ap₂ (λ (r : Reply) (x : List ℕ). reply_answer r (row_in (read_table x) (log_of call))) h after
+      go (Err f) h = ap₂ (λ (r : Reply) (x : List ℕ). reply_answer r (row_in (read_table x) (log_of call))) h after
 
 -- ---- a call that only reads
 

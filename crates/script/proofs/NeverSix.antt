@@ -6,6 +6,7 @@ use native.Mathlib.Omega.{arith}
 use mathlib.Core.Bool.{Bool, true, false, cond, ◌||◌}
 use mathlib.Core.List.{List}
 use mathlib.Core.Option.{some}
+use Rattle.std.specs.Prelude.{Option, Some, None}
 use lib.Dec.{eqb}
 use Rattle.refusal.proofs.UnusedLaws.{never, never-answered}
 use Rattle.octets.specs.Octets.{zeros}
@@ -18,7 +19,7 @@ use Rattle.a2m.specs.ImageCalls.{row_in}
 use Rattle.a2m.specs.TableCalls.{table_step}
 use Rattle.a2m.proofs.NeverSix.{table-answer}
 use Rattle.line.specs.declared.Command.{Command}
-use Rattle.line.specs.declared.Command.TheVariants.{Format, Append, Advance, Truncate, Lookup, End, Malformed}
+use Rattle.line.specs.declared.Command.TheVariants.{Format, Append, Advance, Truncate, Lookup, End}
 use Rattle.script.specs.declared.Answer.TheVariants.{Plain, Bounded}
 use Rattle.script.specs.Answer.{reply_answer, bounded_answer, answer_number, call_answer}
 use Rattle.script.specs.Script.{format_fault, command_answer}
@@ -45,12 +46,12 @@ format_six : (logs slots : ℕ) (reserves : List ℕ) → format_fault logs slot
 unfolding format_refusal
 format_six logs slots reserves = never 6 _ refl
 
-pub script-answer : (b : List ℕ) (command : Command) (reserves : List ℕ) → answer_number (command_answer b command reserves) ≢ 6
+pub script-answer : (b : List ℕ) (command : Option Command) (reserves : List ℕ) → answer_number (command_answer b command reserves) ≢ 6
 unfolding command_answer
-script-answer b (Format logs slots keeper) reserves = never-answered 6 (λ z. omega arith) (format_fault logs slots reserves) (format_six logs slots reserves)
-script-answer b (Append log value) reserves = call_six b (append log (placed value))
-script-answer b (Advance log position digest value) reserves = call_six b (advance log position (placed digest) (placed value))
-script-answer b (Truncate log position) reserves = call_six b (truncate log position)
-script-answer b (Lookup log position) reserves = call_six b (lookup log position (zeros 32) 160)
-script-answer b (End log) reserves = call_six b (end log (zeros 32) 160)
-script-answer b Malformed reserves = λ e. omega arith
+script-answer b (Some (Format logs slots keeper first)) reserves = never-answered 6 (λ z. omega arith) (format_fault logs slots reserves) (format_six logs slots reserves)
+script-answer b (Some (Append log value)) reserves = call_six b (append log (placed value))
+script-answer b (Some (Advance log position digest value)) reserves = call_six b (advance log position (placed digest) (placed value))
+script-answer b (Some (Truncate log position)) reserves = call_six b (truncate log position)
+script-answer b (Some (Lookup log position)) reserves = call_six b (lookup log position (zeros 32) 160)
+script-answer b (Some (End log)) reserves = call_six b (end log (zeros 32) 160)
+script-answer b None reserves = λ e. omega arith

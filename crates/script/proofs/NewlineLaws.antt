@@ -4,6 +4,7 @@ use mathlib.Core.Path.{◌≡◌, refl}
 use mathlib.Core.Logic.{◌≢◌}
 use mathlib.Core.Bool.{Bool, true, false, cond, ◌||◌}
 use mathlib.Core.List.{List, [], ◌∷◌, ◌++◌}
+use Rattle.std.specs.Prelude.{Option, Some, None}
 use native.Mathlib.Omega.{arith}
 use lib.Dec.{eqb, ltb}
 use borrow.Author.Tests.{ne_eqb}
@@ -16,7 +17,7 @@ use Rattle.a2m.specs.TableCalls.{table_step}
 use Rattle.line.specs.declared.Cell.{Cell}
 use Rattle.line.specs.declared.Cell.TheVariants.{Dash, Number, Letter}
 use Rattle.line.specs.declared.Command.{Command}
-use Rattle.line.specs.declared.Command.TheVariants.{Format, Append, Advance, Truncate, Lookup, End, Malformed}
+use Rattle.line.specs.declared.Command.TheVariants.{Format, Append, Advance, Truncate, Lookup, End}
 use Rattle.line.specs.Command.{command_of, reserves_of}
 use Rattle.line.specs.Answer.{cell_text, line_text}
 use Rattle.script.specs.declared.Answer.{Answer}
@@ -109,15 +110,15 @@ call : (b : List ℕ) (c : Call) → Lettered (call_answer b c)
 unfolding call_answer
 call b c = reply (table_step b c).reply (row_in (read_table (table_step b c).state) (log_of c))
 
-command : (b : List ℕ) (c : Command) (rs : List ℕ) → Lettered (command_answer b c rs)
+command : (b : List ℕ) (c : Option Command) (rs : List ℕ) → Lettered (command_answer b c rs)
 unfolding command_answer
-command b (Format logs slots keeper) rs = tt
-command b (Append log value) rs = call b _
-command b (Advance log position digest value) rs = call b _
-command b (Truncate log position) rs = call b _
-command b (Lookup log position) rs = call b _
-command b (End log) rs = call b _
-command b Malformed rs = tt
+command b (Some (Format logs slots keeper first)) rs = tt
+command b (Some (Append log value)) rs = call b _
+command b (Some (Advance log position digest value)) rs = call b _
+command b (Some (Truncate log position)) rs = call b _
+command b (Some (Lookup log position)) rs = call b _
+command b (Some (End log)) rs = call b _
+command b None rs = tt
 
 cells : (n : ℕ) (a : Answer) → Lettered a → newlines (line_text (cells_of n a)) ≡ 1
 cells n (Plain k) p = line _ _ (tt, (tt, (tt, (tt, (tt, (tt, (tt, (tt, tt))))))))

@@ -4,6 +4,7 @@ use mathlib.Core.Path.{◌≡◌, refl, sym, ap, ap₂, ◌∙◌}
 use mathlib.Core.Logic.{◌≢◌}
 use mathlib.Core.Bool.{Bool, true, false, cond}
 use mathlib.Core.List.{List, [], ◌∷◌, ◌++◌, append_assoc, append-nil}
+use Rattle.std.specs.Prelude.{Option}
 use native.Mathlib.Omega.{arith}
 use native.Mathlib.Decide.{dec_le}
 use native.Mathlib.Nat.{add-zero, zero-add}
@@ -56,7 +57,7 @@ reserves-cut l = go (dec_le (length l) 201)
 
 pub answer-cut : (T : List ℕ) (n : ℕ) (l : List ℕ) → answer_text T n (cut l) ≡ answer_text T n l
 unfolding answer_text
-answer-cut T n l = ap₂ (λ (c : Command) (rs : List ℕ). line_text (cells_of n (command_answer T c rs))) (command-cut l) (reserves-cut l)
+answer-cut T n l = ap₂ (λ (c : Option Command) (rs : List ℕ). line_text (cells_of n (command_answer T c rs))) (command-cut l) (reserves-cut l)
 
 pub table-cut : (T l : List ℕ) → table_after T (cut l) ≡ table_after T l
 unfolding table_after

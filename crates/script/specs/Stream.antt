@@ -1,9 +1,7 @@
 -- Document 01, "The script program": a script of any length, read in pieces.
 use Rattle.std.specs.Prelude.{ℕ, suc, ◌+◌, ◌*◌, ◌≤◌, ◌≡◌, cond, List, [], ◌∷◌, ◌++◌, eqb, length, take}
-use Rattle.layout.specs.Layout.{largest}
 use Rattle.octets.specs.Octets.{splice}
 use Rattle.script.specs.Script.{answer_text, table_after}
-use Rattle.script.specs.declared.Progress.{Progress}
 
 -- ---- a whole script
 
@@ -55,43 +53,25 @@ in_pieces table h n (x ∷ xs) = answered table h n x ++ in_pieces (table_read t
 
 -- ---- what the functions promise
 
--- kept bytes of held and a part after them become r bytes of held'
-pub record Keeps (held : List ℕ) (kept : ℕ) (part held' : List ℕ) (r : ℕ) : Type 0 where
-  pub size : length held' ≡ 201
-  pub most : r ≤ 201
-  pub bytes : take r held' ≡ cut (take kept held ++ part)
-
--- the table of a script that was read so far stands at the start of a buffer
-abbrev pub table_in : List ℕ → Progress → List ℕ
-table_in buffer p = take p.size buffer
-
--- a piece is answered: its answers stand at the start of out, and the state is that after its bytes
-pub record Feeds (piece buffer held out : List ℕ) (p : Progress) (buffer' held' out' : List ℕ) (r : Progress) : Type 0 where
-  pub line : length held' ≡ 201
-  pub most : r.kept ≤ 201
-  pub whole : length buffer' ≡ largest
-  pub sized : r.size ≤ largest
-  pub few : r.number ≤ p.number + length piece
-  pub room : r.to ≤ 168 * length piece
-  pub bytes : take r.kept held' ≡ held_after (take p.kept held) piece
-  pub count : r.number ≡ p.number + newlines piece
-  pub calls : table_in buffer' r ≡ table_read (table_in buffer p) (take p.kept held) piece
-  pub place : r.to ≡ length (answered (table_in buffer p) (take p.kept held) p.number piece)
-  pub text : out' ≡ splice out 0 (answered (table_in buffer p) (take p.kept held) p.number piece)
+-- a piece is answered: its answers stand at the start of out, up to a place, and the table, the bytes held and the number are those after it
+pub record Feeds (piece table held : List ℕ) (number : ℕ) (out table' held' : List ℕ) (number' : ℕ) (out' : List ℕ) (to : ℕ) : Type 0 where
+  pub few : number' ≤ number + length piece
+  pub room : to ≤ 168 * length piece
+  pub bytes : held' ≡ held_after held piece
+  pub count : number' ≡ number + newlines piece
+  pub calls : table' ≡ table_read table held piece
+  pub place : to ≡ length (answered table held number piece)
+  pub text : out' ≡ splice out 0 (answered table held number piece)
 
 -- the end of the script: the answer to a last line that lacks its newline stands at the start of out
-pub record Finishes (buffer held out : List ℕ) (p : Progress) (buffer' out' : List ℕ) (r : ℕ) : Type 0 where
-  pub room : r ≤ 168
-  pub place : r ≡ length (last_answer (table_in buffer p) (take p.kept held) p.number)
-  pub text : out' ≡ splice out 0 (last_answer (table_in buffer p) (take p.kept held) p.number)
-  pub calls : buffer' ≡ splice buffer 0 (last_table (table_in buffer p) (take p.kept held))
+pub record Finishes (table held : List ℕ) (number : ℕ) (out table' out' : List ℕ) (to : ℕ) : Type 0 where
+  pub room : to ≤ 168
+  pub place : to ≡ length (last_answer table held number)
+  pub text : out' ≡ splice out 0 (last_answer table held number)
+  pub calls : table' ≡ last_table table held
 
 -- the state of a script of which some bytes were read, from the first on
-pub record After (read buffer held : List ℕ) (p : Progress) : Type 0 where
-  pub line : length held ≡ 201
-  pub most : p.kept ≤ 201
-  pub whole : length buffer ≡ largest
-  pub sized : p.size ≤ largest
-  pub bytes : take p.kept held ≡ held_after [] read
-  pub count : p.number ≡ 1 + newlines read
-  pub calls : table_in buffer p ≡ table_read [] [] read
+pub record After (read table held : List ℕ) (number : ℕ) : Type 0 where
+  pub bytes : held ≡ held_after [] read
+  pub count : number ≡ 1 + newlines read
+  pub calls : table ≡ table_read [] [] read

@@ -1,8 +1,15 @@
 // Scripts (document 01, "The script program"): a line is answered, and what it says is done to a table; a script may come in pieces.
 #![tactic(auto)]
 
-// What a line is answered: a number alone; with its log's low and high position; or 0 with these and what a receipt says.
-#[derive(Drop)]
+ghost use Rattle.std.specs.Prelude.{◌≡◌};
+ghost use Rattle.refusal.specs.Number.{number_of};
+ghost use Rattle.script.specs.declared.Answer.TheVariants.{Plain};
+
+use refusal::Refusal;
+
+// What a line is answered, as the columns of its answer say it: a number alone; with its log's low and high position; or 0 with these
+// and what a receipt says.
+#[derive(Clone, Copy)]
 pub enum Answer {
     Plain(u64),
     Bounded {
@@ -20,26 +27,11 @@ pub enum Answer {
     },
 }
 
-// An answer, and the size of the table after it.
-#[derive(Drop)]
-pub struct Turn {
-    pub answer: Answer,
-    pub size: usize,
-}
+// A refusal's number alone.
+impl From<Refusal> for Answer {
+    ghost from_gives = { λ why a. a ≡ Plain (number_of why) };
 
-// The size of the table, and the end of the answers.
-#[derive(Drop)]
-pub struct Next {
-    pub size: usize,
-    pub to: usize,
-}
-
-// A script between two pieces: so many bytes of an unfinished line are kept, the next line has this number, the table has so many
-// bytes, and the answers to the last piece end there.
-#[derive(Clone, Copy)]
-pub struct Progress {
-    pub kept: usize,
-    pub number: u64,
-    pub size: usize,
-    pub to: usize,
+    fn from(why: Refusal) -> Self {
+        Answer::Plain(u64::from(u8::from(why)))
+    }
 }

@@ -2,36 +2,23 @@
 // their answers.
 #![tactic(auto)]
 
-ghost use Rattle.std.specs.Prelude.{◌≡◌, ◌≤◌, length};
+ghost use Rattle.std.specs.Prelude.{◌≤◌, length};
 
-use layout::places::LARGEST;
-use script::Progress;
+use program::buffer;
 use script_lines::ROOM;
-use script_pieces::KEPT;
+use script_pieces::Script;
 use std::io;
 
 // Room for the answers to a script of 1,024 bytes.
-fn room() -> [u8; 1024 * ROOM]
-    ensures { length result ≡ 172032 }
-{
-    [0; 1024 * ROOM]
-}
+const ANSWERS: usize = 1024 * ROOM;
 
 // Writes the answers to a script, whose table is torn before its first format.
 fn answers(rt: &impl Print, text: &[u8]) -> io::Result<()>
     requires { length text.now ≤ 1024 }
 {
-    let mut table = [0u8; LARGEST];
-    let mut held = [0u8; KEPT];
-    let mut out = room();
-    let p = Progress {
-        kept: 0,
-        number: 1,
-        size: 0,
-        to: 0,
-    };
-    let q = script_pieces::feed(text, &mut table, &mut held, &mut out, p);
-    let to = q.to;
+    let mut script = Script::new();
+    let mut out = buffer::<ANSWERS>();
+    let to = script.feed(text, &mut out);
     rt.write_all(&out[..to])
 }
 

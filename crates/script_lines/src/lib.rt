@@ -4,7 +4,7 @@
 mod lines;
 mod tables;
 
-pub use lines::answer_line;
+pub use tables::Table;
 
-// The room that an answer takes at most, which a program lends beside the bytes of the largest table.
+// The room that an answer takes at most, which a program lends.
 pub const ROOM: usize = 168;

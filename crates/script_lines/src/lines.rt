@@ -1,12 +1,11 @@
 // A line answered.
-ghost use Rattle.std.specs.Prelude.{◌≡◌, ◌+◌, ◌≤◌, length, take};
-ghost use Rattle.layout.specs.Layout.{largest};
+ghost use Rattle.std.specs.Prelude.{◌≡◌, ◌+◌, ◌≤◌, length};
 ghost use Rattle.octets.specs.Octets.{splice};
 ghost use Rattle.script.specs.Script.{cells_of, answer_text, table_after};
 
-use crate::tables::carry_out;
+use crate::tables::Table;
 use line::Cell;
-use script::{Answer, Next};
+use script::Answer;
 
 // The columns of an answer.
 fn cells(line: u64, answer: Answer) -> [Cell; 8]
@@ -46,30 +45,15 @@ fn cells(line: u64, answer: Answer) -> [Cell; 8]
     }
 }
 
-// Answers line number `number` from place `to` on, with the table in the first `size` bytes of the buffer.
-pub fn answer_line(
-    buffer: &mut [u8],
-    size: usize,
-    out: &mut [u8],
-    to: usize,
-    number: u64,
-    text: &[u8],
-) -> Next
-    requires { (length buffer.old ≡ largest) × (size ≤ largest) × (to + 168 ≤ length out.old) }
-    ensures size { (result.size ≡ length (table_after (take size buffer.old) text.now)) × (result.size ≤ largest) }
-    ensures end { result.to ≡ to + length (answer_text (take size buffer.old) number text.now) }
-    ensures table { buffer.new ≡ splice buffer.old 0 (table_after (take size buffer.old) text.now) }
-    ensures line { out.new ≡ splice out.old to (answer_text (take size buffer.old) number text.now) }
-{
-    let said = line_read::parse(text);
-    let command = said.command;
-    let reserves = said.reserves;
-    let turn = carry_out(buffer, size, command, &reserves);
-    let answer = turn.answer;
-    let columns = cells(number, answer);
-    let end = line_write::render(out, to, columns);
-    Next {
-        size: turn.size,
-        to: end,
+impl Table {
+    // Answers line number `number` from place `to` on, and does what it says. The place after its answer.
+    pub fn answer(&mut self, out: &mut [u8], to: usize, number: u64, text: &[u8]) -> usize
+        requires { to + 168 ≤ length out.old }
+        ensures table { self.new ≡ table_after self.old text.now }
+        ensures end { result ≡ to + length (answer_text self.old number text.now) }
+        ensures line { out.new ≡ splice out.old to (answer_text self.old number text.now) }
+    {
+        let answer = self.carry_out(line_read::parse(text));
+        line_write::render(out, to, cells(number, answer))
     }
 }

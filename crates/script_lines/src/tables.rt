@@ -1,82 +1,94 @@
-// A command carried out on the table at the start of a buffer.
-ghost use Rattle.std.specs.Prelude.{◌≡◌, ◌≤◌, length, take};
+// The table of a script, and a command carried out on it.
+ghost use Rattle.std.specs.Prelude.{◌≡◌, ◌≤◌, List, ℕ, [], length, take};
 ghost use Rattle.layout.specs.Layout.{largest};
 ghost use Rattle.line.specs.declared.Command.TheVariants.{Format};
 ghost use Rattle.script.specs.Script.{lent, Turns};
 
-use layout::places::table_size;
+use layout::Counts;
+use layout::places::LARGEST;
 use line::Command;
-use refusal::{Refusal, Worked};
-use script::{Answer, Turn};
+use refusal::Refusal;
+use script::Answer;
 use script_calls::{advance, append, end, lookup, truncate};
+use std::marker::Model;
 
-// A new table, of its own size, where the buffer can hold it. Its reserves are the first.
-fn format(
-    buffer: &mut [u8],
+// A table of any size, at the start of room for the largest: there is no heap. Before a format it is empty, and torn.
+#[derive(Drop)]
+pub struct Table {
+    bytes: [u8; LARGEST],
     size: usize,
-    logs: u64,
-    slots: u64,
-    keeper: u64,
-    reserves: &[u64],
-) -> Turn
-    requires { (length buffer.old ≡ largest) × (size ≤ largest) × (length reserves.now ≡ 16) }
-    ensures { Turns buffer.old size (Format logs slots keeper) (take logs reserves.now) buffer.new result }
-{
-    let counts = Turn {
-        answer: Answer::Plain(8),
-        size,
-    };
-    if 16 < logs {
-        return counts;
-    }
-    if 800 < slots {
-        return counts;
-    }
-    let g = logs as usize;
-    let n = table_size(g, slots as usize);
-    let key = [0u8; 32];
-    let worked = table_format::format(
-        &mut buffer[0..n],
-        logs,
-        slots,
-        keeper,
-        &key,
-        &reserves[0..g],
-    );
-    match worked {
-        Worked::Done { blocks: _ } => Turn {
-            answer: Answer::Plain(0),
-            size: n,
-        },
-        Worked::Refused { why, blocks: _ } => Turn {
-            answer: Answer::Plain(octets::wide(why.number())),
-            size,
-        },
-    }
 }
 
-// Carries a command out.
-pub fn carry_out(buffer: &mut [u8], size: usize, command: Command, reserves: &[u64]) -> Turn
-    requires { (length buffer.old ≡ largest) × (size ≤ largest) × (length reserves.now ≡ 16) }
-    ensures { Turns buffer.old size command (lent command reserves.now) buffer.new result }
-{
-    let answer = match command {
-        Command::Format {
+impl Model for Table {
+    ghost Value = { List ℕ };
+
+    ghost view = { λ t. take t.size t.bytes };
+
+    ghost invariant = { λ t. t.size ≤ largest };
+}
+
+impl Table {
+    pub fn new() -> Self
+        ensures { result ≡ [] }
+    {
+        let bytes = [0; LARGEST];
+        Table { bytes, size: 0 }
+    }
+
+    // A new table, of its own size, where there is room for it. Its reserves are the first.
+    fn format(&mut self, logs: u64, slots: u64, keeper: u64, reserves: [u64; 16]) -> Answer
+        ensures { Turns self.old (Some (Format logs slots keeper reserves)) (take logs reserves) self.new result }
+    {
+        if 16 < logs || 800 < slots {
+            return Answer::from(Refusal::Counts);
+        }
+        let counts = Counts {
+            logs: logs as usize,
+            slots: slots as usize,
+        };
+        let n = counts.size();
+        let key = [0; 32];
+        match table_format::format(
+            &mut self.bytes[..n],
             logs,
             slots,
             keeper,
-        } => return format(buffer, size, logs, slots, keeper, reserves),
-        Command::Append { log, value } => append(&mut buffer[0..size], log, value),
-        Command::Advance {
-            log,
-            position,
-            digest,
-            value,
-        } => advance(&mut buffer[0..size], log, position, digest, value),
-        Command::Truncate { log, position } => truncate(&mut buffer[0..size], log, position),
-        Command::Lookup { log, position } => lookup(&buffer[0..size], log, position),
-        Command::End { log } => end(&buffer[0..size], log),
-        Command::Malformed => Answer::Plain(octets::wide(Refusal::Line.number())),
-    };
-    Turn { answer, size }
+            &key,
+            &reserves[..counts.logs],
+        ) {
+            Ok(_) => {
+                self.size = n;
+                Answer::Plain(0)
+            }
+            Err(r) => Answer::from(r.why),
+        }
+    }
+
+    // Carries a command out.
+    pub fn carry_out(&mut self, command: Option<Command>) -> Answer
+        ensures { Turns self.old command (lent command) self.new result }
+    {
+        let Some(command) = command else {
+            return Answer::from(Refusal::Line);
+        };
+        let table = &mut self.bytes[..self.size];
+        match command {
+            Command::Format {
+                logs,
+                slots,
+                keeper,
+                reserves,
+            } => self.format(logs, slots, keeper, reserves),
+            Command::Append { log, value } => append(table, log, value),
+            Command::Advance {
+                log,
+                position,
+                digest,
+                value,
+            } => advance(table, log, position, digest, value),
+            Command::Truncate { log, position } => truncate(table, log, position),
+            Command::Lookup { log, position } => lookup(table, log, position),
+            Command::End { log } => end(table, log),
+        }
+    }
 }

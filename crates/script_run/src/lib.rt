@@ -1,37 +1,27 @@
 // A script read from standard input and answered on standard output: the loop of reads and writes.
 #![tactic(auto)]
 
+mod ending;
+
 ghost use Rattle.std.specs.Prelude.{◌≡◌, [], ◌+◌, ◌≤◌, ◌<◌, ◌^◌, length};
-ghost use Rattle.script.specs.declared.Progress.{Progress};
 ghost use Rattle.script.specs.Stream.{newlines, After};
 ghost use Rattle.script_run.specs.Steps.{Ready, Answers, Steps, Ended, AfterSome};
 
-use layout::places::LARGEST;
-use program::{Cut, fail, write_out};
-use script::Progress;
+use crate::ending::Ending;
+use program::{Cut, buffer, fail, write_out};
 use script_lines::ROOM;
-use script_pieces::KEPT;
+use script_pieces::Script;
 use std::io;
 use std::io::{Read, Write};
 
 // The bytes of a read, at most.
 const PIECE: usize = 8192;
 
-// How a script ends: with its input, by a read that failed, or by a write that failed, with the first line whose answer is missing;
-// and why it failed.
-#[derive(Drop)]
-enum Ending {
-    Input(Progress),
-    Unread(io::Error),
-    Unwritten(u64, io::Error),
-}
+// Room for the answers to a piece, each of whose bytes may end a line.
+const ANSWERS: usize = PIECE * ROOM;
 
-// What a read leaves to do.
-#[derive(Drop)]
-enum Step {
-    More(Progress),
-    Over(Ending),
-}
+// The reads, at most: more than any input has.
+const READS: u64 = 1125899906842624;
 
 // The number of the line after these answers, the first of which has the given one.
 fn line_after(answers: &[u8], first: u64) -> u64
@@ -39,12 +29,10 @@ fn line_after(answers: &[u8], first: u64) -> u64
     ensures { result ≡ first + newlines answers.now }
 {
     let mut n = first;
-    let mut i = 0;
-    while i < answers.len() {
-        if answers[i] == 10 {
+    for &b in answers {
+        if b == b'\n' {
             n += 1;
         }
-        i += 1;
     }
     n
 }
@@ -52,71 +40,62 @@ fn line_after(answers: &[u8], first: u64) -> u64
 // Answers a piece, and writes its answers out.
 fn answer<W: Write>(
     output: &mut W,
+    script: &mut Script,
     piece: &[u8],
-    buffer: &mut [u8],
-    held: &mut [u8],
     out: &mut [u8],
-    p: Progress,
-) -> Step
-    requires { Ready buffer.old held.old out.old p × (length piece.now ≤ 8192) }
-    ensures { Answers result piece.now buffer.old held.old out.old p buffer.new held.new out.new }
+) -> Result<(), Ending>
+    requires { Ready script.old out.old × (length piece.now ≤ 8192) }
+    ensures { Answers result piece.now script.old out.old script.new out.new }
 {
-    let q = script_pieces::feed(piece, buffer, held, out, p);
-    let to = q.to;
+    let first = script.number;
+    let to = script.feed(piece, out);
     if let Err(Cut { done, why }) = write_out(output, &out[..to]) {
-        return Step::Over(Ending::Unwritten(line_after(&out[..done], p.number), why));
+        return Err(Ending::Unwritten(line_after(&out[..done], first), why));
     }
-    Step::More(q)
+    Ok(())
 }
 
-// Reads once, and answers what was read.
+// Reads once, and answers what was read. Whether there was more.
 fn turn<R: Read, W: Write>(
     input: &mut R,
     output: &mut W,
-    buffer: &mut [u8],
-    held: &mut [u8],
+    script: &mut Script,
     out: &mut [u8],
-    p: Progress,
-) -> Step
-    requires { Ready buffer.old held.old out.old p }
-    ensures { Steps result buffer.old held.old p buffer.new held.new out.new }
+) -> Result<bool, Ending>
+    requires { Ready script.old out.old }
+    ensures { Steps result script.old script.new out.new }
 {
-    let mut piece = [0u8; PIECE];
-    match input.read(&mut piece) {
-        Ok(0) => Step::Over(Ending::Input(p)),
-        Ok(n) => answer(output, &piece[..n], buffer, held, out, p),
-        Err(why) => Step::Over(Ending::Unread(why)),
+    let mut piece = [0; PIECE];
+    let n = input.read(&mut piece)?;
+    if n == 0 {
+        return Ok(false);
     }
+    answer(output, script, &piece[..n], out)?;
+    Ok(true)
 }
 
-// Reads and answers up to the end: 2^50 reads are more than any input has.
+// Reads and answers up to the end.
 fn read_all<R: Read, W: Write>(
     input: &mut R,
     output: &mut W,
-    buffer: &mut [u8],
-    held: &mut [u8],
+    script: &mut Script,
     out: &mut [u8],
-    p: Progress,
-) -> Ending
-    requires { After [] buffer.old held.old p × (length out.old ≡ 1376256) }
-    ensures { Ended result buffer.new held.new }
+) -> Result<(), Ending>
+    requires { After [] script.old.table script.old.held script.old.number × (length out.old ≡ 1376256) }
+    ensures { Ended result script.new }
 {
-    let mut s = p;
-    let mut turns: u64 = 1125899906842624;
-    while 0 < turns {
-        match turn(input, output, buffer, held, out, s) {
-            Step::More(next) => s = next,
-            Step::Over(ending) => return ending,
+    for _ in 0..READS {
+        if !turn(input, output, script, out)? {
+            return Ok(());
         }
-        turns -= 1;
     }
-    Ending::Unread(io::Error::from_raw_os_error(0))
+    Err(Ending::Unread(io::Error::from_raw_os_error(0)))
 }
 
 // Says on standard error from which line on answers are missing.
 fn gap<E: Write>(errors: &mut E, number: u64, why: io::Error) {
     let _ = errors.write_all(b"keeper: answers are missing from line ");
-    let mut digits = [48u8; 20];
+    let mut digits = [0; 20];
     let to = decimal::put(&mut digits, 0, number);
     let _ = errors.write_all(&digits[..to]);
     fail(errors, b" on", why);
@@ -126,24 +105,15 @@ fn gap<E: Write>(errors: &mut E, number: u64, why: io::Error) {
 fn answer_last<W: Write, E: Write>(
     output: &mut W,
     errors: &mut E,
-    buffer: &mut [u8],
-    held: &[u8],
+    script: &mut Script,
     out: &mut [u8],
-    p: Progress,
 )
-    requires { AfterSome buffer.old held.now p × (168 ≤ length out.old) }
+    requires { AfterSome script.old × (168 ≤ length out.old) }
 {
-    let to = script_pieces::finish(buffer, held, out, p);
+    let to = script.finish(out);
     if let Err(cut) = write_out(output, &out[..to]) {
-        gap(errors, p.number, cut.why);
+        gap(errors, script.number, cut.why);
     }
-}
-
-// Room for the answers to a piece, each of whose bytes may end a line.
-fn room() -> [u8; PIECE * ROOM]
-    ensures { length result ≡ 1376256 }
-{
-    [0; PIECE * ROOM]
 }
 
 // Answers the script on standard input. Nothing is left of it that is neither answered nor said to be missing.
@@ -153,18 +123,11 @@ pub fn run<R: Read, W: Write, E: Write>(input: &mut R, output: &mut W, errors: &
         gap(errors, 1, cut.why);
         return;
     }
-    let mut buffer = [0u8; LARGEST];
-    let mut held = [0u8; KEPT];
-    let mut out = room();
-    let p = Progress {
-        kept: 0,
-        number: 1,
-        size: 0,
-        to: 0,
-    };
-    match read_all(input, output, &mut buffer, &mut held, &mut out, p) {
-        Ending::Input(q) => answer_last(output, errors, &mut buffer, &held, &mut out, q),
-        Ending::Unread(why) => fail(errors, b"keeper: the input cannot be read", why),
-        Ending::Unwritten(number, why) => gap(errors, number, why),
+    let mut script = Script::new();
+    let mut out = buffer::<ANSWERS>();
+    match read_all(input, output, &mut script, &mut out) {
+        Ok(()) => answer_last(output, errors, &mut script, &mut out),
+        Err(Ending::Unread(why)) => fail(errors, b"keeper: the input cannot be read", why),
+        Err(Ending::Unwritten(number, why)) => gap(errors, number, why),
     }
 }

@@ -1,12 +1,9 @@
 -- `script_calls::truncate` meets its contract.
-use mathlib.Core.List.{[], ◌∷◌}
-use native.Mathlib.Omega.{arith}
-use Rattle.a2m.specs.ImageCalls.{wrong_length}
+use Rattle.std.proofs.Common.{[], ◌∷◌, refl, ◌∙◌, arith, rules}
 use Rattle.a2m.specs.Call.{truncate}
+use Rattle.a2m.specs.ImageCalls.{wrong_length}
 use Rattle.script.proofs.CallLaws.{truncate_changes}
 use Rattle.script.proofs.AnswerLaws.{change-named, change-answers}
-use mathlib.Core.Path.{refl, ◌∙◌}
-use borrow.Author.Rules.{rules}
 use Rattle.octets.specs.Undivided.{Undivided}
 use Rattle.script_calls.proofs.truncate.Code.Mir.{function}
 use Rattle.script_calls.proofs.truncate.Goals as goal

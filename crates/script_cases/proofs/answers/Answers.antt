@@ -4,5 +4,5 @@ use mathlib.Core.Path.{refl}
 use Rattle.octets.specs.Undivided.{Undivided}
 use Rattle.script_cases.proofs.answers.Code.Mir.{function}
 
-pub undivided : Undivided ("script_cases::room" ∷ "script_pieces::feed" ∷ []) function
+pub undivided : Undivided ("program::buffer" ∷ "script_pieces::pieces::Script::feed" ∷ "script_pieces::pieces::Script::new" ∷ []) function
 undivided = refl

@@ -1,9 +1,6 @@
 -- `script_run::gap` is safe: a decimal has at most 20 digits.
-use native.Mathlib.Omega.{arith}
+use Rattle.std.proofs.Common.{[], ◌∷◌, length-take, refl, arith}
 use Rattle.decimal.proofs.Theorems.{length-decimal, put-within}
-use lib.ListN.{length-take}
-use mathlib.Core.List.{[], ◌∷◌}
-use mathlib.Core.Path.{refl}
 use Rattle.octets.specs.Undivided.{Undivided}
 use Rattle.script_run.proofs.gap.Code.Mir.{function}
 use Rattle.script_run.proofs.gap.Goals as goal

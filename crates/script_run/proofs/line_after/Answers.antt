@@ -1,26 +1,21 @@
 -- `script_run::line_after` meets its contract.
-use mathlib.Core.List.{[]}
-use Rattle.script_run.proofs.StepLaws.{counts-one, counts-none}
+use Rattle.std.proofs.Common.{[], refl, arith}
 use Rattle.script.proofs.StreamLaws.{newlines-end}
-use native.Mathlib.Omega.{arith}
-use mathlib.Core.Path.{◌≡◌, refl}
-use Prim.Native.Nat.{◌+◌, ◌≤◌}
-use lib.ListN.{drop}
-use Rattle.script.specs.Stream.{newlines}
+use Rattle.script_run.proofs.StepLaws.{counts-one, counts-none}
 use Rattle.octets.specs.Undivided.{Undivided}
 use Rattle.script_run.proofs.line_after.Code.Mir.{function}
 use Rattle.script_run.proofs.line_after.Goals as goal
-use Rattle.script_run.proofs.line_after.Goals.{then-answers-i-eq10, else-answers-i-eq10}
+use Rattle.script_run.proofs.line_after.Goals.{then-b-eq10, else-b-eq10}
 
 pub undivided : Undivided [] function
 undivided = refl
 
-pub loop-i-init : goal.loop-i-init
-loop-i-init c = (omega arith, omega arith, refl)
-
-pub loop-i-preserved : goal.loop-i-preserved
-loop-i-preserved c = let r : (c.if-answers-i-eq10.n ≤ c.args.first + (c.loop-i.i + 1)) × (c.args.first + newlines c.args.answers.now ≡ c.if-answers-i-eq10.n + newlines (drop (c.loop-i.i + 1) c.args.answers.now)) = elim c.if-answers-i-eq10.branch [ then-answers-i-eq10 w ↦ counts-one c.args.answers.now c.args.first c.loop-i.n c.if-answers-i-eq10.n c.loop-i.i (omega arith) c.loop-i.invariant.1 c.loop-i.invariant.2 w.if-answers-i-eq10.true w.n-is | else-answers-i-eq10 w ↦ counts-none c.args.answers.now c.args.first c.loop-i.n c.if-answers-i-eq10.n c.loop-i.i (omega arith) c.loop-i.invariant.1 c.loop-i.invariant.2 w.if-answers-i-eq10.false w.n-is ] in
-    (omega arith, r.0, r.1)
+pub loop-b-preserved : goal.loop-b-preserved
+loop-b-preserved c =
+    elim c.if-b-eq10.branch [
+      | then-b-eq10 w ↦ counts-one c.args.answers.now c.args.first c.loop-b.n c.if-b-eq10.n c.loop-b.b-index (omega arith) c.loop-b.invariant.0 c.loop-b.invariant.1 w.if-b-eq10.true w.n-is
+      | else-b-eq10 w ↦ counts-none c.args.answers.now c.args.first c.loop-b.n c.if-b-eq10.n c.loop-b.b-index (omega arith) c.loop-b.invariant.0 c.loop-b.invariant.1 w.if-b-eq10.false w.n-is
+    ]
 
 pub returns : goal.returns
-returns c = omega (arith, c.loop-i.invariant.2, newlines-end c.args.answers.now c.loop-i.i (omega arith))
+returns c = omega (arith, c.loop-b.invariant.1, newlines-end c.args.answers.now c.loop-b.b-index (omega arith))

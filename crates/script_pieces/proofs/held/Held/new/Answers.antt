@@ -1,0 +1,7 @@
+-- `script_pieces::held::Held::new` meets its contract.
+use Rattle.std.proofs.Common.{[], refl}
+use Rattle.octets.specs.Undivided.{Undivided}
+use Rattle.script_pieces.proofs.held.Held.new.Code.Mir.{function}
+
+pub undivided : Undivided [] function
+undivided = refl
