@@ -17,32 +17,26 @@ use Rattle.sha256.specs.Sha256.{sha256}
 use Rattle.capi_results.specs.Results.{reply_number, low_after, high_after, examined_after, free_after, position_after, verdict_after, place_after, mask_after, pair_code, found_after, first_after, second_after, code_after}
 
 pub reply-kept : (r : Reply) (old : ℕ) → reply_number r ≢ 0 → (low_after r old ≡ old) × ((high_after r old ≡ old) × (examined_after r old ≡ old))
-unfolding reply_number low_after high_after examined_after
 reply-kept (refused k) old n = (refl, (refl, refl))
 reply-kept (done l h) old n = absurd (n refl)
 reply-kept (found receipt k) old n = absurd (n refl)
 reply-kept (ended receipt) old n = absurd (n refl)
 
 pub free-kept : (a : Answer) (old : ℕ) → a.number ≢ 0 → free_after a old ≡ old
-unfolding free_after
 free-kept a old n = ap (λ (t : Bool). cond t (get_or a.values 0 0) old) (ne_eqb a.number 0 n)
 
 pub position-kept : (a : Answer) (old : ℕ) → a.number ≢ 0 → position_after a old ≡ old
-unfolding position_after
 position-kept a old n = ap (λ (t : Bool). cond t (get_or a.values 0 0) old) (ne_eqb a.number 0 n)
 
 pub verdict-kept : (a : Answer) (old : List ℕ) → a.number ≢ 0 → verdict_after a old ≡ old
-unfolding verdict_after
 verdict-kept a old n = ap (λ (t : Bool). cond t a.values old) (ne_eqb a.number 0 n)
 
 pub certificate-kept : (a : Answer) (place mask : ℕ) → a.number ≢ 0 → (place_after a place ≡ place) × (mask_after a mask ≡ mask)
-unfolding place_after mask_after
 certificate-kept a place mask n =
     let e = ne_eqb a.number 0 n in
     (ap (λ (t : Bool). cond t (get_or a.values 0 0) place) e, ap (λ (t : Bool). cond t (get_or a.values 1 0) mask) e)
 
 pub contradiction-kept : (a : Answer) (old first second : ℕ) → a.number ≢ 0 → (found_after a old ≡ old) × ((first_after a first ≡ first) × (second_after a second ≡ second))
-unfolding found_after first_after second_after
 contradiction-kept a old first second n =
     let e = ne_eqb a.number 0 n in (
       ap (λ (t : Bool). cond t (pair_code a.values) old) e,
@@ -55,14 +49,13 @@ stays false x = refl
 
 -- where there is no pair, its places are as they were
 pub places-kept : (a : Answer) (first second : ℕ) → a.values ≡ [] → (first_after a first ≡ first) × (second_after a second ≡ second)
-unfolding first_after second_after
 places-kept a first second h = (
   ap (λ (l : List ℕ). cond (eqb a.number 0) (get_or l 0 first) first) h ∙ stays (eqb a.number 0) first,
   ap (λ (l : List ℕ). cond (eqb a.number 0) (get_or l 1 second) second) h ∙ stays (eqb a.number 0) second,
 )
 
 of-answered : (r : Option ℕ) (v : Verdict) (old : ℕ) → (answered r v).number ≢ 0 → code_after (answered r v).verdict old ≡ old
-unfolding answered code_after
+unfolding answered
 of-answered none v old n = absurd (n refl)
 of-answered (some k) v old n = refl
 

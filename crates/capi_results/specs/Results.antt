@@ -9,24 +9,24 @@ use Rattle.runs.specs.Compare.{Verdict, differ, agree, collision}
 -- ---- the calls on a table
 
 -- a reply's number: 0 "done", or the refusal's
-unfoldable pub reply_number : Reply → ℕ
+abbrev pub reply_number : Reply → ℕ
 reply_number r = (numbered r).number
 
 -- "0 with the L and H of that row"
-unfoldable pub low_after : Reply → ℕ → ℕ
+abbrev pub low_after : Reply → ℕ → ℕ
 low_after (refused k) old = old
 low_after (done l h) old = l
 low_after (found receipt k) old = old
 low_after (ended receipt) old = old
 
-unfoldable pub high_after : Reply → ℕ → ℕ
+abbrev pub high_after : Reply → ℕ → ℕ
 high_after (refused k) old = old
 high_after (done l h) old = h
 high_after (found receipt k) old = old
 high_after (ended receipt) old = old
 
 -- the number of held entries that a lookup examined
-unfoldable pub examined_after : Reply → ℕ → ℕ
+abbrev pub examined_after : Reply → ℕ → ℕ
 examined_after (refused k) old = old
 examined_after (done l h) old = old
 examined_after (found receipt k) old = k
@@ -35,54 +35,54 @@ examined_after (ended receipt) old = old
 -- ---- the status screen
 
 -- "the stored number"
-unfoldable pub free_after : Answer → ℕ → ℕ
+abbrev pub free_after : Answer → ℕ → ℕ
 free_after a old = cond (eqb a.number 0) (get_or a.values 0 0) old
 
 -- ---- surveys
 
 -- "together make a position"
-unfoldable pub position_after : Answer → ℕ → ℕ
+abbrev pub position_after : Answer → ℕ → ℕ
 position_after a old = cond (eqb a.number 0) (get_or a.values 0 0) old
 
 -- ---- the verifier and certificates
 
 -- a verdict's five numbers: keeper, log, position, kind and reference
-unfoldable pub verdict_after : Answer → List ℕ → List ℕ
+abbrev pub verdict_after : Answer → List ℕ → List ℕ
 verdict_after a old = cond (eqb a.number 0) a.values old
 
 -- a certificate's two: the place of "the first good receipt", and "the members"
-unfoldable pub place_after : Answer → ℕ → ℕ
+abbrev pub place_after : Answer → ℕ → ℕ
 place_after a old = cond (eqb a.number 0) (get_or a.values 0 0) old
 
-unfoldable pub mask_after : Answer → ℕ → ℕ
+abbrev pub mask_after : Answer → ℕ → ℕ
 mask_after a old = cond (eqb a.number 0) (get_or a.values 1 0) old
 
 -- ---- contradictions
 
 -- "answer the first pair .. If there is none, say so": 1 for an answer with places, 0 for one without
-unfoldable pub pair_code : List ℕ → ℕ
+abbrev pub pair_code : List ℕ → ℕ
 pair_code [] = 0
 pair_code (p ∷ ps) = 1
 
-unfoldable pub found_after : Answer → ℕ → ℕ
+abbrev pub found_after : Answer → ℕ → ℕ
 found_after a old = cond (eqb a.number 0) (pair_code a.values) old
 
 -- a pair's two places; where there are none, both results stay too
-unfoldable pub first_after : Answer → ℕ → ℕ
+abbrev pub first_after : Answer → ℕ → ℕ
 first_after a old = cond (eqb a.number 0) (get_or a.values 0 old) old
 
-unfoldable pub second_after : Answer → ℕ → ℕ
+abbrev pub second_after : Answer → ℕ → ℕ
 second_after a old = cond (eqb a.number 0) (get_or a.values 1 old) old
 
 -- ---- runs
 
 -- the header's KEEPER_DIFFER, KEEPER_AGREE and KEEPER_COLLISION
-unfoldable pub verdict_code : Verdict → ℕ
+abbrev pub verdict_code : Verdict → ℕ
 verdict_code differ = 0
 verdict_code agree = 1
 verdict_code collision = 2
 
 -- the code of a verdict, if there is one
-unfoldable pub code_after : Option Verdict → ℕ → ℕ
+abbrev pub code_after : Option Verdict → ℕ → ℕ
 code_after none old = old
 code_after (some v) old = verdict_code v
