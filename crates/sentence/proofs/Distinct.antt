@@ -8,8 +8,11 @@ use lib.ListN.{length, get_or}
 use Rattle.octets.specs.Octets.{zeros}
 use Rattle.octets.proofs.Tests.{and_both}
 use Rattle.sentence.specs.Text.{ascii, words, text_of, numbers_in}
-use Rattle.sentence.specs.Words.{receipt, certificate, word_at, kind_words, reason}
-use Rattle.sentence.specs.Sentence.{Said, accepted, certified, refused, members_below, others, agreed, pieces_of, sentence_of, numbers_said, Fits, padded}
+use Rattle.sentence.specs.Words.{word_at, kind_words, reason}
+use Rattle.sentence.specs.declared.Subject.TheVariants.{Receipt, Certificate}
+use Rattle.sentence.specs.Sentence.{members_below, others, agreed, pieces_of, sentence_of, numbers_said, Fits, padded}
+use Rattle.sentence.specs.declared.Said.{Said}
+use Rattle.sentence.specs.declared.Said.TheVariants.{Accepted, Certified, Refused}
 use Rattle.sentence.proofs.TextLaws.{wordless, is_words, numbers_of, parted, Small, shown, Printed, text_printed}
 use Rattle.sentence.proofs.WordLaws.{kind-short, reason-short}
 use Rattle.sentence.proofs.MemberLaws.{Below, members-below, mask_is}
@@ -52,16 +55,16 @@ agreed-small (n ∷ m ∷ ns) b = (let q = b.0 in omega arith, (let q = b.1.0 in
 -- words stand between the numbers
 pieces_parted : (x : Said) → parted false (pieces_of x) ≡ true
 unfolding pieces_of parted ascii wordless
-pieces_parted (accepted k g n kind r) = and_both (is_words (ascii (word_at kind_words kind))) true (kind-short kind).0 refl
-pieces_parted (certified p m) = agreed_parted (members_below 32 m)
-pieces_parted (refused receipt n) = and_both (is_words (ascii (reason receipt n))) true (reason-short receipt n).0 refl
-pieces_parted (refused certificate n) = and_both (is_words (ascii (reason certificate n))) true (reason-short certificate n).0 refl
+pieces_parted (Accepted k g n kind r) = and_both (is_words (ascii (word_at kind_words kind))) true (kind-short kind).0 refl
+pieces_parted (Certified p m) = agreed_parted (members_below 32 m)
+pieces_parted (Refused Receipt n) = and_both (is_words (ascii (reason Receipt n))) true (reason-short Receipt n).0 refl
+pieces_parted (Refused Certificate n) = and_both (is_words (ascii (reason Certificate n))) true (reason-short Certificate n).0 refl
 
 pieces-small : (x : Said) → Fits x → Small (pieces_of x)
 unfolding pieces_of
-pieces-small (accepted k g n kind r) f = (omega arith, (f.0, (f.1, (f.2, (f.3, (f.4, tt))))))
-pieces-small (certified p m) f = (omega arith, (f.0, agreed-small (members_below 32 m) (members-below 32 m)))
-pieces-small (refused s n) f = (f.1, tt)
+pieces-small (Accepted k g n kind r) f = (omega arith, (f.0, (f.1, (f.2, (f.3, (f.4, tt))))))
+pieces-small (Certified p m) f = (omega arith, (f.0, agreed-small (members_below 32 m) (members-below 32 m)))
+pieces-small (Refused s n) f = (f.1, tt)
 
 -- "with every number of the verdict in it": they are the numbers that stand in the sentence, in this order, and no other does
 pub sentence-numbers : (x : Said) → Fits x → numbers_in (sentence_of x) ≡ numbers_said x
@@ -69,25 +72,25 @@ unfolding sentence_of pieces_of numbers_of
 sentence-numbers x f = shown (pieces_of x) (pieces_parted x) (pieces-small x f) ∙ go x
   where
     go : (x : Said) → numbers_of (pieces_of x) ≡ numbers_said x
-    go (accepted k g n kind r) = refl
-    go (certified p m) = ap {B = List ℕ} (λ (l : List ℕ). 0 ∷ p ∷ l) (agreed-numbers (members_below 32 m))
-    go (refused s n) = refl
+    go (Accepted k g n kind r) = refl
+    go (Certified p m) = ap {B = List ℕ} (λ (l : List ℕ). 0 ∷ p ∷ l) (agreed-numbers (members_below 32 m))
+    go (Refused s n) = refl
 
 -- ---- no two verdicts have one sentence
 
 -- the fifth byte: r of receipt, c of certificate
 unfoldable pub initial : Said → ℕ
-initial (accepted k g n kind r) = 114
-initial (certified p m) = 99
-initial (refused receipt n) = 114
-initial (refused certificate n) = 99
+initial (Accepted k g n kind r) = 114
+initial (Certified p m) = 99
+initial (Refused Receipt n) = 114
+initial (Refused Certificate n) = 99
 
 pub initial-is : (x : Said) → get_or (sentence_of x) 4 0 ≡ initial x
 unfolding sentence_of pieces_of text_of ascii initial
-initial-is (accepted k g n kind r) = refl
-initial-is (certified p m) = refl
-initial-is (refused receipt n) = refl
-initial-is (refused certificate n) = refl
+initial-is (Accepted k g n kind r) = refl
+initial-is (Certified p m) = refl
+initial-is (Refused Receipt n) = refl
+initial-is (Refused Certificate n) = refl
 
 -- "No two verdicts that differ in one of these, in refusal number, or in being for a receipt or a certificate, have the same sentence"
 pub sentence-injective : (x y : Said) → Fits x → Fits y → sentence_of x ≡ sentence_of y → x ≡ y
@@ -98,18 +101,18 @@ sentence-injective x y f g e =
     go x y f g numbers first
   where
     go : (x y : Said) → Fits x → Fits y → numbers_said x ≡ numbers_said y → initial x ≡ initial y → x ≡ y
-    go (accepted k g n kind r) (accepted k' g' n' kind' r') f f' e i = cc
-    go (accepted k g n kind r) (certified p m) f f' e i = absurd (omega arith)
-    go (accepted k g n kind r) (refused s c) f f' e i = absurd (let z : 0 ≡ c = cc in let q = f'.0 in omega arith)
-    go (certified p m) (accepted k g n kind r) f f' e i = absurd (omega arith)
-    go (certified p m) (certified p' m') f f' e i = let z : p ≡ p' = cc in let w : members_below 32 m ≡ members_below 32 m' = cc in ap₂ certified z (mask_is m m' f.1 f'.1 w)
-    go (certified p m) (refused s c) f f' e i = absurd (let z : 0 ≡ c = cc in let q = f'.0 in omega arith)
-    go (refused s c) (accepted k g n kind r) f f' e i = absurd (let z : c ≡ 0 = cc in let q = f.0 in omega arith)
-    go (refused s c) (certified p m) f f' e i = absurd (let z : c ≡ 0 = cc in let q = f.0 in omega arith)
-    go (refused receipt c) (refused receipt c') f f' e i = cc
-    go (refused certificate c) (refused certificate c') f f' e i = cc
-    go (refused receipt c) (refused certificate c') f f' e i = absurd (omega arith)
-    go (refused certificate c) (refused receipt c') f f' e i = absurd (omega arith)
+    go (Accepted k g n kind r) (Accepted k' g' n' kind' r') f f' e i = cc
+    go (Accepted k g n kind r) (Certified p m) f f' e i = absurd (omega arith)
+    go (Accepted k g n kind r) (Refused s c) f f' e i = absurd (let z : 0 ≡ c = cc in let q = f'.0 in omega arith)
+    go (Certified p m) (Accepted k g n kind r) f f' e i = absurd (omega arith)
+    go (Certified p m) (Certified p' m') f f' e i = let z : p ≡ p' = cc in let w : members_below 32 m ≡ members_below 32 m' = cc in ap₂ Certified z (mask_is m m' f.1 f'.1 w)
+    go (Certified p m) (Refused s c) f f' e i = absurd (let z : 0 ≡ c = cc in let q = f'.0 in omega arith)
+    go (Refused s c) (Accepted k g n kind r) f f' e i = absurd (let z : c ≡ 0 = cc in let q = f.0 in omega arith)
+    go (Refused s c) (Certified p m) f f' e i = absurd (let z : c ≡ 0 = cc in let q = f.0 in omega arith)
+    go (Refused Receipt c) (Refused Receipt c') f f' e i = cc
+    go (Refused Certificate c) (Refused Certificate c') f f' e i = cc
+    go (Refused Receipt c) (Refused Certificate c') f f' e i = absurd (omega arith)
+    go (Refused Certificate c) (Refused Receipt c') f f' e i = absurd (omega arith)
 
 -- ---- nor one buffer
 

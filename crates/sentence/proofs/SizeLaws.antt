@@ -14,8 +14,12 @@ use Rattle.decimal.specs.Decimal.{decimal_of, decimal_from, digits_of}
 use Rattle.decimal.proofs.Laws.{of_width, length-digits_of}
 use Rattle.decimal.proofs.Theorems.{length-decimal}
 use Rattle.sentence.specs.Text.{ascii, words, text_of}
-use Rattle.sentence.specs.Words.{Subject, receipt, certificate, word_at, kind_words, refusal_words, meanings, meaning_in, reason}
-use Rattle.sentence.specs.Sentence.{Said, accepted, certified, refused, members_below, others, agreed, pieces_of, sentence_of}
+use Rattle.sentence.specs.Words.{word_at, kind_words, refusal_words, meanings, meaning_in, reason}
+use Rattle.sentence.specs.declared.Subject.{Subject}
+use Rattle.sentence.specs.declared.Subject.TheVariants.{Receipt, Certificate}
+use Rattle.sentence.specs.Sentence.{members_below, others, agreed, pieces_of, sentence_of}
+use Rattle.sentence.specs.declared.Said.{Said}
+use Rattle.sentence.specs.declared.Said.TheVariants.{Accepted, Certified, Refused}
 use Rattle.sentence.proofs.WordLaws.{kind-short, reason-short}
 
 -- ---- numbers
@@ -81,7 +85,7 @@ members-size m = omega (arith, agreed-size (members_below 32 m), cost-members 32
 
 -- ---- sentences
 
-certified-exact : (p m : ℕ) → length (sentence_of (certified p m)) ≤ length (decimal_of p) + 175
+certified-exact : (p m : ℕ) → length (sentence_of (Certified p m)) ≤ length (decimal_of p) + 175
 unfolding sentence_of pieces_of text_of ascii
 certified-exact p m =
     let q = members-size m in
@@ -89,7 +93,7 @@ certified-exact p m =
     omega (arith, zero-size, length-append (decimal_of 0) (ascii ") on receipt " ++ (decimal_of p ++ t)), length-append (decimal_of p) t)
 
 accepted-exact : (k g n kind r : ℕ)
-    → length (sentence_of (accepted k g n kind r)) ≡ 89 + length (ascii (word_at kind_words kind)) + length (decimal_of k) + length (decimal_of g) + length (decimal_of n) + length (decimal_of kind) + length (decimal_of r)
+    → length (sentence_of (Accepted k g n kind r)) ≡ 89 + length (ascii (word_at kind_words kind)) + length (decimal_of k) + length (decimal_of g) + length (decimal_of n) + length (decimal_of kind) + length (decimal_of r)
 unfolding sentence_of pieces_of text_of ascii
 accepted-exact k g n kind r =
     let t₆ = ascii "." in
@@ -111,31 +115,31 @@ accepted-exact k g n kind r =
       length-append (decimal_of r) t₆,
     )
 
-refused-exact : (s : Subject) (n : ℕ) → length (sentence_of (refused s n)) ≤ 32 + length (decimal_of n) + length (ascii (reason s n))
+refused-exact : (s : Subject) (n : ℕ) → length (sentence_of (Refused s n)) ≤ 32 + length (decimal_of n) + length (ascii (reason s n))
 unfolding sentence_of pieces_of text_of ascii
-refused-exact receipt n =
-    let w = ascii (reason receipt n) in
+refused-exact Receipt n =
+    let w = ascii (reason Receipt n) in
     omega (arith, length-append (decimal_of n) (ascii "): " ++ (w ++ ascii ".")), length-append w (ascii "."))
-refused-exact certificate n =
-    let w = ascii (reason certificate n) in
+refused-exact Certificate n =
+    let w = ascii (reason Certificate n) in
     omega (arith, length-append (decimal_of n) (ascii "): " ++ (w ++ ascii ".")), length-append w (ascii "."))
 
 -- "one English sentence of at most 200 bytes"
 pub sentence-size : (x : Said) → length (sentence_of x) ≤ 200
-sentence-size (accepted k g n kind r) =
+sentence-size (Accepted k g n kind r) =
     omega (arith, accepted-exact k g n kind r, (kind-short kind).1, length-decimal k, length-decimal g, length-decimal n, length-decimal kind, length-decimal r)
-sentence-size (certified p m) = omega (arith, certified-exact p m, length-decimal p)
-sentence-size (refused s n) = omega (arith, refused-exact s n, (reason-short s n).1, length-decimal n)
+sentence-size (Certified p m) = omega (arith, certified-exact p m, length-decimal p)
+sentence-size (Refused s n) = omega (arith, refused-exact s n, (reason-short s n).1, length-decimal n)
 
 -- ---- our own verdicts
 
 -- what the verifier accepts has a log of at most 15 and one of four kinds
-pub accepted-size : (k g n kind r : ℕ) → g ≤ 15 → kind ≤ 3 → length (sentence_of (accepted k g n kind r)) ≤ 162
+pub accepted-size : (k g n kind r : ℕ) → g ≤ 15 → kind ≤ 3 → length (sentence_of (Accepted k g n kind r)) ≤ 162
 accepted-size k g n kind r hg hk =
     omega (arith, accepted-exact k g n kind r, (kind-short kind).1, length-decimal k, two_digits g (omega arith), length-decimal n, one-digit kind (omega arith), length-decimal r)
 
 -- a certificate stands on one of 32 receipts
-pub certified-size : (p m : ℕ) → p < 32 → length (sentence_of (certified p m)) ≤ 177
+pub certified-size : (p m : ℕ) → p < 32 → length (sentence_of (Certified p m)) ≤ 177
 certified-size p m h = omega (arith, certified-exact p m, two_digits p (omega arith))
 
 -- a test that holds below n
@@ -152,11 +156,11 @@ below_at f (suc n) i h l = go (equal_or_not i n) (below_at f n i (and_right (f n
     go (inl e) ih = ap f e ∙ and_left (f n) (below f n) h
     go (inr e) ih = let q : i ≢ n = e in ih (omega arith)
 
-refused-sizes : (s : Subject) → below (λ n. leb (length (sentence_of (refused s n))) 80) 256 ≡ true
+refused-sizes : (s : Subject) → below (λ n. leb (length (sentence_of (Refused s n))) 80) 256 ≡ true
 unfolding below sentence_of pieces_of text_of ascii decimal_of decimal_from digits_of meanings meaning_in refusal_words
-refused-sizes receipt = refl
-refused-sizes certificate = refl
+refused-sizes Receipt = refl
+refused-sizes Certificate = refl
 
 -- a refusal's number is a byte
-pub refused-size : (s : Subject) (n : ℕ) → n < 256 → length (sentence_of (refused s n)) ≤ 80
-refused-size s n h = leb-true (length (sentence_of (refused s n))) 80 (below_at (λ k. leb (length (sentence_of (refused s k))) 80) 256 n (refused-sizes s) h)
+pub refused-size : (s : Subject) (n : ℕ) → n < 256 → length (sentence_of (Refused s n)) ≤ 80
+refused-size s n h = leb-true (length (sentence_of (Refused s n))) 80 (below_at (λ k. leb (length (sentence_of (Refused s k))) 80) 256 n (refused-sizes s) h)

@@ -17,18 +17,20 @@ use Rattle.quorum.specs.Certificate.{station_answer}
 use Rattle.quorum.specs.declared.Station.{Station}
 use Rattle.quorum.specs.declared.Station.TheVariants as station
 use Rattle.sentence.specs.Text.{numbers_in}
-use Rattle.sentence.specs.Words.{receipt, certificate}
-use Rattle.sentence.specs.Sentence.{Said, accepted, certified, refused, receipt_said, station_said, members_below, sentence_of, numbers_said, Fits}
+use Rattle.sentence.specs.declared.Subject.TheVariants.{Receipt, Certificate}
+use Rattle.sentence.specs.Sentence.{receipt_said, station_said, members_below, sentence_of, numbers_said, Fits}
+use Rattle.sentence.specs.declared.Said.{Said}
+use Rattle.sentence.specs.declared.Said.TheVariants.{Accepted, Certified, Refused}
 use Rattle.sentence.proofs.Distinct.{initial, initial-is, sentence-numbers, sentence-injective}
 
 not-zero : (n : ℕ) → 0 < n → eqb n 0 ≡ false
 not-zero n h = ne_eqb n 0 (λ e. omega arith)
 
 -- what an answer that is a refusal says
-pub receipt-refused : (n : ℕ) (vs : List ℕ) → 0 < n → receipt_said (answer n vs) ≡ refused receipt n
+pub receipt-refused : (n : ℕ) (vs : List ℕ) → 0 < n → receipt_said (answer n vs) ≡ Refused Receipt n
 receipt-refused n vs h = rw (not-zero n h)
 
-pub station-refused : (n : ℕ) (vs : List ℕ) → 0 < n → station_said (answer n vs) ≡ refused certificate n
+pub station-refused : (n : ℕ) (vs : List ℕ) → 0 < n → station_said (answer n vs) ≡ Refused Certificate n
 station-refused n vs h = rw (not-zero n h)
 
 -- ---- the numbers
@@ -39,9 +41,9 @@ numbers_of_answer a = a.number ∷ a.values
 
 -- a verdict's number and values, again
 unfoldable pub spoken : Said → List ℕ
-spoken (accepted keeper log position kind reference) = 0 ∷ keeper ∷ log ∷ position ∷ kind ∷ reference ∷ []
-spoken (certified place mask) = 0 ∷ place ∷ mask ∷ []
-spoken (refused s n) = n ∷ []
+spoken (Accepted keeper log position kind reference) = 0 ∷ keeper ∷ log ∷ position ∷ kind ∷ reference ∷ []
+spoken (Certified place mask) = 0 ∷ place ∷ mask ∷ []
+spoken (Refused s n) = n ∷ []
 
 verdict_spoken : (v : Verdict) → spoken (receipt_said (verdict_answer v)) ≡ numbers_of_answer (verdict_answer v)
 unfolding spoken

@@ -9,7 +9,9 @@ use lib.Dec.{eqb, leb}
 use borrow.Author.Tests.{leb-true}
 use Rattle.octets.proofs.Tests.{and_left, and_right}
 use Rattle.sentence.specs.Text.{ascii}
-use Rattle.sentence.specs.Words.{Subject, receipt, certificate, word_at, kind_words, refusal_words, Meaning, meanings, meaning_in, reason}
+use Rattle.sentence.specs.Words.{word_at, kind_words, refusal_words, Meaning, meanings, meaning_in, reason}
+use Rattle.sentence.specs.declared.Subject.{Subject}
+use Rattle.sentence.specs.declared.Subject.TheVariants.{Receipt, Certificate}
 use Rattle.sentence.proofs.TextLaws.{wordless, is_words}
 
 -- a word of at most k bytes
@@ -64,8 +66,8 @@ meaning-in (m ∷ ms) h n = go (eqb n m.number) (meaning-in ms (and_right (short
 
 means-all : (s : Subject) → all_mean (meanings s) ≡ true
 unfolding all_mean meanings ascii wordless
-means-all receipt = refl
-means-all certificate = refl
+means-all Receipt = refl
+means-all Certificate = refl
 
 pub reason-short : (s : Subject) (n : ℕ) → Short 47 (reason s n)
 reason-short s n = meaning-in (meanings s) (means-all s) n

@@ -1,10 +1,8 @@
 -- The words of a kind and of a refusal. No word has a digit, so that a sentence shows the verdict's numbers and no other.
 use Rattle.std.specs.Prelude.{ℕ, zero, suc, cond, List, [], ◌∷◌, eqb}
 use Prim.Native.String.{String}
-
--- what a verdict is on
-pub data Subject : Type 0 where
-  receipt certificate : Subject
+use Rattle.sentence.specs.declared.Subject.{Subject}
+use Rattle.sentence.specs.declared.Subject.TheVariants.{Receipt, Certificate}
 
 -- the word at a place of a table of words
 abbrev pub word_at : List String → ℕ → String
@@ -32,12 +30,12 @@ means n w = record { number = n; words = w }
 
 -- the refusals of the verifier, and of a certificate
 unfoldable pub meanings : Subject → List Meaning
-meanings receipt =
+meanings Receipt =
     means 7 "the key or nonce has a wrong length" ∷
     means 9 "it is not a possible receipt" ∷
     means 10 "its tag is wrong" ∷
     means 11 "it answers another question" ∷ []
-meanings certificate =
+meanings Certificate =
     means 7 "the nonce has a wrong length" ∷
     means 17 "the profile is not permitted" ∷
     means 12 "the roster is not valid" ∷

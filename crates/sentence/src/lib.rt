@@ -1,5 +1,126 @@
-// Verdicts as English sentences (document 02 [9]): the wording, and what is proved of it. No code but the size of a sentence's buffer.
-// The bytes that a sentence is written into.
+// Verdicts as English sentences (document 02 [9]): what a sentence says, and in specs/ and proofs/ the wording and what is proved of it.
 #![tactic(auto)]
 
+ghost use Rattle.std.specs.Prelude.{◌≡◌, [], ◌∷◌};
+ghost use Rattle.refusal.specs.Answer.{answer};
+ghost use Rattle.receipt.specs.Verdict.{verdict_answer};
+ghost use Rattle.quorum.specs.Certificate.{station_answer};
+ghost use Rattle.sentence.specs.Sentence.{receipt_said, station_said};
+
+use octets::wide;
+use quorum::Station;
+use receipt::Verdict;
+
+// The bytes that a sentence is written into.
 pub const SENTENCE: usize = 200;
+
+// What a verdict is on.
+#[derive(Clone, Copy)]
+pub enum Subject {
+    Receipt,
+    Certificate,
+}
+
+// "A receipt verdict carries keeper, log, position, kind and reference; a certificate verdict carries the receipt's place and the member list ..; a
+// refused one carries its number". A kind and a refusal are numbers: the calls for C take any, and a sentence shows it.
+#[derive(Clone, Copy)]
+pub enum Said {
+    Accepted {
+        keeper: u64,
+        log: u64,
+        position: u64,
+        kind: u64,
+        reference: u64,
+    },
+    Certified {
+        place: u64,
+        mask: u32,
+    },
+    Refused {
+        subject: Subject,
+        number: u8,
+    },
+}
+
+impl Said {
+    // Of the verifier's answer: its number, and the values that come with 0.
+    pub fn of_receipt(number: u8, values: &[u64; 5]) -> Said
+        ensures { result ≡ receipt_said (answer number values.now) }
+    {
+        if number != 0 {
+            return Said::Refused {
+                subject: Subject::Receipt,
+                number,
+            };
+        }
+        let &[keeper, log, position, kind, reference] = values;
+        Said::Accepted {
+            keeper,
+            log,
+            position,
+            kind,
+            reference,
+        }
+    }
+
+    // Of the answer on a certificate: its number, and the place and members that come with 0.
+    pub fn of_certificate(number: u8, place: u64, mask: u32) -> Said
+        ensures { result ≡ station_said (answer number (place ∷ mask ∷ [])) }
+    {
+        if number != 0 {
+            return Said::Refused {
+                subject: Subject::Certificate,
+                number,
+            };
+        }
+        Said::Certified { place, mask }
+    }
+}
+
+impl From<Verdict> for Said {
+    ghost from_gives = { λ verdict said. said ≡ receipt_said (verdict_answer verdict) };
+
+    fn from(verdict: Verdict) -> Said {
+        match verdict {
+            Verdict::Accepted {
+                keeper,
+                log,
+                position,
+                kind,
+                reference,
+                blocks: _,
+            } => Said::Accepted {
+                keeper,
+                log: wide(log),
+                position,
+                kind: wide(kind),
+                reference,
+            },
+            Verdict::Refused { why, blocks: _ } => Said::Refused {
+                subject: Subject::Receipt,
+                number: why.number(),
+            },
+        }
+    }
+}
+
+impl From<Station> for Said {
+    ghost from_gives = { λ station said. said ≡ station_said (station_answer station) };
+
+    fn from(station: Station) -> Said {
+        match station {
+            Station::Certified {
+                place,
+                mask,
+                blocks: _,
+            } => Said::Certified {
+                place: place as u64,
+                mask,
+            },
+            Station::Refused { why, blocks: _ } => Said::Refused {
+                subject: Subject::Certificate,
+                number: why.number(),
+            },
+        }
+    }
+}

@@ -1,0 +1,22 @@
+-- `sentence_words::Text::number` meets its contract.
+use Rattle.std.proofs.Common.{arith}
+use Rattle.decimal.proofs.Theorems.{length-decimal}
+use Rattle.sentence_words.proofs.TextLaws.{length-so_far, then}
+use Rattle.decimal.specs.Decimal.{decimal_of}
+use mathlib.Core.List.{[], ◌∷◌}
+use mathlib.Core.Path.{refl}
+use Rattle.octets.specs.Undivided.{Undivided}
+use Rattle.sentence_words.proofs.Text.number.Code.Mir.{function}
+use Rattle.sentence_words.proofs.Text.number.Goals as goal
+
+pub undivided : Undivided ("decimal::write::put" ∷ []) function
+undivided = refl
+
+pub put-self-inside-requires : goal.put-self-inside-requires
+put-self-inside-requires c = omega (arith, length-decimal c.args.n, length-so_far c.self.inside.bytes c.args.self.now c.self.inside.len (omega arith) c.self.view_is)
+
+pub invariant_of-self : goal.invariant_of-self
+invariant_of-self c = omega (arith, length-decimal c.args.n, length-so_far c.self.inside.bytes c.args.self.now c.self.inside.len (omega arith) c.self.view_is)
+
+pub returns : goal.returns
+returns c = rw (c.put-self-inside.ensures.value, c.put-self-inside.ensures.out_after) (then c.self.inside.bytes c.args.self.now c.self.inside.len (omega arith) c.self.view_is (decimal_of c.args.n))
