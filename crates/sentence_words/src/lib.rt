@@ -58,7 +58,8 @@ impl Text {
     // A number takes at most 20 digits.
     pub fn number(&mut self, n: u64)
         requires { length self.old + 20 ≤ ROOM }
-        ensures { self.new ≡ self.old ++ decimal_of n }
+        ensures digits { self.new ≡ self.old ++ decimal_of n }
+        ensures short { length self.new ≤ length self.old + 20 }
     {
         self.len = decimal::put(&mut self.bytes, self.len, n);
     }
@@ -66,7 +67,8 @@ impl Text {
     // A kind by its word and its number.
     pub fn kind(&mut self, kind: u64)
         requires { length self.old + 41 ≤ ROOM }
-        ensures { self.new ≡ self.old ++ kind_text kind }
+        ensures kind { self.new ≡ self.old ++ kind_text kind }
+        ensures short { length self.new ≤ length self.old + 41 }
     {
         self.words(b" is ");
         self.words(words::kind_word(kind));
@@ -77,7 +79,8 @@ impl Text {
     // Why a receipt or a certificate is refused.
     pub fn reason(&mut self, subject: Subject, number: u8)
         requires { length self.old + 47 ≤ ROOM }
-        ensures { self.new ≡ self.old ++ ascii (reason subject number) }
+        ensures reason { self.new ≡ self.old ++ ascii (reason subject number) }
+        ensures short { length self.new ≤ length self.old + 47 }
     {
         self.words(words::reason_words(subject, number));
     }

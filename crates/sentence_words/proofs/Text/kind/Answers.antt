@@ -11,6 +11,6 @@ use Rattle.sentence_words.proofs.Text.kind.Goals as goal
 pub undivided : Undivided ("sentence_words::Text::number" ∷ "sentence_words::Text::words" ∷ "sentence_words::words::kind_word" ∷ []) function
 undivided = refl
 
-pub returns : goal.returns
+pub returns-clause-kind : goal.returns-clause-kind
 unfolding kind_text ascii
-returns c = simp (c.number.ensures, c.words-3.ensures, c.words-2.ensures, c.words.ensures, c.kind_word.ensures.word, append_assoc)
+returns-clause-kind c = simp (c.number.ensures.digits, c.words-3.ensures, c.words-2.ensures, c.words.ensures, c.kind_word.ensures.word, append_assoc)

@@ -1,5 +1,5 @@
 -- `sentence_words::Text::number` meets its contract.
-use Rattle.std.proofs.Common.{arith}
+use Rattle.std.proofs.Common.{◌≡◌, ◌++◌, take, length, ap, arith, length-append}
 use Rattle.decimal.proofs.Theorems.{length-decimal}
 use Rattle.sentence_words.proofs.TextLaws.{length-so_far, then}
 use Rattle.decimal.specs.Decimal.{decimal_of}
@@ -19,4 +19,10 @@ pub invariant_of-self : goal.invariant_of-self
 invariant_of-self c = omega (arith, length-decimal c.args.n, length-so_far c.self.inside.bytes c.args.self.now c.self.inside.len (omega arith) c.self.view_is)
 
 pub returns : goal.returns
-returns c = rw (c.put-self-inside.ensures.value, c.put-self-inside.ensures.out_after) (then c.self.inside.bytes c.args.self.now c.self.inside.len (omega arith) c.self.view_is (decimal_of c.args.n))
+returns c =
+    let n = decimal_of c.args.n in
+    let put = c.put-self-inside in
+    let digits : take put.result put.new.out ≡ c.args.self.now ++ n =
+        rw (put.ensures.value, put.ensures.out_after) (then c.self.inside.bytes c.args.self.now c.self.inside.len (omega arith) c.self.view_is n)
+    in
+    record { digits = digits; short = omega (arith, ap length digits, length-append c.args.self.now n, length-decimal c.args.n) }
