@@ -1,4 +1,4 @@
--- `sentence_cases::size` meets its contract. Assumes nothing.
+-- `sentence_cases::size` meets its contract.
 use mathlib.Core.List.{[]}
 use mathlib.Core.Path.{refl}
 use Rattle.octets.specs.Undivided.{Undivided}
