@@ -7,15 +7,12 @@ use native.Mathlib.Omega.{arith}
 use lib.Dec.{eqb}
 use lib.ListN.{get_or}
 use borrow.Author.Tests.{ne_eqb}
+use Rattle.std.specs.Prelude.{Ok, Err}
 use Rattle.refusal.specs.Answer.{Answer, answer}
 use Rattle.refusal.specs.Number.{number_of}
 use Rattle.refusal.proofs.NumberLaws.{number_of-positive}
-use Rattle.receipt.specs.Verdict.{verdict_answer}
-use Rattle.receipt.specs.declared.Verdict.{Verdict}
-use Rattle.receipt.specs.declared.Verdict.TheVariants as verdict
-use Rattle.quorum.specs.Certificate.{station_answer}
-use Rattle.quorum.specs.declared.Station.{Station}
-use Rattle.quorum.specs.declared.Station.TheVariants as station
+use Rattle.receipt.specs.Verdict.{Verdict, verdict_answer}
+use Rattle.quorum.specs.Certificate.{Station, station_answer}
 use Rattle.sentence.specs.Text.{numbers_in}
 use Rattle.sentence.specs.declared.Subject.TheVariants.{Receipt, Certificate}
 use Rattle.sentence.specs.Sentence.{receipt_said, station_said, members_below, sentence_of, numbers_said, Fits}
@@ -47,33 +44,33 @@ spoken (Refused s n) = n ∷ []
 
 verdict_spoken : (v : Verdict) → spoken (receipt_said (verdict_answer v)) ≡ numbers_of_answer (verdict_answer v)
 unfolding spoken
-verdict_spoken (verdict.Accepted keeper log position kind reference blocks) = refl
-verdict_spoken (verdict.Refused why blocks) = ap spoken (receipt-refused (number_of why) [] (number_of-positive why))
+verdict_spoken (Ok done) = refl
+verdict_spoken (Err r) = ap spoken (receipt-refused (number_of r.why) [] (number_of-positive r.why))
 
 station_spoken : (s : Station) → spoken (station_said (station_answer s)) ≡ numbers_of_answer (station_answer s)
 unfolding spoken
-station_spoken (station.Certified place mask blocks) = refl
-station_spoken (station.Refused why blocks) = ap spoken (station-refused (number_of why) [] (number_of-positive why))
+station_spoken (Ok done) = refl
+station_spoken (Err r) = ap spoken (station-refused (number_of r.why) [] (number_of-positive r.why))
 
 -- the sentence of a receipt's verdict shows its number and its values, in order, and nothing else
 pub receipt-numbers : (v : Verdict) → Fits (receipt_said (verdict_answer v)) → numbers_in (sentence_of (receipt_said (verdict_answer v))) ≡ (verdict_answer v).number ∷ (verdict_answer v).values
 receipt-numbers v f = sentence-numbers (receipt_said (verdict_answer v)) f ∙ go v
   where
     go : (v : Verdict) → numbers_said (receipt_said (verdict_answer v)) ≡ (verdict_answer v).number ∷ (verdict_answer v).values
-    go (verdict.Accepted keeper log position kind reference blocks) = refl
-    go (verdict.Refused why blocks) = ap numbers_said (receipt-refused (number_of why) [] (number_of-positive why))
+    go (Ok done) = refl
+    go (Err r) = ap numbers_said (receipt-refused (number_of r.why) [] (number_of-positive r.why))
 
 -- the values of a certificate's verdict with the mask as its members
 abbrev pub with_members : Station → List ℕ
-with_members (station.Certified place mask blocks) = place ∷ members_below 32 mask
-with_members (station.Refused why blocks) = []
+with_members (Ok done) = done.value.place ∷ members_below 32 done.value.mask
+with_members (Err r) = []
 
 pub station-numbers : (s : Station) → Fits (station_said (station_answer s)) → numbers_in (sentence_of (station_said (station_answer s))) ≡ (station_answer s).number ∷ with_members s
 station-numbers s f = sentence-numbers (station_said (station_answer s)) f ∙ go s
   where
     go : (s : Station) → numbers_said (station_said (station_answer s)) ≡ (station_answer s).number ∷ with_members s
-    go (station.Certified place mask blocks) = refl
-    go (station.Refused why blocks) = ap numbers_said (station-refused (number_of why) [] (number_of-positive why))
+    go (Ok done) = refl
+    go (Err r) = ap numbers_said (station-refused (number_of r.why) [] (number_of-positive r.why))
 
 -- ---- no two verdicts that differ
 
@@ -106,9 +103,9 @@ subjects-differ v s e =
     omega arith
   where
     of-receipt : (v : Verdict) → initial (receipt_said (verdict_answer v)) ≡ 114
-    of-receipt (verdict.Accepted keeper log position kind reference blocks) = refl
-    of-receipt (verdict.Refused why blocks) = ap initial (receipt-refused (number_of why) [] (number_of-positive why))
+    of-receipt (Ok done) = refl
+    of-receipt (Err r) = ap initial (receipt-refused (number_of r.why) [] (number_of-positive r.why))
 
     of-station : (s : Station) → initial (station_said (station_answer s)) ≡ 99
-    of-station (station.Certified place mask blocks) = refl
-    of-station (station.Refused why blocks) = ap initial (station-refused (number_of why) [] (number_of-positive why))
+    of-station (Ok done) = refl
+    of-station (Err r) = ap initial (station-refused (number_of r.why) [] (number_of-positive r.why))

@@ -7,9 +7,9 @@ ghost use Rattle.receipt.specs.Verdict.{verdict_answer};
 ghost use Rattle.quorum.specs.Certificate.{station_answer};
 ghost use Rattle.sentence.specs.Sentence.{receipt_said, station_said};
 
-use octets::wide;
-use quorum::Station;
-use receipt::Verdict;
+use quorum::Certified;
+use receipt::Accepted;
+use refusal::{Hashed, Refused};
 
 // The bytes that a sentence is written into.
 pub const SENTENCE: usize = 200;
@@ -77,49 +77,38 @@ impl Said {
     }
 }
 
-impl From<Verdict> for Said {
+impl From<Result<Hashed<Accepted>, Refused>> for Said {
     ghost from_gives = { λ verdict said. said ≡ receipt_said (verdict_answer verdict) };
 
-    fn from(verdict: Verdict) -> Said {
+    fn from(verdict: Result<Hashed<Accepted>, Refused>) -> Said {
         match verdict {
-            Verdict::Accepted {
-                keeper,
-                log,
-                position,
-                kind,
-                reference,
-                blocks: _,
-            } => Said::Accepted {
-                keeper,
-                log: wide(log),
-                position,
-                kind: wide(kind),
-                reference,
+            Ok(Hashed { value, .. }) => Said::Accepted {
+                keeper: value.keeper,
+                log: u64::from(value.log),
+                position: value.position,
+                kind: u64::from(value.kind),
+                reference: value.reference,
             },
-            Verdict::Refused { why, blocks: _ } => Said::Refused {
+            Err(refused) => Said::Refused {
                 subject: Subject::Receipt,
-                number: why.number(),
+                number: u8::from(refused.why),
             },
         }
     }
 }
 
-impl From<Station> for Said {
+impl From<Result<Hashed<Certified>, Refused>> for Said {
     ghost from_gives = { λ station said. said ≡ station_said (station_answer station) };
 
-    fn from(station: Station) -> Said {
+    fn from(station: Result<Hashed<Certified>, Refused>) -> Said {
         match station {
-            Station::Certified {
-                place,
-                mask,
-                blocks: _,
-            } => Said::Certified {
-                place: place as u64,
-                mask,
+            Ok(Hashed { value, .. }) => Said::Certified {
+                place: value.place as u64,
+                mask: value.mask,
             },
-            Station::Refused { why, blocks: _ } => Said::Refused {
+            Err(refused) => Said::Refused {
                 subject: Subject::Certificate,
-                number: why.number(),
+                number: u8::from(refused.why),
             },
         }
     }

@@ -6,7 +6,7 @@
 ghost use Rattle.std.specs.Prelude.{◌<◌, ◌≤◌, ◌^◌, length};
 
 use printing::{hex, number, text};
-use refusal::Outcome;
+use refusal::{Refusal, outcome_number};
 use sentence::Said;
 use std::io;
 
@@ -22,8 +22,8 @@ fn size(s: &[u8]) -> usize
     s.len()
 }
 
-fn show(rt: &impl Print, outcome: Outcome, s: &[u8]) -> io::Result<()> {
-    number(rt, u64::from(outcome.number()))?;
+fn show(rt: &impl Print, outcome: Result<(), Refusal>, s: &[u8]) -> io::Result<()> {
+    number(rt, u64::from(outcome_number(outcome)))?;
     text(rt, b" ")?;
     let n = size(s);
     text(rt, &s[..n])?;
