@@ -3,20 +3,23 @@
 
 mod words;
 
-ghost use Rattle.std.specs.Prelude.{◌≡◌, ◌+◌, ◌≤◌, List, ℕ, [], ◌++◌, length, take};
+ghost use Rattle.std.specs.Prelude.{◌≡◌, ◌+◌, ◌≤◌, List, ℕ, [], ◌++◌, ◌-◌, length, take, drop};
 ghost use Rattle.decimal.specs.Decimal.{decimal_of};
 ghost use Rattle.sentence.specs.Text.{ascii};
+ghost use Rattle.octets.specs.Octets.{zeros};
+ghost use Rattle.sentence.specs.Sentence.{padded};
 ghost use Rattle.sentence.specs.Words.{reason};
 ghost use Rattle.sentence_words.specs.Kind.{kind_text};
 ghost use Rattle.sentence_words.specs.declared.TheConstants.{ROOM};
 
-use sentence::Subject;
+use sentence::{SENTENCE, Subject};
 use std::marker::Model;
 
-// A sentence takes at most 200 bytes, and a number is written where 20 are free.
-pub const ROOM: usize = 256;
+// A sentence takes at most 200 bytes, and a number is written where 20 are free. With their length these are 256 bytes, which the compiler
+// sets to zero in place: for more it makes a call of memset, and the archive for C may call memcpy alone.
+pub const ROOM: usize = 248;
 
-// The bytes written so far.
+// The bytes written so far, and zeros behind them, which are a sentence's padding.
 #[derive(Drop)]
 pub struct Text {
     bytes: [u8; ROOM],
@@ -28,7 +31,7 @@ impl Model for Text {
 
     ghost view = { λ t. take t.len t.bytes };
 
-    ghost invariant = { λ t. t.len ≤ ROOM };
+    ghost invariant = { λ t. (t.len ≤ ROOM) × (drop t.len t.bytes ≡ zeros (ROOM - t.len)) };
 }
 
 impl Text {
@@ -41,10 +44,12 @@ impl Text {
         }
     }
 
-    pub fn as_bytes(&self) -> &[u8]
-        ensures { result.now ≡ self.now }
+    // With zeros up to the size of a sentence's buffer.
+    pub fn as_padded(&self) -> &[u8]
+        requires { length self.now ≤ SENTENCE }
+        ensures { result.now ≡ padded self.now }
     {
-        &self.bytes[..self.len]
+        &self.bytes[..SENTENCE]
     }
 
     pub fn words(&mut self, words: &[u8])

@@ -23,7 +23,6 @@ pub fn write(out: &mut [u8], said: Said) -> Result<(), Refusal>
     }
     let mut text = Text::new();
     sentences::put(&mut text, said);
-    out.fill(0);
-    octets::put(out, 0, text.as_bytes());
+    octets::put(out, 0, text.as_padded());
     Ok(())
 }
