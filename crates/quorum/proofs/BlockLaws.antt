@@ -1,12 +1,11 @@
 -- The blocks hashed for a certificate (document 02 [2]): of one receipt, by whether a member has its keeper number; of the first places.
 use mathlib.Core.Path.{◌≡◌, refl, sym, ap, ap₂, ◌∙◌}
-use Prim.Native.Nat.{ℕ, zero, suc, ◌+◌, ◌*◌, ◌/◌, ◌≤◌}
+use Prim.Native.Nat.{ℕ, zero, suc, ◌+◌, ◌*◌, ◌≤◌}
 use native.Mathlib.Numerals.{add-one}
 use native.Mathlib.Omega.{arith}
-use mathlib.Core.Bool.{Bool, true, false, not, ◌&&◌, cond}
+use mathlib.Core.Bool.{Bool, true, false, ◌&&◌, cond}
 use mathlib.Core.List.{List}
-use lib.ListN.{length, take, drop}
-use Rattle.octets.proofs.Parts.{length_part}
+use lib.ListN.{length}
 use Rattle.octets.proofs.Tests.{and-true, and-false}
 use Rattle.receipt.specs.Attestation.{read_attestation}
 use Rattle.receipt.specs.Possible.{possible}
@@ -16,8 +15,8 @@ use Rattle.quorum.specs.Bits.{sum_below}
 use Rattle.roster.specs.Roster.{size, is_member, member}
 use Rattle.quorum.specs.Certificate.{receipt_at, receipt_blocks}
 use Rattle.quorum.specs.Tally.{blocks_below}
-use Rattle.std.specs.Prelude.{Option, Some, None, is_some}
-use Rattle.roster.proofs.RosterLaws.{is_some-member, member_below}
+use Rattle.std.specs.Prelude.{Some, None, is_some}
+use Rattle.roster.proofs.RosterLaws.{is_some-member}
 
 pub receipt-few : (roster r : List ℕ) → receipt_blocks roster r ≤ 6
 unfolding receipt_blocks

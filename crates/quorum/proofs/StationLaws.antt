@@ -2,7 +2,7 @@
 use Prim.Native.Nat.{ℕ}
 use native.Mathlib.Omega.{arith}
 use mathlib.Core.Path.{◌≡◌, ap, ap₂}
-use mathlib.Core.List.{List, [], ◌∷◌}
+use mathlib.Core.List.{List, []}
 use Rattle.std.specs.Prelude.{Ok, Err}
 use Rattle.refusal.proofs.NumberLaws.{number_of-injective}
 use Rattle.refusal.specs.Answer.{Answer}

@@ -12,7 +12,7 @@ ghost use Rattle.receipt.specs.Writer.{name_bytes, fact_bytes, attestation_of, w
 use bigendian::put_number;
 use hmac::tag_of;
 use octets::put;
-use receipt::{Facts, Name, RECEIPT};
+use receipt::{Facts, Name};
 use refusal::{Hashed, Refusal, Refused};
 
 // Stores the name in bytes 0 to 5.

@@ -6,11 +6,12 @@ use native.Mathlib.Nat.{not-suc-le-zero, add-zero}
 use native.Mathlib.Omega.{arith}
 use mathlib.Core.Bool.{Bool, true, false, not, ◌&&◌, cond}
 use mathlib.Core.List.{List, []}
-use lib.ListN.{length, get_or, take}
+use lib.ListN.{length, get_or, take, drop}
 use Rattle.std.proofs.lemmas.List.{get_or-take, length-take-le}
 use Rattle.std.specs.List.{concat}
 use lib.Dec.{eqb}
 use borrow.Author.Tests.{eq-eqb, ne_eqb, eqb-true, eqb-false, not-true}
+use Rattle.octets.proofs.Parts.{length_part}
 use Rattle.octets.proofs.Tests.{and_left, and_right, and_both, and-false, equal_or_not}
 use Rattle.octets.specs.Octets.{part}
 use Rattle.bigendian.specs.BigEndian.{unbe}
@@ -182,6 +183,16 @@ module _ (items : List (List ℕ)) (each : Each 40 items) where
   pub key-item : (i : ℕ) → i < length items → part (get_or items i []) 8 32 ≡ key_at (concat items) i
   unfolding key_at
   key-item i h = sym (part-concat 40 items i 8 32 each h (omega arith))
+
+  -- the key as it is handed over, the bytes from 8 on
+  pub key_handed : (i : ℕ) → i < length items
+      → let x = get_or items i [] in (take (length x - 8) (drop 8 x) ≡ key_at (concat items) i) × (length (take (length x - 8) (drop 8 x)) ≡ 32)
+  key_handed i h =
+      let n = each i h in
+      let x = get_or items i [] in
+      let z : length x - 8 ≡ 32 = omega arith in
+      let e : take (length x - 8) (drop 8 x) ≡ part x 8 32 = ap (λ (m : ℕ). part x 8 m) z in
+      (e ∙ key-item i h, ap length e ∙ length_part x 8 32 (omega arith))
 
   pub size-items : size (concat items) ≡ length items
   unfolding size

@@ -1,5 +1,5 @@
 -- `quorum_certify::certify` meets its contract.
-use Rattle.std.proofs.Common.{◌≡◌, refl, sym, ap, ◌∙◌, arith, Ok, Err}
+use Rattle.std.proofs.Common.{refl, sym, ap, ◌∙◌, arith, Ok, Err}
 use Rattle.refusal.specs.declared.Refusal.TheVariants.{Length, TooFew}
 use Rattle.receipt.proofs.Parsed.{parsed, unparsed}
 use Rattle.roster.specs.Roster.{size}

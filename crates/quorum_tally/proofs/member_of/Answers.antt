@@ -1,17 +1,8 @@
 -- `quorum_tally::member_of` meets its contract.
-use Rattle.std.proofs.Common.{◌≡◌, ℕ, ◌-◌, ◌*◌, ◌<◌, Bool, true, false, List, [], length, take, drop, get_or, eqb, sym, ap, ◌∙◌, refl, arith, Some, None, Option}
+use Rattle.std.proofs.Common.{◌≡◌, ℕ, ◌<◌, Bool, true, false, length, eqb, sym, ◌∙◌, refl, arith, Some, None, Option}
 use Rattle.std.specs.Bool.{then_some}
 use Rattle.std.specs.List.{concat}
-use Rattle.octets.specs.Octets.{part}
-use Rattle.octets.proofs.Parts.{length_part}
-use Rattle.receipt.specs.Attestation.{read_attestation}
-use Rattle.receipt.specs.Verdict.{verdict, carried}
-use Rattle.refusal.specs.Answer.{Answer, answer}
-use Rattle.roster.specs.Roster.{size, key_at, member}
-use Rattle.roster.proofs.OnEnd.{Each}
-use Rattle.roster.proofs.RosterLaws.{member_below, size-items, key-item}
-use Rattle.quorum.specs.Certificate.{asked_of}
-use Rattle.quorum.specs.Tally.{good_member}
+use Rattle.roster.proofs.RosterLaws.{member_below, size-items, key_handed}
 use Rattle.quorum.proofs.BlockLaws.{stranger-blocks, member-blocks}
 use Rattle.quorum.proofs.Good.{of_none, passed_over, other-kind, counted}
 use borrow.Author.Tests.{eqb-true, eqb-false}
@@ -20,15 +11,6 @@ use Rattle.quorum_tally.proofs.member_of.Goals as goal
 
 within : (c : goal.In-Some) → c.in-Some.i < length c.args.roster.now
 within c = (member_below (concat c.args.roster.now) c.keeper_of-keeper.result (length c.args.roster.now) c.in-Some.i (sym c.find.ensures ∙ c.in-Some.is)).0
-
--- the key that is handed over is the member's
-key_is : (roster : List (List ℕ)) → Each 40 roster → (i : ℕ) → i < length roster
-    → let x = get_or roster i [] in (take (length x - 8) (drop 8 x) ≡ key_at (concat roster) i) × (length (take (length x - 8) (drop 8 x)) ≡ 32)
-key_is roster each i h =
-    let n = each i h in
-    let z : length (get_or roster i []) - 8 ≡ 32 = omega arith in
-    let e : take (length (get_or roster i []) - 8) (drop 8 (get_or roster i [])) ≡ part (get_or roster i []) 8 32 = ap (λ (m : ℕ). part (get_or roster i []) 8 m) z in
-    (e ∙ key-item roster each i h, ap length e ∙ length_part (get_or roster i []) 8 32 (omega arith))
 
 -- the kind tells whether the member counts
 by_kind : {A : Type 0} (k one : ℕ) (i : A) {o m : Option A} → one ≡ 1 → o ≡ then_some (eqb k one) i → ((k ≡ 1 → ⊥) → None ≡ m) → (k ≡ 1 → Some i ≡ m) → o ≡ m
@@ -56,7 +38,7 @@ bounds-roster-i c = within (goal.at.bounds-roster-i c).In-Some
 pub returns-in-Ok-clause-member : goal.returns-in-Ok-clause-member
 returns-in-Ok-clause-member c =
     let i = c.in-Some.i in
-    let k = key_is c.args.roster.now c.told-roster i (within (goal.at.returns-in-Ok-clause-member c).In-Some) in
+    let k = key_handed c.args.roster.now c.told-roster i (within (goal.at.returns-in-Ok-clause-member c).In-Some) in
     let v = c.in-Ok.done.value in
     by_kind v.kind _ i c.from.ensures c.then_some.ensures
     (other-kind (concat c.args.roster.now) c.args.nonce.now c.args.log c.args.position c.args.r.now (length c.args.roster.now) c.keeper_of-keeper.result (size-items c.args.roster.now c.told-roster)
@@ -66,18 +48,18 @@ returns-in-Ok-clause-member c =
 
 pub returns-in-Ok-clause-blocks : goal.returns-in-Ok-clause-blocks
 returns-in-Ok-clause-blocks c =
-    let k = key_is c.args.roster.now c.told-roster c.in-Some.i (within (goal.at.returns-in-Ok-clause-blocks c).In-Some) in
+    let k = key_handed c.args.roster.now c.told-roster c.in-Some.i (within (goal.at.returns-in-Ok-clause-blocks c).In-Some) in
     member-blocks (concat c.args.roster.now) c.args.r.now (length c.args.roster.now) (size-items c.args.roster.now c.told-roster) c.keeper_of-keeper.result c.keeper_of-keeper.ensures _ c.args.nonce.now c.in-Some.i
     (sym c.find.ensures ∙ c.in-Some.is) k.1 c.told-nonce c.told-r c.in-Ok.ensures.blocks
 
 pub returns-in-Err-clause-member : goal.returns-in-Err-clause-member
 returns-in-Err-clause-member c =
-    let k = key_is c.args.roster.now c.told-roster c.in-Some.i (within (goal.at.returns-in-Err-clause-member c).In-Some) in
+    let k = key_handed c.args.roster.now c.told-roster c.in-Some.i (within (goal.at.returns-in-Err-clause-member c).In-Some) in
     passed_over (concat c.args.roster.now) c.args.nonce.now c.args.log c.args.position c.args.r.now (length c.args.roster.now) c.keeper_of-keeper.result (size-items c.args.roster.now c.told-roster)
     c.keeper_of-keeper.ensures c.in-Some.i _ (sym c.find.ensures ∙ c.in-Some.is) k.0 c.in-Err.refused.why c.in-Err.ensures.answer
 
 pub returns-in-Err-clause-blocks : goal.returns-in-Err-clause-blocks
 returns-in-Err-clause-blocks c =
-    let k = key_is c.args.roster.now c.told-roster c.in-Some.i (within (goal.at.returns-in-Err-clause-blocks c).In-Some) in
+    let k = key_handed c.args.roster.now c.told-roster c.in-Some.i (within (goal.at.returns-in-Err-clause-blocks c).In-Some) in
     member-blocks (concat c.args.roster.now) c.args.r.now (length c.args.roster.now) (size-items c.args.roster.now c.told-roster) c.keeper_of-keeper.result c.keeper_of-keeper.ensures _ c.args.nonce.now c.in-Some.i
     (sym c.find.ensures ∙ c.in-Some.is) k.1 c.told-nonce c.told-r c.in-Err.ensures.blocks

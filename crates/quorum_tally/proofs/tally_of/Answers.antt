@@ -1,6 +1,6 @@
 -- `quorum_tally::tally_of` meets its contract.
 use Rattle.std.specs.List.{concat}
-use Rattle.std.proofs.Common.{ℕ, ◌+◌, ◌<◌, length, length-set, refl, ap, ◌∙◌, arith, not-suc-le-zero}
+use Rattle.std.proofs.Common.{ℕ, ◌+◌, length-set, refl, ap, ◌∙◌, arith, not-suc-le-zero}
 use Rattle.quorum.specs.Tally.{good_member}
 use Rattle.quorum.proofs.BlockLaws.{blocks_start, blocks_step, blocks-few, receipt-few}
 use Rattle.quorum.proofs.Piles.{receipt-of}

@@ -2,9 +2,7 @@
 use Rattle.roster.specs.Roster.{size}
 use Rattle.roster.proofs.OnEnd.{cut, nothing_left, something_left}
 use Rattle.roster.proofs.RosterLaws.{no_items, other-size, of-items}
-use Rattle.std.specs.Bool.{◌==◌}
-use Rattle.std.proofs.Common.{◌≡◌, ℕ, ◌%◌, Bool, true, length, sym, ◌∙◌}
-use borrow.Author.Tests.{eqb-true, eqb-false}
+use Rattle.std.proofs.Common.{◌%◌, length, sym, ◌∙◌}
 use Rattle.roster.proofs.items.Goals.{else-is_empty-via-then-is_empty+then-items-members+else-are_distinct, else-is_empty-via-then-is_empty+else-items-members, else-is_empty-via-else-is_empty}
 use Rattle.roster.proofs.items.Goals as goal
 

@@ -1,5 +1,5 @@
 -- `quorum::receipts::receipts_in` meets its contract.
-use Rattle.std.proofs.Common.{◌%◌, length, sym, ◌∙◌, arith}
+use Rattle.std.proofs.Common.{◌%◌, length, arith}
 use Rattle.roster.proofs.OnEnd.{cut, nothing_left, something_left}
 use Rattle.quorum.specs.Certificate.{receipt_count}
 use Rattle.quorum.proofs.Tallies.{is-certificate, not-whole_number, too-many}

@@ -1,5 +1,5 @@
 -- `quorum_certify::places::first_place` meets its contract.
-use Rattle.std.proofs.Common.{◌≡◌, ℕ, suc, ◌+◌, ◌-◌, ◌<◌, List, length, refl, sym, ap, ◌∙◌, add-one, arith, Option}
+use Rattle.std.proofs.Common.{◌≡◌, ℕ, suc, ◌+◌, ◌-◌, ◌<◌, List, length, sym, ap, ◌∙◌, add-one, arith, Option}
 use Rattle.std.specs.List.{concat}
 use Rattle.quorum.specs.Tally.{first_in, or_else, tried_at}
 use Rattle.quorum.proofs.Tallies.{first_step, first-none}

@@ -1,5 +1,5 @@
 -- `quorum_certify::places::mask_of` meets its contract.
-use Rattle.std.proofs.Common.{◌≡◌, ap₂, sym, ◌∙◌, arith}
+use Rattle.std.proofs.Common.{ap₂, sym, ◌∙◌, arith}
 use Rattle.std.specs.List.{concat}
 use Rattle.octets.specs.Octets.{same}
 use Rattle.quorum.proofs.Piles.{pair-of}
