@@ -1,0 +1,108 @@
+// The five calls on a table, and those of them that go by survey and reading.
+use crate::report::{changed, ended, found, table_after};
+use a2m_put::advance::advance;
+use a2m_put::append::append;
+use a2m_read::end::end;
+use a2m_read::lookup::lookup;
+use a2m_truncate::truncate;
+use case_fields::Field::{Bytes, Number};
+use case_fields::{Line, SLOT, slot_mut};
+use printing::text;
+use std::io;
+use survey::{Reading, Survey};
+
+pub fn change_line(rt: &impl Print, line: &Line, table: &mut [u8]) -> io::Result<bool> {
+    let answer = match (line.word, line.fields()) {
+        (b"append", [Number(log), Bytes(value)]) => append(table, *log, value.as_slice()),
+        (b"advance", [Number(log), Number(position), Bytes(digest), Bytes(value)]) => {
+            advance(table, *log, *position, digest.as_slice(), value.as_slice())
+        }
+        (
+            b"advance",
+            [
+                Number(log),
+                Number(survey),
+                Number(reading),
+                Bytes(digest),
+                Bytes(value),
+            ],
+        ) => {
+            survey_calls::advance::advance(
+                table,
+                *log,
+                Survey(*survey),
+                Reading(*reading),
+                digest.as_slice(),
+                value.as_slice(),
+            )
+        }
+        (b"truncate", [Number(log), Number(position)]) => truncate(table, *log, *position),
+        (b"close", [Number(log), Number(survey), Bytes(value)]) => {
+            survey_calls::close::close(table, *log, Survey(*survey), value.as_slice())
+        }
+        _ => return Ok(false),
+    };
+    changed(rt, line.word, answer, table)?;
+    Ok(true)
+}
+
+// The receipt goes into a slot of the pile.
+pub fn receipt_line(
+    rt: &impl Print,
+    line: &Line,
+    table: &[u8],
+    pile: &mut [[u8; SLOT]],
+) -> io::Result<bool> {
+    match (line.word, line.fields()) {
+        (
+            b"lookup",
+            [
+                Number(log),
+                Number(position),
+                Bytes(nonce),
+                Number(i),
+                Number(n),
+            ],
+        ) => {
+            let receipt = slot_mut(rt, pile, *i, *n)?;
+            let answer = lookup(table, *log, *position, nonce.as_slice(), receipt);
+            found(rt, answer, receipt, table)?;
+        }
+        (
+            b"lookup",
+            [
+                Number(log),
+                Number(survey),
+                Number(reading),
+                Bytes(nonce),
+                Number(i),
+                Number(n),
+            ],
+        ) => {
+            let receipt = slot_mut(rt, pile, *i, *n)?;
+            let answer = survey_calls::lookup::lookup(
+                table,
+                *log,
+                Survey(*survey),
+                Reading(*reading),
+                nonce.as_slice(),
+                receipt,
+            );
+            found(rt, answer, receipt, table)?;
+        }
+        (b"answer", [Number(log), Bytes(nonce), Number(i), Number(n)]) => {
+            let receipt = slot_mut(rt, pile, *i, *n)?;
+            let answer = end(table, *log, nonce.as_slice(), receipt);
+            ended(rt, answer, receipt)?;
+        }
+        (b"end", [Number(log), Bytes(nonce), Number(i), Number(n)]) => {
+            let receipt = slot_mut(rt, pile, *i, *n)?;
+            let answer = end(table, *log, nonce.as_slice(), receipt);
+            text(rt, b"end")?;
+            ended(rt, answer, receipt)?;
+            table_after(rt, table)?;
+        }
+        _ => return Ok(false),
+    }
+    Ok(true)
+}
