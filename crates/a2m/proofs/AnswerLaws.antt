@@ -6,7 +6,6 @@ use mathlib.Core.Option.{some}
 use native.Mathlib.Omega.{arith}
 use Rattle.refusal.specs.Number.{number_of}
 use Rattle.refusal.proofs.NumberLaws.{number_of-injective}
-use Rattle.refusal.specs.declared.Refusal.{Refusal}
 use Rattle.refusal.specs.declared.Hashed.{Hashed}
 use Rattle.refusal.specs.declared.Refused.{Refused}
 use Rattle.refusal.specs.Work.{worked_blocks}

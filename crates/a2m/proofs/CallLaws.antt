@@ -24,7 +24,7 @@ use Rattle.layout.proofs.TestLaws.{and-not}
 use Rattle.layout.specs.Changes.{advanced_row, appended_row, truncated_row}
 use Rattle.layout.proofs.TableLaws.{length-rows}
 use Rattle.a2m.specs.declared.View.{View}
-use Rattle.std.specs.Prelude.{Result, Ok, Err}
+use Rattle.std.specs.Prelude.{Ok, Err}
 use Rattle.a2m.specs.Call.{Call, append, advance, truncate, log_of, Reply, refused, done}
 use Rattle.entry.specs.Digest.{entry_digest}
 use Rattle.a2m.specs.NewEntry.{new_entry}

@@ -21,7 +21,6 @@ use Rattle.layout.proofs.HoldsLaws.{Holds, holds-counted, holds_row, holds-slot,
 use Rattle.table.specs.Chains.{chain, last_of}
 use Rattle.table.specs.Free.{free_chain, joint, write_table}
 use Rattle.a2m.specs.declared.View.{View}
-use Rattle.a2m.specs.Call.{done}
 use Rattle.a2m.specs.ImageCalls.{row_in, entries_in, joined, put}
 use Rattle.a2m.specs.Opened.{Opened, hooked, last_after, entry_at}
 use Rattle.table.proofs.Links.{slot_at-other, chain_links}

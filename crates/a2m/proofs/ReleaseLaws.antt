@@ -24,7 +24,6 @@ use Rattle.table.proofs.ReserveLaws.{whole-linked}
 use Rattle.table.specs.Chains.{chain, last_of, positions_of, entries_of}
 use Rattle.table.specs.Free.{free_chain, joint, stock_in, write_table}
 use Rattle.a2m.specs.declared.View.{View}
-use Rattle.a2m.specs.Call.{done}
 use Rattle.a2m.specs.ImageCalls.{row_in, entries_in, first_of, joined, release, releases, lowered}
 use Rattle.a2m.specs.Opened.{Opened, joined_at}
 use Rattle.table.proofs.Lists.{In, in-last, last_of_snoc}

@@ -13,6 +13,7 @@ use layout_slots::link_at;
 use receipt::Kind;
 
 // From the chain's first slot up to the first entry at n or above, which the receipt shows; each slot on the way is one examined.
+// The walk is a loop and no iterator: a slot names its next, and each way out is another answer, so an iterator would be no shorter.
 fn search(table: &[u8], counts: Counts, log: usize, first: usize, n: u64) -> Hit
     requires counted { Counted table.now counts.logs counts.slots }
     requires first_value { reaches (read_table table.now).slots (suc log) first ≡ true }

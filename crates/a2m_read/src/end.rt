@@ -44,12 +44,7 @@ fn end_open(table: &[u8], view: View, nonce: &[u8; 32], receipt: &mut [u8; 160])
 }
 
 // Writes a receipt of the log's last entry, or that it has none yet.
-pub fn end(
-    table: &[u8],
-    log: u64,
-    nonce: &[u8],
-    receipt: &mut [u8],
-) -> Result<Hashed<()>, Refused>
+pub fn end(table: &[u8], log: u64, nonce: &[u8], receipt: &mut [u8]) -> Result<Hashed<()>, Refused>
     ensures { Ended (table_step table.now (ends log nonce.now (length receipt.old))) result receipt.old receipt.new }
 {
     let nonce = nonce.as_array::<32>().ok_or(Refusal::Length)?;

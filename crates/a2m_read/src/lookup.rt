@@ -56,7 +56,8 @@ pub fn lookup_sized(
     lookup_open(table, view, position, nonce, receipt)
 }
 
-// Writes a receipt of what stands at a position of a log.
+// Writes a receipt of what stands at a position of a log. Like a2m_put's advance it parses two lengths and hands on; the arguments, the answer
+// and the call are others.
 pub fn lookup(
     table: &[u8],
     log: u64,

@@ -26,7 +26,8 @@ const SURVEYS: u64 = 16777216;
 
 const READINGS: u64 = 1099511627776;
 
-// The position of a reading of a survey. Refused with 18: a number too wide for its part.
+// The position of a reading of a survey. Refused with 18: a number too wide for its part. The two are given one by one and not as a
+// Place: a close has a survey alone, and C passes numbers.
 pub fn pack(survey: Survey, reading: Reading) -> Result<Packed, Refusal>
     ensures { packing_answer result ≡ packing survey.0 reading.0 }
 {
@@ -40,9 +41,10 @@ pub fn pack(survey: Survey, reading: Reading) -> Result<Packed, Refusal>
 pub fn split(position: Packed) -> Place
     ensures { (result.survey.0 ≡ survey_of position.0) × (result.reading.0 ≡ reading_of position.0) }
 {
+    let n = position.0;
     Place {
-        survey: Survey(position.0 / READINGS),
-        reading: Reading(position.0 % READINGS),
+        survey: Survey(n / READINGS),
+        reading: Reading(n % READINGS),
     }
 }
 

@@ -7,7 +7,6 @@ use Rattle.layout.specs.Layout.{read_table}
 use Rattle.layout.specs.Image.{Entry}
 use Rattle.a2m.proofs.SearchLaws.{is-unassigned, is-forgotten, is-searched}
 use Rattle.a2m.proofs.OpenedLaws.{opened-counted, opened-reaches, entries-are}
-use native.Mathlib.Omega.{arith}
 use mathlib.Core.Path.{ap, ◌∙◌}
 use Rattle.a2m_attest.proofs.search.find.Goals as goal
 

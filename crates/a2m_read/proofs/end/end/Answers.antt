@@ -1,7 +1,5 @@
 -- `a2m_read::end::end` meets its contract. Assumes nothing.
-use Prim.Native.Nat.{ℕ}
-use mathlib.Core.Path.{◌≡◌, refl, ap, ap₂}
-use mathlib.Core.List.{List}
+use mathlib.Core.Path.{◌≡◌, refl}
 use lib.ListN.{length}
 use Rattle.a2m.specs.Call.{end}
 use Rattle.a2m.specs.TableCalls.{table_step}

@@ -1,7 +1,5 @@
 -- `a2m_read::lookup::lookup` meets its contract. Assumes nothing.
-use Prim.Native.Nat.{ℕ}
-use mathlib.Core.Path.{◌≡◌, refl, ap}
-use mathlib.Core.List.{List}
+use mathlib.Core.Path.{◌≡◌, refl}
 use lib.ListN.{length}
 use Rattle.a2m.specs.Call.{lookup}
 use Rattle.a2m.specs.TableCalls.{table_step}

@@ -1,5 +1,5 @@
 -- `survey_calls::advance::advance` meets its contract. Assumes nothing.
-use mathlib.Core.Path.{◌≡◌, refl, subst, ap₂}
+use mathlib.Core.Path.{◌≡◌, refl, ap₂}
 use Rattle.a2m.specs.Call.{advance}
 use Rattle.a2m.specs.TableCalls.{table_step}
 use Rattle.refusal.specs.declared.Refusal.TheVariants as why

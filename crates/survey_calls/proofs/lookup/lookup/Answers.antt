@@ -1,7 +1,5 @@
 -- `survey_calls::lookup::lookup` meets its contract. Assumes nothing.
-use mathlib.Core.Path.{◌≡◌, refl, ap}
-use mathlib.Core.List.{List}
-use Prim.Native.Nat.{ℕ}
+use mathlib.Core.Path.{◌≡◌, refl}
 use lib.ListN.{length}
 use Rattle.a2m.specs.Call.{lookup}
 use Rattle.a2m.specs.TableCalls.{table_step}
