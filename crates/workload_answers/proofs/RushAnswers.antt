@@ -1,4 +1,5 @@
 -- A rush is a script that the script program takes: its format is accepted, and no line is answered 1, 2, 8 or 15.
+use Rattle.std.specs.Prelude.{Some}
 use Prim.Native.Nat.{ℕ, zero, suc, ◌<◌, ◌^◌}
 use mathlib.Core.Path.{◌≡◌, refl, sym, ap, ap₂, subst, ◌∙◌}
 use mathlib.Core.List.{List, [], ◌∷◌, map}
@@ -102,7 +103,7 @@ call-log (Lookup g p) h = h.0
 call-log (End g) h = h
 
 module _ (T : List ℕ) where
-  draw-answer : (d : Draw) → command_answer T (command_for d) [] ≡ call_answer T (call_for d)
+  draw-answer : (d : Draw) → command_answer T (Some (command_for d)) [] ≡ call_answer T (call_for d)
   unfolding command_answer
   draw-answer (Append g v) = refl
   draw-answer (Advance g p m v) = refl
@@ -110,7 +111,7 @@ module _ (T : List ℕ) where
   draw-answer (Lookup g p) = refl
   draw-answer (End g) = refl
 
-  draw-table : (d : Draw) → command_table T (command_for d) [] ≡ (table_step T (call_for d)).state
+  draw-table : (d : Draw) → command_table T (Some (command_for d)) [] ≡ (table_step T (call_for d)).state
   unfolding command_table
   draw-table (Append g v) = refl
   draw-table (Advance g p m v) = refl
