@@ -63,21 +63,23 @@ module _ (old : List ℕ) (logs slots : ℕ) (c : Counted01 old logs slots) wher
     fits = whole01-fits old bytes e
 
     -- the slots' bytes stay as they are
-    slots-bytes : take (length old - row_offset_in plan01 logs) (drop (row_offset_in plan01 logs) old) ≡ flat slot_bytes m.slots
+    slots-bytes : (from : ℕ) → from ≡ row_offset_in plan01 logs → take (length old - from) (drop from old) ≡ flat slot_bytes m.slots
     unfolding m read01 cells_of01
-    slots-bytes =
+    slots-bytes from f =
         let w : Whole01 old = (whole01-exactly old).0 e in
         let n : length old - row_offset_in plan01 logs ≡ slot_size * slots = omega (arith, c.sized) in
-        ap (λ (k : ℕ). take k (drop (row_offset_in plan01 logs) old)) n
+        ap (λ (a : ℕ). take (length old - a) (drop a old)) f
+        ∙ ap (λ (k : ℕ). take k (drop (row_offset_in plan01 logs) old)) n
         ∙ ap₂ (λ (g s : ℕ). part old (row_offset_in plan01 g) (slot_size * s)) c.logs-are c.slots-are
         ∙ sym (cells-bytes old (row_offset_in plan01 (logs_of old)) (slots_of old) bytes w.sized w.pads)
 
     -- header and rows lent one after the other, then the slots put
     pub carry-written : (o h r : List ℕ) (free last : ℕ) → length o ≡ table_size logs slots → length (free_chain (read01 old)) ≡ free → last_of (free_chain (read01 old)) ≡ last
         → h ≡ header_bytes logs slots (keeper_of old) (free_of old) (stocked free last) (key_of old) → r ≡ flat row_bytes (read01 old).rows
-        → splice (put_mid header_size (row_offset logs - header_size) (put_mid 0 header_size o h) r) (row_offset logs) (take (length old - row_offset_in plan01 logs) (drop (row_offset_in plan01 logs) old)) ≡ write_table (read01 old)
+        → (from : ℕ) → from ≡ row_offset_in plan01 logs
+        → splice (put_mid header_size (row_offset logs - header_size) (put_mid 0 header_size o h) r) (row_offset logs) (take (length old - from) (drop from old)) ≡ write_table (read01 old)
     unfolding write_table m read01
-    carry-written o h r free last z f l eh er =
+    carry-written o h r free last z f l eh er from w =
         let g : length m.rows ≡ logs = count in
         let n : length m.slots ≡ slots = length_slots01 old ∙ sym c.slots-are in
         let k : length (key_of old) ≡ 32 = fits.key in
@@ -90,4 +92,4 @@ module _ (old : List ℕ) (logs slots : ℕ) (c : Counted01 old logs slots) wher
         ∙ ap₂ (λ (i j : ℕ). splice o 0 (header_bytes i j (keeper_of old) (free_of old) (stocked free last) (key_of old))) (sym g) (sym n)
         ∙ ap₂ (λ (i j : ℕ). splice o 0 (header_bytes (length m.rows) (length m.slots) (keeper_of old) (free_of old) (stocked i j) (key_of old))) (sym f) (sym l))
         (put_back o₁ r (flat row_bytes m.rows) header_size (row_size * logs) er lr)
-        (ap₂ (λ (i : ℕ) (x : List ℕ). splice o₂ (row_offset i) x) (sym g) slots-bytes)
+        (ap₂ (λ (i : ℕ) (x : List ℕ). splice o₂ (row_offset i) x) (sym g) (slots-bytes from w))

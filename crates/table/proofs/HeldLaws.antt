@@ -13,6 +13,7 @@ use lib.Seq.{drop-cons}
 use Rattle.layout.specs.declared.Row.{Row}
 use Rattle.layout.specs.Image.{Slot, Image, row_at, fresh_row}
 use Rattle.table.specs.declared.Met.{Met}
+use Rattle.table.specs.Forms.{Modest}
 use Rattle.table.specs.Chains.{chain, last_of}
 use Rattle.table.specs.Reserve.{lack_in, lack_from, lack_but, lack_all}
 use Rattle.table.specs.Walks.{walk_of, held_of, held_walk, row_walk}
@@ -111,12 +112,6 @@ own-most g log lack = go (eqb g log)
     go : (t : Bool) {own : ℕ} → own ≡ cond t 0 lack → own ≤ lack
     go true e = omega arith
     go false e = omega arith
-
--- a table of so many logs, no more than 800 slots, and reserves of two bytes
-pub record Modest (m : Image) (logs : ℕ) : Type 0 where
-  pub rows : length m.rows ≡ logs
-  pub slots : length m.slots ≤ 800
-  pub reserves : (g : ℕ) → (row_at m.rows g).reserve < 65536
 
 -- the rows before log g: what their chains hold, and what they lack
 pub record HeldTurn (m : Image) (logs log g held lack others : ℕ) : Type 0 where

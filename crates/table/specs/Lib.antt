@@ -3,6 +3,7 @@ pub mod Chains
 pub mod Conditions
 pub mod Conditions01
 pub mod Format
+pub mod Forms
 pub mod Free
 pub mod Reserve
 pub mod Screen

@@ -16,7 +16,7 @@ ghost use Rattle.table.specs.Walks.{walk_of};
 ghost use Rattle.table.specs.Whole01.{whole01};
 ghost use Rattle.table.specs.Carry.{carry_refusal, carry_bytes};
 
-use crate::old::{HEADER01, ROW01, header01_counts, held01_walk, row01_at};
+use crate::old::{Old, header01_counts};
 use layout::places::{HEADER, ROW};
 use layout::{Counts, Free};
 use layout_header::{Header, counts_of, free_of, keeper_of, key_of, write_header};
@@ -24,21 +24,22 @@ use layout_rows::write_row;
 use layout_slots::Cells;
 use refusal::{Hashed, Refusal, Refused};
 use table::Met;
-use table_walks::free_walk;
+use table_walks::{Form, free_walk, held_walk};
 
 // Inner: whether a table is whole by document 01's own test; and if so, how many slots are free, and the last of the free chain.
 pub fn check01(old: &[u8]) -> Option<Met>
     ensures { result ≡ walk_of (whole01 old.now) (free_chain (read01 old.now)) }
 {
     let counts = header01_counts(old)?;
+    let start = Old::start(counts.logs);
     let cells = Cells {
         table: old,
-        start: HEADER01 + ROW01 * counts.logs,
+        start,
         slots: counts.slots,
     };
     let first = free_of(old, Free::First);
     let free = free_walk(cells, first)?;
-    let all = held01_walk(old, counts)?;
+    let all = held_walk::<Old>(old, counts, 0)?;
     if counts.slots < all.held || free.count != counts.slots - all.held {
         return None;
     }
@@ -53,7 +54,7 @@ fn fill_rows(part: &mut [u8], old: &[u8], counts: Counts)
 {
     for g in 0..counts.logs {
         let at = ROW * g;
-        write_row(&mut part[at..at + ROW], row01_at(old, counts, g));
+        write_row(&mut part[at..at + ROW], Old::row_at(old, counts, g));
     }
 }
 
@@ -67,7 +68,7 @@ fn fill(table: &mut [u8], old: &[u8], counts: Counts, free: Met)
 {
     let rows = HEADER;
     let start = rows + ROW * counts.logs;
-    let from = HEADER01 + ROW01 * counts.logs;
+    let from = Old::start(counts.logs);
     let header = Header {
         counts,
         keeper: keeper_of(old),

@@ -1,22 +1,18 @@
 // Tables of document 01's layout, read: the header's tests, a row, and the logs' chains. Their counts, first free slot, keeper
 // number and key stand where the present header has them.
-ghost use Rattle.std.specs.Prelude.{◌≡◌, ◌≤◌, ◌<◌, length};
-ghost use Rattle.layout.specs.Image.{row_at};
+ghost use Rattle.std.specs.Prelude.{◌≡◌, ◌≤◌, length};
 ghost use Rattle.layout.specs.Layout.{plan01, header_size};
-ghost use Rattle.layout.specs.Layout01.{read_row01, read01};
-ghost use Rattle.layout.specs.Fits.{Counted01};
+ghost use Rattle.layout.specs.Layout01.{read_row01};
 ghost use Rattle.layout.specs.Strict.{strict01};
 ghost use Rattle.layout.specs.Tests.{counts_if};
-ghost use Rattle.table.specs.Walks.{held_walk};
 ghost use Rattle.table.specs.Whole01.{constants_fit01, header_fits01};
+ghost use Rattle.table.proofs.ModestLaws.{old-laws};
 
 use bigendian::number_at;
 use layout::places::{HEADER, SLOT};
 use layout::{Counts, Row};
 use layout_header::{counts_of, in_range};
-use layout_slots::Cells;
-use table::Holding;
-use table_walks::row_walk;
+use table_walks::Form;
 
 // The mark, "A2MT", as a big-endian number.
 const MARK01: u64 = 0x4132_4D54;
@@ -67,35 +63,22 @@ fn read_row01(part: &[u8]) -> Row
     }
 }
 
-// The row of log g.
-pub fn row01_at(old: &[u8], counts: Counts, g: usize) -> Row
-    requires counted01 { Counted01 old.now counts.logs counts.slots }
-    requires g_lt_logs { g < counts.logs }
-    ensures { result ≡ row_at (read01 old.now).rows g }
-{
-    let at = HEADER01 + ROW01 * g;
-    read_row01(&old[at..at + ROW01])
-}
+// Document 01's layout.
+pub struct Old;
 
-// The chains of all logs. Logs without reserves lack nothing.
-pub fn held01_walk(old: &[u8], counts: Counts) -> Option<Holding>
-    requires { Counted01 old.now counts.logs counts.slots }
-    ensures { result ≡ held_walk (strict01 old.now) 0 }
-{
-    let cells = Cells {
-        table: old,
-        start: HEADER01 + ROW01 * counts.logs,
-        slots: counts.slots,
-    };
-    let mut held = 0;
-    for g in 0..counts.logs {
-        let row = row01_at(old, counts, g);
-        let met = row_walk(cells, g, row)?;
-        held += met.count;
+impl Form for Old {
+    ghost places = { plan01 };
+
+    ghost image = { strict01 };
+
+    ghost laws = { old-laws };
+
+    fn start(logs: usize) -> usize {
+        HEADER01 + ROW01 * logs
     }
-    Some(Holding {
-        held,
-        lack: 0,
-        others: 0,
-    })
+
+    fn row_at(table: &[u8], counts: Counts, g: usize) -> Row {
+        let at = HEADER01 + ROW01 * g;
+        read_row01(&table[at..at + ROW01])
+    }
 }

@@ -15,7 +15,7 @@ use layout_header::{free_of, header_counts};
 use layout_slots::Cells;
 use refusal::Refusal;
 use table::Whole;
-use table_walks::{free_walk, held_walk};
+use table_walks::{Present, free_walk, held_walk};
 
 // What the check finds of a table, if it is whole.
 fn found(table: &[u8], log: u64) -> Option<Whole>
@@ -30,7 +30,7 @@ fn found(table: &[u8], log: u64) -> Option<Whole>
     };
     let first = free_of(table, Free::First);
     let free = free_walk(cells, first)?;
-    let all = held_walk(table, counts, log)?;
+    let all = held_walk::<Present>(table, counts, log)?;
     if counts.slots < all.held
         || free.count != counts.slots - all.held
         || free.count < all.lack

@@ -2,15 +2,16 @@
 // make the test of it. The slots are given as they stand, so that the chains of document 01's layout are walked by the same code.
 #![tactic(auto)]
 
+mod form;
+
 ghost use Rattle.std.specs.Prelude.{◌≡◌, cond, ◌≤◌, ◌<◌, eqb};
-ghost use Rattle.layout.specs.Fits.{Counted};
-ghost use Rattle.layout.specs.Strict.{strict_from, strict_table};
+ghost use Rattle.layout.specs.Fits.{CountedIn};
+ghost use Rattle.layout.specs.Strict.{strict_from};
 ghost use Rattle.table.specs.Walks.{free_walk, held_walk, row_walk, started_walk};
 ghost use Rattle.table.specs.WholeImage.{fresh};
 
-use layout::places::row_offset;
+pub use form::{Form, Present};
 use layout::{Counts, Row};
-use layout_rows::row_at;
 use layout_slots::Cells;
 use table::{Holding, Met};
 
@@ -95,11 +96,11 @@ fn unless_own(g: usize, log: u64, lack: usize) -> usize
 }
 
 // The chains of all logs of a table, with what they lack of their reserves, and what all but the given log lack.
-pub fn held_walk(table: &[u8], counts: Counts, log: u64) -> Option<Holding>
-    requires { Counted table.now counts.logs counts.slots }
-    ensures { result ≡ held_walk (strict_table table.now) log }
+pub fn held_walk<F: Form>(table: &[u8], counts: Counts, log: u64) -> Option<Holding>
+    requires { CountedIn F.places table.now counts.logs counts.slots }
+    ensures { result ≡ held_walk (F.image table.now) log }
 {
-    let start = row_offset(counts.logs);
+    let start = F::start(counts.logs);
     let cells = Cells {
         table,
         start,
@@ -109,7 +110,7 @@ pub fn held_walk(table: &[u8], counts: Counts, log: u64) -> Option<Holding>
     let mut lack = 0;
     let mut others = 0;
     for g in 0..counts.logs {
-        let row = row_at(table, counts, g);
+        let row = F::row_at(table, counts, g);
         let met = row_walk(cells, g, row)?;
         let short = row.reserve.saturating_sub(met.count);
         held += met.count;

@@ -1,9 +1,11 @@
 -- `table_carry::check01` meets its contract.
-use Rattle.std.proofs.Common.{arith, refl, ◌∙◌}
-use Rattle.layout.specs.Layout.{plan01, row_offset_in}
+use Rattle.std.proofs.Common.{ℕ, ap, ◌∙◌}
+use Rattle.layout.specs.Layout.{plan01}
 use Rattle.layout.specs.Fits.{Counted01}
 use Rattle.layout.proofs.CellLaws.{slotted}
 use Rattle.layout.proofs.HeaderLaws.{fits_true, fits_false}
+use Rattle.layout.specs.Strict.{strict_from}
+use Rattle.table.specs.Walks.{free_walk}
 use Rattle.table.specs.Whole01.{header_fits01}
 use Rattle.table.proofs.HeaderLaws01.{counted01, header-long01}
 use Rattle.table.proofs.CheckLaws01.{Walked01, torn-header01, torn-free01, torn-held01, torn-over01, torn-total01, is-whole01}
@@ -20,33 +22,31 @@ walked c =
       counted = counts (goal.at.In_ok-all c).In_ok-counts;
       first = c.free_of-first.result;
       is = c.free_of-first.ensures.0;
-      free = c.in_ok-free.ensures;
+      free = c.in_ok-free.ensures ∙ ap (λ (a : ℕ). free_walk (strict_from c.args.old.now a c.in_ok-counts.counts.slots) c.free_of-first.result) c.start-start.ensures;
       chains = c.in_ok-all.ensures;
     }
 
 pub returns-in_err-counts : goal.returns-in_err-counts
 returns-in_err-counts c = let b = c.args.old.now in c.from_residual.ensures ∙ torn-header01 b (fits_false b (header_fits01 b) c.in_err-counts.ensures)
 
-pub overflow_mul-cells : goal.overflow_mul-cells
-overflow_mul-cells c = let f = counts (goal.at.overflow_mul-cells c).In_ok-counts in omega (arith, f.logs-most)
-
-pub overflow_add-cells : goal.overflow_add-cells
-overflow_add-cells c = let f = counts (goal.at.overflow_add-cells c).In_ok-counts in omega (arith, f.logs-most)
+pub start-start-requires : goal.start-start-requires
+start-start-requires c = let f = counts (goal.at.start-start-requires c).In_ok-counts in f.logs-most
 
 pub free_of-first-requires : goal.free_of-first-requires
 free_of-first-requires c = let b = c.args.old.now in header-long01 b (fits_true b (header_fits01 b) c.in_ok-counts.counts c.in_ok-counts.ensures)
 
 pub invariant_of-cells : goal.invariant_of-cells
-invariant_of-cells c = let n = c.in_ok-counts.counts in record { slotted = slotted plan01 c.args.old.now n.logs n.slots (row_offset_in plan01 n.logs) (counts (goal.at.invariant_of-cells c).In_ok-counts) refl }
+invariant_of-cells c = let n = c.in_ok-counts.counts in record { slotted = slotted plan01 c.args.old.now n.logs n.slots c.start-start.result (counts (goal.at.invariant_of-cells c).In_ok-counts) c.start-start.ensures }
 
 pub returns-in_err-free : goal.returns-in_err-free
 returns-in_err-free c =
     let n = c.in_ok-counts.counts in
     c.from_residual-in_err-free.ensures
-    ∙ torn-free01 c.args.old.now n.logs n.slots (counts (goal.at.returns-in_err-free c).In_ok-counts) c.free_of-first.result c.free_of-first.ensures.0 c.in_err-free.ensures
+    ∙ torn-free01 c.args.old.now n.logs n.slots (counts (goal.at.returns-in_err-free c).In_ok-counts) c.free_of-first.result c.free_of-first.ensures.0
+    (c.in_err-free.ensures ∙ ap (λ (a : ℕ). free_walk (strict_from c.args.old.now a n.slots) c.free_of-first.result) c.start-start.ensures)
 
-pub held01_walk-requires : goal.held01_walk-requires
-held01_walk-requires c = counts (goal.at.held01_walk-requires c).In_ok-counts
+pub held_walk-requires : goal.held_walk-requires
+held_walk-requires c = counts (goal.at.held_walk-requires c).In_ok-counts
 
 pub returns-in_err-all : goal.returns-in_err-all
 returns-in_err-all c =

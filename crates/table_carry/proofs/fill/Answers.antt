@@ -27,6 +27,7 @@ write_header-requires-clause-free_bound c =
     (c.free_of.ensures.1, omega (arith, c.requires.len.0, c.requires.counted01.slots-most), omega (arith, c.requires.len.1, c.requires.counted01.slots-most))
 
 pub returns : goal.returns
-returns c = c.put.ensures
+returns c =
+    c.put.ensures
     ∙ carry-written c.args.old.now c.args.counts.logs c.args.counts.slots c.requires.counted01 (λ i. omega (arith, c.type_inv.old i)) c.requires.value c.args.table.now c.write_header.new.part c.fill_rows.new.part c.args.free.count c.args.free.last c.requires.table_len c.requires.len.0 c.requires.len.1
-    (c.write_header.ensures ∙ header-as (goal.at.returns c).After-key_of) c.fill_rows.ensures
+    (c.write_header.ensures ∙ header-as (goal.at.returns c).After-key_of) c.fill_rows.ensures c.start-from.result c.start-from.ensures

@@ -12,12 +12,12 @@ pub loop-g-init : goal.loop-g-init
 loop-g-init c = rows-begin (read01 c.args.old.now).rows c.args.part.now (c.requires.part_len ∙ ap (λ (n : ℕ). row_size * n) (sym (count c.args.old.now c.args.counts.logs c.args.counts.slots c.requires.counted01)))
 
 pub write_row-requires-clause-row_fits : goal.write_row-requires-clause-row_fits
-write_row-requires-clause-row_fits c = subst RowFits (sym c.row01_at.ensures) (rows_fit01 c.args.old.now (λ i. omega (arith, c.type_inv.old i)) c.loop-g.g)
+write_row-requires-clause-row_fits c = subst RowFits (sym c.row_at.ensures) (rows_fit01 c.args.old.now (λ i. omega (arith, c.type_inv.old i)) c.loop-g.g)
 
 pub loop-g-preserved : goal.loop-g-preserved
 loop-g-preserved c =
     let n = count c.args.old.now c.args.counts.logs c.args.counts.slots c.requires.counted01 in
-    rows-on c.loop-g.invariant c.write_row.new.part c.row01_at.result (omega (arith, c.loop-g-test.true, n)) c.row01_at.ensures c.write_row.ensures
+    rows-on c.loop-g.invariant c.write_row.new.part c.row_at.result (omega (arith, c.loop-g-test.true, n)) c.row_at.ensures c.write_row.ensures
 
 pub returns : goal.returns
 returns c = let n = count c.args.old.now c.args.counts.logs c.args.counts.slots c.requires.counted01 in rows-end c.loop-g.invariant (omega (arith, c.loop-g-test.false, n))

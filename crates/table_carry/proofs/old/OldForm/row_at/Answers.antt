@@ -1,0 +1,7 @@
+-- `table_carry::old::OldForm::row_at` meets its contract.
+use Rattle.std.proofs.Common.{◌∙◌}
+use Rattle.layout.proofs.Layout01Laws.{row_there01}
+use Rattle.table_carry.proofs.old.OldForm.row_at.Goals as goal
+
+pub returns : goal.returns
+returns c = c.read_row01.ensures ∙ row_there01 c.args.table.now c.args.counts.logs c.args.counts.slots c.args.g c.requires.counted c.requires.g_lt_logs
