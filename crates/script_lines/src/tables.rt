@@ -1,9 +1,11 @@
 // The table of a script, and a command carried out on it.
-ghost use Rattle.std.specs.Prelude.{◌≡◌, ◌≤◌, List, ℕ, [], length, take};
+ghost use Rattle.std.specs.Prelude.{◌≡◌, ◌+◌, ◌≤◌, List, ℕ, [], length, take};
+ghost use Rattle.octets.specs.Octets.{splice};
 ghost use Rattle.layout.specs.Layout.{largest};
 ghost use Rattle.line.specs.declared.Command.TheVariants.{Format};
-ghost use Rattle.script.specs.Script.{lent, Turns};
+ghost use Rattle.script.specs.Script.{lent, Turns, answer_text, table_after};
 
+use crate::lines::cells;
 use layout::Counts;
 use layout::places::LARGEST;
 use line::Command;
@@ -90,5 +92,16 @@ impl Table {
             Command::Lookup { log, position } => lookup(table, log, position),
             Command::End { log } => end(table, log),
         }
+    }
+
+    // Answers line number `number` from place `to` on, and does what it says. The place after its answer.
+    pub fn answer(&mut self, out: &mut [u8], to: usize, number: u64, text: &[u8]) -> usize
+        requires { to + 168 ≤ length out.old }
+        ensures table { self.new ≡ table_after self.old text.now }
+        ensures end { result ≡ to + length (answer_text self.old number text.now) }
+        ensures line { out.new ≡ splice out.old to (answer_text self.old number text.now) }
+    {
+        let answer = self.carry_out(line_read::parse(text));
+        line_write::render(out, to, cells(number, answer))
     }
 }
