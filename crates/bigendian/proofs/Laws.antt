@@ -6,7 +6,7 @@ use native.Mathlib.Omega.{arith}
 use mathlib.Core.List.{List, [], ◌∷◌, ◌++◌, append-nil}
 use Rattle.std.proofs.lemmas.List.{take-replicate}
 use lib.Dec.{lit<}
-use lib.ListN.{length, get_or, take, drop, replicate, set, length-append, length-take, length-drop, length-set, length-replicate, drop_of_length-le}
+use lib.ListN.{length, set, take, drop, replicate, length-append, length-take, length-drop, length-replicate, drop_of_length-le}
 use lib.Seq.{take_all, drop_at}
 use borrow.Rule.Slice.PartMut.{put_mid}
 use mir.Syntax.{w64}
@@ -14,7 +14,7 @@ use Rattle.std.specs.Int.{from_be_bytes, to_be_bytes}
 use lib.Arith.{digits_lt, digits_div, mod-mul}
 use lib.Pow.{pow-add}
 use Rattle.octets.specs.Octets.{Bytes, part, splice}
-use Rattle.octets.proofs.Parts.{run, part-run, part-add, length_part, bytes-part, splice-append, splice-byte}
+use Rattle.octets.proofs.Parts.{run, part-run, part-add, length_part, bytes-part, splice-byte}
 use Rattle.bigendian.specs.BigEndian.{be, unbe}
 
 pub base-pos : (w : ℕ) → 0 < 256 ^ w
@@ -99,17 +99,12 @@ be-add (suc v) w n =
 pub be-mod : (w n : ℕ) → be w (n % 256 ^ w) ≡ be w n
 be-mod w n = sym (be-high w (n / 256 ^ w) (n % 256 ^ w)) ∙ ap (be w) (div-add-mod' n (256 ^ w))
 
--- reading: the number that a part makes, from the numbers of its two parts. Every reader's contract is this law at its width
-
+-- the number that a part makes, from the numbers of its two parts
 pub unbe-split : (m n at : ℕ) (l : List ℕ) → at + (m + n) ≤ length l → unbe (part l at (m + n)) ≡ unbe (part l at m) * 256 ^ n + unbe (part l (at + m) n)
 unbe-split m n at l h =
     ap unbe (part-add l at m n)
     ∙ unbe-append (part l at m) (part l (at + m) n)
     ∙ ap (λ (k : ℕ). unbe (part l at m) * 256 ^ k + unbe (part l (at + m) n)) (length_part l (at + m) n (omega arith))
-
-pub unbe-byte : (at : ℕ) (l : List ℕ) → at + 1 ≤ length l → unbe (part l at 1) ≡ get_or l at 0
-unfolding unbe
-unbe-byte at l h = ap unbe (part-run 1 at l h) ∙ omega arith
 
 -- bytes in a part make a number below 256^n
 pub unbe-part-lt : (l : List ℕ) (at n : ℕ) → Bytes l → unbe (part l at n) < 256 ^ n
@@ -122,26 +117,10 @@ unbe-part-lt l at n h =
 pub be-unbe-part : (l : List ℕ) (at n : ℕ) → Bytes l → at + n ≤ length l → be n (unbe (part l at n)) ≡ part l at n
 be-unbe-part l at n h k = ap (λ (i : ℕ). be i (unbe (part l at n))) (sym (length_part l at n k)) ∙ be-unbe (part l at n) (bytes-part l at n h)
 
--- writing: a number's upper bytes and then its lower ones
-
-pub put-split : (v w at n : ℕ) (l : List ℕ) → at + (v + w) ≤ length l → splice (splice l at (be v (n / 256 ^ w))) (at + v) (be w (n % 256 ^ w)) ≡ splice l at (be (v + w) n)
-put-split v w at n l h =
-    let a : List ℕ = be v (n / 256 ^ w) in
-    ap (λ (i : ℕ). splice (splice l at a) (at + i) (be w (n % 256 ^ w))) (sym (length-be v (n / 256 ^ w)))
-    ∙ splice-append l at a (be w (n % 256 ^ w)) (rw (length-be, length-be) h)
-    ∙ ap (splice l at) (ap (λ (t : List ℕ). a ++ t) (be-mod w n) ∙ sym (be-add v w n))
-
+-- one byte stored
 pub put_byte : (at n : ℕ) (l : List ℕ) → at + 1 ≤ length l → set l at (n % 256) ≡ splice l at (be 1 n)
 unfolding be
 put_byte at n l h = splice-byte l at (n % 256) (omega arith) ∙ ap (λ (b : ℕ). splice l at (b % 256 ∷ [])) (sym (div-one n))
-
--- two bytes stored, the narrowest writer
-pub put_two : (at n : ℕ) (l : List ℕ) → at + 2 ≤ length l → set (set l at (n / 256 % 256)) (at + 1) (n % 256) ≡ splice l at (be 2 n)
-put_two at n l h =
-    let k : at + 1 + 1 ≤ length (set l at (n / 256 % 256)) = rw length-set (omega arith) in
-    put_byte (at + 1) n (set l at (n / 256 % 256)) k
-    ∙ ap₂ (λ (a b : List ℕ). splice a (at + 1) b) (put_byte at (n / 256) l (omega arith)) (sym (be-mod 1 n))
-    ∙ put-split 1 1 at n l h
 
 -- the library's numbers of eight bytes, and bytes of a number
 
