@@ -1,7 +1,7 @@
 // Byte slices: equality, zero bytes, and a copy into a part of a lent slice.
 #![tactic(auto)]
 
-ghost use Rattle.std.specs.Prelude.{◌≡◌, ◌+◌, ◌≤◌, ◌<◌, length};
+ghost use Rattle.std.specs.Prelude.{◌≡◌, ◌+◌, ◌≤◌, length};
 ghost use Rattle.octets.specs.Octets.{splice, same, zeros};
 
 // Whether a and b hold the same bytes. All bytes are looked at, so the time does not tell where they differ.
@@ -29,13 +29,6 @@ pub fn put(out: &mut [u8], at: usize, part: &[u8])
     }
 }
 
-// A byte as a number.
-pub fn wide(b: u8) -> u64
-    ensures { (result ≡ b) × (result < 256) }
-{
-    b as u64
-}
-
 // Whether every byte is zero. All bytes are joined, with no branch in the loop.
 pub fn is_zero(s: &[u8]) -> bool
     ensures { result ≡ same s.now (zeros (length s.now)) }
@@ -45,15 +38,4 @@ pub fn is_zero(s: &[u8]) -> bool
         any |= b;
     }
     any == 0
-}
-
-// The bytes of a slice of 32. Put somewhere from here they are a few moves: the compiler knows that a local overlaps nothing, which
-// of two lent slices it has to find out.
-pub fn bytes32(s: &[u8]) -> [u8; 32]
-    requires { length s.now ≡ 32 }
-    ensures { result ≡ s.now }
-{
-    let mut out = [0u8; 32];
-    put(&mut out, 0, &s[0..32]);
-    out
 }
