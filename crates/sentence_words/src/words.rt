@@ -1,4 +1,5 @@
 // The words of a kind and of a refusal, by their numbers: C's calls take any number, and what has no word is unknown.
+// Matches and no arrays of texts: they read as the tables of docs/SENTENCES, without places for the numbers that are not used.
 ghost use Rattle.std.specs.Prelude.{◌≡◌, ◌≤◌, length};
 ghost use Rattle.sentence.specs.Text.{ascii};
 ghost use Rattle.sentence.specs.Words.{word_at, kind_words, refusal_words, reason};
