@@ -1,35 +1,60 @@
 // Comparisons of runs: the answer, and the lent buffer as it is after. It is lent full of bytes ab, and no answer here may
 // change it: a collision of SHA-256 is not to be had.
-use case_fields::{Values, slot, slot_mut};
+use case_fields::Field::{Bytes, Number};
+use case_fields::{Line, SLOT, slot_mut};
 use case_report::{refused, show};
 use printing::{hex, text};
-use runs::Comparison;
+use refusal::{Hashed, Refused};
+use runs::{Comparison, Run};
 use runs_compare::compare;
 use std::io;
 
-fn said(rt: &impl Print, answer: Comparison) -> io::Result<()> {
-    match answer {
-        Comparison::Differ { blocks } => show(rt, b"digests differ, %d blocks\n  ", &[blocks]),
-        Comparison::Agree { blocks } => show(rt, b"agree, %d blocks\n  ", &[blocks]),
-        Comparison::Collision { blocks } => show(rt, b"collision, %d blocks\n  ", &[blocks]),
-        Comparison::Refused { why, blocks } => {
-            refused(rt, b"refused with %d, %d blocks\n  ", why, blocks)
-        }
-    }
+// The buffer is a slot of the pile.
+pub fn compare_line(rt: &impl Print, line: &Line, pile: &mut [[u8; SLOT]]) -> io::Result<bool> {
+    let (
+        b"compare",
+        [
+            Bytes(start),
+            Number(first),
+            Bytes(values),
+            Bytes(other_start),
+            Number(other_first),
+            Bytes(other_values),
+            Number(i),
+            Number(n),
+        ],
+    ) = (line.word, line.fields())
+    else {
+        return Ok(false);
+    };
+    let one = Run {
+        start: start.as_slice(),
+        first: *first,
+        values: values.as_slice(),
+    };
+    let two = Run {
+        start: other_start.as_slice(),
+        first: *other_first,
+        values: other_values.as_slice(),
+    };
+    let buffer = slot_mut(rt, pile, *i, *n)?;
+    let answer = compare(one, two, buffer);
+    said(rt, answer)?;
+    text(rt, b"\n  ")?;
+    hex(rt, buffer)?;
+    text(rt, b"\n")?;
+    Ok(true)
 }
 
-// The buffer is a slot of the pile.
-pub fn compared(rt: &impl Print, v: Values, store: &[u8], pile: &mut [u8]) -> io::Result<()> {
-    let answer = compare(
-        slot(rt, store, 1, v.a)?,
-        v.b,
-        slot(rt, store, 3, v.c)?,
-        slot(rt, store, 4, v.d)?,
-        v.e,
-        slot(rt, store, 6, v.f)?,
-        slot_mut(rt, pile, v.g, v.h)?,
-    );
-    said(rt, answer)?;
-    hex(rt, slot(rt, pile, v.g, v.h)?)?;
-    text(rt, b"\n")
+fn said(rt: &impl Print, answer: Result<Hashed<Comparison>, Refused>) -> io::Result<()> {
+    let done = match answer {
+        Ok(done) => done,
+        Err(why) => return refused(rt, b"refused with %d, %d blocks", why),
+    };
+    let verdict: &[u8] = match done.value {
+        Comparison::Differ => b"digests differ, %d blocks",
+        Comparison::Agree => b"agree, %d blocks",
+        Comparison::Collision => b"collision, %d blocks",
+    };
+    show(rt, verdict, &[done.blocks])
 }

@@ -1,162 +1,165 @@
-// Receipts and certificates. The pile holds receipts, one in a slot, and rosters, four members in a slot.
-use case_fields::{Values, keep, slot};
+// Receipts, one in a slot of the pile: their writing, spoiling and verifying.
+use case_fields::Field::{Bytes, Number};
+use case_fields::{Field, Line, SLOT, slot, slot_mut, write_slot};
 use case_report::{refused, show};
-use equivocation::{Contradiction, find};
 use hmac::tag;
-use octets::wide;
 use printing::text;
-use quorum::Station;
-use quorum_certify::certify;
-use receipt::{Ask, Facts, Name, Question, Verdict};
+use receipt::{Ask, Facts, Name, Question};
 use receipt_verify::verify;
 use receipt_write::write;
-use refusal::Worked;
 use std::io;
 
-// Writes a receipt into a slot of the pile.
-pub fn written(
-    rt: &impl Print,
-    name: Name,
-    v: Values,
-    store: &[u8],
-    pile: &mut [u8],
-) -> io::Result<()> {
-    let mut r = [0u8; 160];
-    let f = Facts {
-        name,
-        kind: (v.b % 256) as u8,
-        log: (v.c % 256) as u8,
-        keeper: v.d,
-        position: v.e,
-        reference: v.f,
+// What a receipt says in numbers. Apart from its other fields: a pattern of ten is too much for the check.
+fn facts_of(name: Name, numbers: &[Field]) -> Option<Facts> {
+    let [
+        Number(kind),
+        Number(log),
+        Number(keeper),
+        Number(position),
+        Number(reference),
+    ] = numbers
+    else {
+        return None;
     };
+    Some(Facts {
+        name,
+        kind: low_byte(*kind),
+        log: low_byte(*log),
+        keeper: *keeper,
+        position: *position,
+        reference: *reference,
+    })
+}
+
+// The receipt of a lookup or of an end, into a slot.
+pub fn write_line(rt: &impl Print, line: &Line, pile: &mut [[u8; SLOT]]) -> io::Result<bool> {
+    let name = match line.word {
+        b"receipt" => Name::Lookup,
+        b"end-receipt" => Name::End,
+        _ => return Ok(false),
+    };
+    let [
+        Number(i),
+        numbers @ ..,
+        Bytes(key),
+        Bytes(nonce),
+        Bytes(value),
+        Bytes(digest),
+    ] = line.fields()
+    else {
+        return Ok(false);
+    };
+    let Some(facts) = facts_of(name, numbers) else {
+        return Ok(false);
+    };
+    let mut receipt = [0; SLOT];
     let answer = write(
-        &mut r,
-        slot(rt, store, 7, v.g)?,
-        f,
-        slot(rt, store, 8, v.h)?,
-        slot(rt, store, 9, v.i)?,
-        slot(rt, store, 10, v.j)?,
+        &mut receipt,
+        key.as_slice(),
+        facts,
+        nonce.as_slice(),
+        value.as_slice(),
+        digest.as_slice(),
     );
-    if let Worked::Refused { why, blocks } = answer {
-        refused(rt, b"? refused: %d, %d blocks\n", why, blocks)?;
+    if let Err(why) = answer {
+        refused(rt, b"? refused: %d, %d blocks\n", why)?;
     }
-    keep(rt, pile, v.a, 0, &r)
+    write_slot(rt, pile, *i, 0, &receipt)?;
+    Ok(true)
+}
+
+pub fn receipt_line(rt: &impl Print, line: &Line, pile: &mut [[u8; SLOT]]) -> io::Result<bool> {
+    match (line.word, line.fields()) {
+        (b"put", [Number(i), Bytes(bytes)]) => write_slot(rt, pile, *i, 0, bytes.as_slice())?,
+        (b"flip", [Number(i), Number(at)]) => flip(rt, slot_mut(rt, pile, *i, 160)?, *at)?,
+        // The tag of a receipt's bytes 0 to 127 anew.
+        (b"tag", [Number(i), Bytes(key)]) => {
+            let mut anew = [0; 32];
+            let _ = tag(key.as_slice(), slot(rt, pile, *i, 128)?, &mut anew);
+            write_slot(rt, pile, *i, 128, &anew)?;
+        }
+        (
+            b"verify",
+            [
+                Number(i),
+                Number(n),
+                Bytes(key),
+                Bytes(nonce),
+                Number(keeper),
+                Number(log),
+                Number(position),
+            ],
+        ) => {
+            let question = Question {
+                keeper: *keeper,
+                log: *log,
+                ask: Ask::Lookup(*position),
+            };
+            let receipt = slot(rt, pile, *i, *n)?;
+            verified(rt, key.as_slice(), receipt, nonce.as_slice(), question)?;
+        }
+        (
+            b"verify",
+            [
+                Number(i),
+                Number(n),
+                Bytes(key),
+                Bytes(nonce),
+                Number(keeper),
+                Number(log),
+            ],
+        ) => {
+            let question = Question {
+                keeper: *keeper,
+                log: *log,
+                ask: Ask::End,
+            };
+            let receipt = slot(rt, pile, *i, *n)?;
+            verified(rt, key.as_slice(), receipt, nonce.as_slice(), question)?;
+        }
+        _ => return Ok(false),
+    }
+    Ok(true)
+}
+
+fn low_byte(n: u64) -> u8 {
+    (n & 0xff) as u8
 }
 
 // Changes the lowest bit of a byte of a receipt.
-pub fn flip(rt: &impl Print, pile: &mut [u8], i: u64, place: u64) -> io::Result<()> {
-    let r = slot(rt, pile, i, 160)?;
-    let at = place as usize;
-    if at < r.len() {
-        let b = r[at] ^ 1;
-        keep(rt, pile, i, place, &[b])
-    } else {
-        text(rt, b"? no such byte\n")
+fn flip(rt: &impl Print, receipt: &mut [u8], at: u64) -> io::Result<()> {
+    match receipt.get_mut(at as usize) {
+        Some(b) => {
+            *b ^= 1;
+            Ok(())
+        }
+        None => text(rt, b"? no such byte\n"),
     }
 }
 
-// Writes the tag of a receipt's bytes 0 to 127 anew.
-pub fn tagged(rt: &impl Print, pile: &mut [u8], i: u64, key: &[u8]) -> io::Result<()> {
-    let mut t = [0u8; 32];
-    let _done = tag(key, slot(rt, pile, i, 128)?, &mut t);
-    keep(rt, pile, i, 128, &t)
-}
-
-pub fn verified(rt: &impl Print, v: Values, store: &[u8], pile: &[u8], ask: Ask) -> io::Result<()> {
-    let q = Question {
-        keeper: v.e,
-        log: v.f,
-        ask,
-    };
-    match verify(
-        slot(rt, store, 3, v.c)?,
-        slot(rt, pile, v.a, v.b)?,
-        slot(rt, store, 4, v.d)?,
-        q,
-    ) {
-        Verdict::Accepted {
-            keeper,
-            log,
-            position,
-            kind,
-            reference,
-            blocks,
-        } => show(
-            rt,
-            b"accepted: keeper %d, log %d, position %d, kind %d, reference %d, %d blocks\n",
-            &[keeper, wide(log), position, wide(kind), reference, blocks],
-        ),
-        Verdict::Refused { why, blocks } => refused(rt, b"refused: %d, %d blocks\n", why, blocks),
-    }
-}
-
-// A certificate of receipts of the pile.
-fn gather(rt: &impl Print, pile: &[u8], places: &[u8], certificate: &mut [u8]) -> io::Result<()> {
-    let mut i: usize = 0;
-    while i < places.len() {
-        keep(
-            rt,
-            certificate,
-            i as u64,
-            0,
-            slot(rt, pile, wide(places[i]), 160)?,
-        )?;
-        i += 1;
-    }
-    Ok(())
-}
-
-pub fn certified(rt: &impl Print, v: Values, store: &[u8], pile: &[u8]) -> io::Result<()> {
-    let mut certificate = [0u8; 5280];
-    gather(rt, pile, slot(rt, store, 8, v.h)?, &mut certificate)?;
-    match certify(
-        v.a,
-        v.b,
-        slot(rt, pile, v.c, v.d)?,
-        slot(rt, store, 5, v.e)?,
-        v.f,
-        v.g,
-        slot(rt, &certificate, 0, v.i)?,
-    ) {
-        Station::Certified {
-            place,
-            mask,
-            blocks,
-        } => show(
-            rt,
-            b"certified: place %d, members %4, %d blocks\n",
-            &[place as u64, mask as u64, blocks],
-        ),
-        Station::Refused { why, blocks } => refused(rt, b"refused: %d, %d blocks\n", why, blocks),
-    }
-}
-
-// The first pair of a pile's receipts that contradict each other.
-pub fn contradicted(rt: &impl Print, v: Values, store: &[u8], pile: &[u8]) -> io::Result<()> {
-    let mut receipts = [0u8; 5280];
-    gather(rt, pile, slot(rt, store, 5, v.e)?, &mut receipts)?;
-    match find(
-        v.a,
-        v.b,
-        slot(rt, pile, v.c, v.d)?,
-        slot(rt, &receipts, 0, v.f)?,
-    ) {
-        Contradiction::Pair {
-            first,
-            second,
-            blocks,
-        } => show(
-            rt,
-            b"pair: places %d and %d, %d blocks\n",
-            &[first as u64, second as u64, blocks],
-        ),
-        Contradiction::Nothing { blocks } => show(rt, b"no pair, %d blocks\n", &[blocks]),
-        Contradiction::Refused { why, blocks } => refused(
-            rt,
-            b"refused: %d, %d blocks\n",
-            why,
-            blocks,
-        ),
+fn verified(
+    rt: &impl Print,
+    key: &[u8],
+    receipt: &[u8],
+    nonce: &[u8],
+    question: Question,
+) -> io::Result<()> {
+    match verify(key, receipt, nonce, question) {
+        Ok(done) => {
+            let said = done.value;
+            show(
+                rt,
+                b"accepted: keeper %d, log %d, position %d, kind %d, reference %d, %d blocks\n",
+                &[
+                    said.keeper,
+                    u64::from(said.log),
+                    said.position,
+                    u64::from(said.kind),
+                    said.reference,
+                    done.blocks,
+                ],
+            )
+        }
+        Err(why) => refused(rt, b"refused: %d, %d blocks\n", why),
     }
 }
