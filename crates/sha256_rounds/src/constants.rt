@@ -2,7 +2,8 @@
 ghost use Rattle.std.specs.Prelude.{◌≡◌, ◌<◌, slice_index};
 ghost use Rattle.sha256.specs.Sha256.{K as Ks};
 
-// They are lent from an array of the caller's: of a constant that is indexed, the compiler keeps two registers for its place.
+// They are lent from an array of the caller's. A const that is indexed is stored anew at each use; of a static table the compiler loads the
+// address anew for a round's constant, 3 % of the instructions of 64 KB.
 #[derive(Drop)]
 pub struct Constants {
     words: [u32; 64],

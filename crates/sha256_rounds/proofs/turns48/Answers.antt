@@ -8,17 +8,7 @@ pub loop-i-init : goal.loop-i-init
 unfolding turns
 loop-i-init c = refl
 
-pub overflow_mul-i : goal.overflow_mul-i
-overflow_mul-i c = rw c.sixteen-step.ensures (omega arith)
-
-pub turns16-s-requires : goal.turns16-s-requires
-turns16-s-requires c = rw c.sixteen-step.ensures (omega arith)
-
 pub loop-i-preserved : goal.loop-i-preserved
 loop-i-preserved c = let e : (c.loop-i.i + 1) * 16 ≡ c.loop-i.i * 16 + 16 = omega arith in
     let at : c.loop-i.i * c.sixteen-step.result ≡ 0 + c.loop-i.i * 16 = rw c.sixteen-step.ensures (omega arith) in
     turns-join (c.loop-i.i * 16) 16 c.args.s0 0 c.loop-i.invariant (c.turns16-s.ensures ∙ ap (turns 16 c.loop-i.s) at) ∙ ap (λ (n : ℕ). turns n c.args.s0 0) (sym e)
-
-pub returns : goal.returns
-returns c = let e : c.loop-i.i ≡ 3 = omega arith in
-    c.loop-i.invariant ∙ ap (λ (i : ℕ). turns (i * 16) c.args.s0 0) e

@@ -1,5 +1,5 @@
 -- `sha256_running::Running::absorb` meets its contract: the part leaves the block unfilled (`short`), or fills it (`fills`).
-use lib.ListN.{length, length-take}
+use lib.ListN.{length}
 use Rattle.sha256_running.proofs.Absorb.{room, short, fills}
 use Rattle.sha256_running.specs.declared.Running.{Running}
 use Rattle.sha256_running.specs.Running.{state_of}
@@ -9,23 +9,12 @@ use mathlib.Core.Path.{◌≡◌, refl, ap, ◌∙◌}
 use Prim.Native.Nat.{ℕ, ◌+◌, ◌-◌, ◌%◌}
 use Rattle.sha256_running.proofs.Running.absorb.Goals as goal
 
-pub put-requires : goal.put-requires
-put-requires c = let size : length c.args.self.block ≡ 64 = omega arith in
-    omega arith
-
 pub returns-then-n-room : goal.returns-then-n-room
 returns-then-n-room c = let s : Running = c.args.self in
     let size : length s.block ≡ 64 = omega arith in
     let n : ℕ = s.count + length c.args.part.now in
     ap (λ (b : List ℕ). state_of (record { chain = s.chain; block = b; count = n; blocks = s.blocks })) c.put.ensures
     ∙ short s c.args.part.now n size (omega arith) (omega arith)
-
-pub slice_bounds-put-end-3 : goal.slice_bounds-put-end-3
-slice_bounds-put-end-3 c = simp length-take (omega arith)
-
-pub put-requires-2 : goal.put-requires-2
-put-requires-2 c = let size : length c.args.self.block ≡ 64 = omega arith in
-    simp length-take (omega arith)
 
 pub returns : goal.returns
 returns c = let s : Running = c.args.self in
