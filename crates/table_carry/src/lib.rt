@@ -46,7 +46,8 @@ pub fn check01(old: &[u8]) -> Option<Met>
     Some(free)
 }
 
-// The old rows, without reserves, over the rows' part of a table.
+// The old rows, without reserves, over the rows' part of a table. As `table_format`'s, but for where a row is from; why they are two
+// stands there.
 fn fill_rows(part: &mut [u8], old: &[u8], counts: Counts)
     requires counted01 { Counted01 old.now counts.logs counts.slots }
     requires part_len { length part.old ≡ row_size * counts.logs }

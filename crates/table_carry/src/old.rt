@@ -17,9 +17,9 @@ use table_walks::Form;
 // The mark, "A2MT", as a big-endian number.
 const MARK01: u64 = 0x4132_4D54;
 
-pub const HEADER01: usize = 52;
+const HEADER01: usize = 52;
 
-pub const ROW01: usize = 20;
+const ROW01: usize = 20;
 
 // Whether the header has its constants.
 fn constants01_fit(old: &[u8]) -> bool
