@@ -54,7 +54,7 @@ fn member_of(
     }
 }
 
-// The tally of all receipts.
+// The tally of all receipts: one that does not check is passed over, and leaves it as it is.
 pub fn tally_of(
     roster: &[[u8; 40]],
     nonce: &[u8; 32],
@@ -70,8 +70,11 @@ pub fn tally_of(
     let mut blocks = 0;
     for (p, r) in pile.iter().enumerate() {
         let found = member_of(roster, nonce, log, position, r);
-        members[p] = found.value;
         blocks += found.blocks;
+        let Some(member) = found.value else {
+            continue;
+        };
+        members[p] = Some(member);
     }
     Hashed {
         value: members,

@@ -10,10 +10,10 @@ ghost use Rattle.receipt.specs.Attestation.{attested_bytes, receipt_bytes};
 ghost use Rattle.receipt.specs.Writer.{name_bytes, fact_bytes, attestation_of, write_refusal};
 
 use bigendian::put_number;
-use hmac::tag_of;
+use hmac::tag;
 use octets::put;
 use receipt::{Facts, Name};
-use refusal::{Hashed, Refusal, Refused};
+use refusal::{Hashed, Refusal, Refused, worked_blocks};
 
 // Stores the name in bytes 0 to 5.
 #[tactic(auto, unfolding(receipt::specs::Writer::name_bytes, receipt::specs::Attestation::LOOKUP, receipt::specs::Attestation::END))]
@@ -56,14 +56,14 @@ fn put_attested(
     put(out, 96, &digest);
 }
 
-// Writes the tag of bytes 0 to 127, and hands on the blocks that were hashed for it.
+// Writes the tag of bytes 0 to 127, the tag writer being lent bytes 128 to 159, and hands on the blocks that it hashed.
 fn put_tag(out: &mut [u8; 160], key: &[u8; 32]) -> u64
     ensures blocks { result ≡ 6 }
     ensures bytes { out.new ≡ splice out.old 128 (hmac key.now (part out.old 0 128)) }
 {
-    let tag = tag_of(key, &out[0..128]);
-    put(out, 128, &tag.value);
-    tag.blocks
+    let (attested, place) = out.split_at_mut(128);
+    let done = tag(key, attested, place);
+    worked_blocks(&done)
 }
 
 // Writes a receipt's 160 bytes, and hands on the blocks hashed for its tag; the caller has seen to the lengths.
