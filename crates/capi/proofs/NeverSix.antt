@@ -87,7 +87,6 @@ free-number b = never-numbered 6 not_done (screen_refusal b) ((stock_of b).count
 -- ---- the five calls on a table
 
 reply-number : (r : Reply) → r ≢ refused 6 → reply_number r ≢ 6
-unfolding reply_number
 reply-number (refused k) h e = h (ap refused e)
 reply-number (done low high) h e = omega arith
 reply-number (found receipt examined) h e = omega arith

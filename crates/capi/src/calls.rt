@@ -93,5 +93,5 @@ pub extern "C" fn keeper_end(
     ensures bytes { receipt.new ≡ receipt_after (table_step table.now (ends log nonce.now (length receipt.old))).reply receipt.old }
 {
     let answer = a2m_read::end::end(table, log, nonce, receipt);
-    worked(answer)
+    worked(&answer)
 }

@@ -4,8 +4,8 @@ ghost use Rattle.runs.specs.Run.{run};
 ghost use Rattle.runs.specs.Call.{compare_answer, compare_blocks, compare_bytes};
 ghost use Rattle.capi_results.specs.Results.{code_after};
 
-use capi_results::{KeeperResult, refused};
-use runs::Comparison;
+use capi_results::{KeeperResult, compared};
+use runs::Run;
 
 #[unsafe(no_mangle)]
 pub extern "C" fn keeper_compare(
@@ -23,19 +23,16 @@ pub extern "C" fn keeper_compare(
     ensures bytes { collision.new ≡ compare_bytes (run start1.now first1 values1.now) (run start2.now first2 values2.now) collision.old }
     ensures verdict { verdict.new ≡ code_after (compare_answer (run start1.now first1 values1.now) (run start2.now first2 values2.now) collision.old).verdict verdict.old }
 {
-    match runs_compare::compare(start1, first1, values1, start2, first2, values2, collision) {
-        Comparison::Differ { blocks } => {
-            *verdict = 0;
-            KeeperResult { number: 0, blocks }
-        }
-        Comparison::Agree { blocks } => {
-            *verdict = 1;
-            KeeperResult { number: 0, blocks }
-        }
-        Comparison::Collision { blocks } => {
-            *verdict = 2;
-            KeeperResult { number: 0, blocks }
-        }
-        Comparison::Refused { why, blocks } => refused(why, blocks),
-    }
+    let one = Run {
+        start: start1,
+        first: first1,
+        values: values1,
+    };
+    let two = Run {
+        start: start2,
+        first: first2,
+        values: values2,
+    };
+    let comparison = runs_compare::compare(one, two, collision);
+    compared(comparison, verdict)
 }

@@ -14,7 +14,7 @@ pub extern "C" fn keeper_hash(message: &[u8], digest: &mut [u8]) -> KeeperResult
     ensures bytes { digest.new ≡ afterwards (hash_refusal message.now digest.old) (sha256 message.now) digest.old }
 {
     let answer = sha256_digest::hash(message, digest);
-    worked(answer)
+    worked(&answer)
 }
 
 #[unsafe(no_mangle)]
@@ -24,5 +24,5 @@ pub extern "C" fn keeper_tag(key: &[u8], text: &[u8], tag: &mut [u8]) -> KeeperR
     ensures bytes { tag.new ≡ afterwards (tag_refusal key.now text.now tag.old) (hmac key.now text.now) tag.old }
 {
     let answer = hmac::tag(key, text, tag);
-    worked(answer)
+    worked(&answer)
 }

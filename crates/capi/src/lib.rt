@@ -1,5 +1,6 @@
 // The keeper's calls for C, as include/keeper.h declares them. Each hands its arguments on unchanged, returns document 01's
-// number, with the blocks hashed where it counts them, and writes results where the number is 0, and only there.
+// number, with the blocks hashed where it counts them, and writes results where the number is 0, and only there. The parameters
+// stand as C passes them, so those that travel together, a run or a question, do it only behind them.
 #![tactic(auto)]
 
 pub mod calls;

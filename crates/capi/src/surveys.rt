@@ -7,7 +7,7 @@ ghost use Rattle.survey.specs.Requests.{advances, looks, closes, request_step};
 ghost use Rattle.capi_results.specs.Results.{reply_number, low_after, high_after, examined_after, position_after};
 
 use capi_results::{KeeperResult, changed, looked_up};
-use survey::{Packed, Packing, Reading, Survey};
+use survey::{Packed, Reading, Survey};
 
 #[unsafe(no_mangle)]
 pub extern "C" fn keeper_pack(survey: u64, reading: u64, position: &mut u64) -> u8
@@ -15,11 +15,11 @@ pub extern "C" fn keeper_pack(survey: u64, reading: u64, position: &mut u64) -> 
     ensures position { position.new ≡ position_after (packing survey reading) position.old }
 {
     match survey::pack(Survey(survey), Reading(reading)) {
-        Packing::At(n) => {
-            *position = n.0;
+        Ok(packed) => {
+            *position = packed.0;
             0
         }
-        Packing::Refused(why) => why.number(),
+        Err(why) => u8::from(why),
     }
 }
 

@@ -8,7 +8,7 @@ ghost use Rattle.table.specs.Screen.{screen};
 ghost use Rattle.capi_results.specs.Results.{free_after};
 
 use capi_results::{KeeperResult, worked};
-use table::Screen;
+use refusal::outcome_number;
 
 #[unsafe(no_mangle)]
 pub extern "C" fn keeper_format(
@@ -24,7 +24,7 @@ pub extern "C" fn keeper_format(
     ensures bytes { table.new ≡ format_bytes table.old logs slots keeper key.now reserves.now }
 {
     let answer = table_format::format(table, logs, slots, keeper, key, reserves);
-    worked(answer)
+    worked(&answer)
 }
 
 #[unsafe(no_mangle)]
@@ -34,15 +34,14 @@ pub extern "C" fn keeper_carry(old: &[u8], table: &mut [u8]) -> KeeperResult
     ensures bytes { table.new ≡ carry_bytes old.now table.old }
 {
     let answer = table_carry::carry(old, table);
-    worked(answer)
+    worked(&answer)
 }
 
 #[unsafe(no_mangle)]
 pub extern "C" fn keeper_check(table: &[u8]) -> u8
     ensures { result ≡ answer_of (whole_refusal table.now) }
 {
-    let outcome = table_check::is_whole(table);
-    outcome.number()
+    outcome_number(table_check::is_whole(table))
 }
 
 #[unsafe(no_mangle)]
@@ -51,10 +50,10 @@ pub extern "C" fn keeper_free(table: &[u8], free: &mut u64) -> u8
     ensures free { free.new ≡ free_after (screen table.now) free.old }
 {
     match table_screen::free_slots(table) {
-        Screen::Free(n) => {
+        Ok(n) => {
             *free = n;
             0
         }
-        Screen::Torn => 1,
+        Err(why) => u8::from(why),
     }
 }

@@ -7,6 +7,21 @@ ghost use Rattle.capi_results.specs.Results.{verdict_after, place_after, mask_af
 use capi_results::{KeeperResult, certified, judged};
 use receipt::{Ask, Question};
 
+fn verified(
+    key: &[u8],
+    receipt: &[u8],
+    nonce: &[u8],
+    question: Question,
+    verdict: &mut [u64; 5],
+) -> KeeperResult
+    ensures answer { result.number ≡ (verdict_on key.now receipt.now nonce.now question).number }
+    ensures blocks { result.blocks ≡ verify_blocks key.now receipt.now nonce.now }
+    ensures verdict { verdict.new ≡ verdict_after (verdict_on key.now receipt.now nonce.now question) verdict.old }
+{
+    let judgement = receipt_verify::verify(key, receipt, nonce, question);
+    judged(judgement, verdict)
+}
+
 #[unsafe(no_mangle)]
 pub extern "C" fn keeper_verify_lookup(
     key: &[u8],
@@ -26,8 +41,7 @@ pub extern "C" fn keeper_verify_lookup(
         log,
         ask: Ask::Lookup(position),
     };
-    let judgement = receipt_verify::verify(key, receipt, nonce, question);
-    judged(judgement, verdict)
+    verified(key, receipt, nonce, question, verdict)
 }
 
 #[unsafe(no_mangle)]
@@ -48,8 +62,7 @@ pub extern "C" fn keeper_verify_end(
         log,
         ask: Ask::End,
     };
-    let judgement = receipt_verify::verify(key, receipt, nonce, question);
-    judged(judgement, verdict)
+    verified(key, receipt, nonce, question, verdict)
 }
 
 #[unsafe(no_mangle)]

@@ -1,8 +1,7 @@
--- `capi::sentences::keeper_certificate_sentence` meets its contract.
 use mathlib.Core.List.{[], ◌∷◌}
 use mathlib.Core.Path.{refl}
 use Rattle.octets.specs.Undivided.{Undivided}
 use Rattle.capi.proofs.sentences.keeper_certificate_sentence.Code.Mir.{function}
 
-pub undivided : Undivided ("refusal::Outcome::number" ∷ "sentence_write::write_certificate_values" ∷ []) function
+pub undivided : Undivided ("refusal::outcome_number" ∷ "sentence::Said::of_certificate" ∷ "sentence_write::write" ∷ []) function
 undivided = refl

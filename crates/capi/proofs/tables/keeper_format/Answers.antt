@@ -1,6 +1,0 @@
--- `capi::tables::keeper_format` meets its contract.
-use Rattle.capi_results.proofs.Answers.{joined}
-use Rattle.capi.proofs.tables.keeper_format.Goals as goal
-
-pub returns : goal.returns
-returns c = let both = joined (c.worked.ensures.answer, c.worked.ensures.blocks) (c.format-answer.ensures.answer, (c.format-answer.ensures.blocks, c.format-answer.ensures.bytes)) in record { answer = both.0; blocks = both.1.0; bytes = both.1.1 }

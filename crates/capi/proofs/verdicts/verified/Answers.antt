@@ -1,0 +1,8 @@
+use mathlib.Core.Path.{◌≡◌, refl}
+use mathlib.Core.Bool.{true}
+use Rattle.refusal.specs.Unwritten.{unwritten, counts}
+use Rattle.capi.proofs.verdicts.verified.Code.Mir.{function}
+
+-- no literal of the body becomes the count
+pub counted : unwritten counts function.body ≡ true
+counted = refl
