@@ -43,147 +43,99 @@
 //                                          two runs, and the slot whose first bytes are lent
 #![tactic(auto)]
 
-ghost use Rattle.std.specs.Prelude.{◌≤◌, length, IfOk};
+mod reader;
 
-use case_fields::{Values, parse, place, slot, slot_mut};
+use case_fields::Field::Number;
+use case_fields::{Line, SLOT, first_mut};
 use case_receipts::receipts_line;
 use case_report::show;
 use case_tables::tables_line;
 use layout::places::LARGEST;
 use line_fields::find;
 use printing::text;
-use program::{large_buffer, read_full};
+use program::{buffer, read_full};
+use reader::Reader;
 use std::io;
 
-// What a line leaves to do.
-#[derive(Drop)]
-enum Step {
-    On,
-    Each(u64),
-    Next,
-    Table(u64),
-}
-
 // A line that is none.
-fn unknown(rt: &impl Print, form: &[u8]) -> io::Result<()> {
+fn unknown(rt: &impl Print, line: Option<&Line>) -> io::Result<()> {
     text(rt, b"? ")?;
-    text(rt, form)?;
+    if let Some(line) = line {
+        text(rt, line.word)?;
+        for field in line.fields() {
+            text(rt, &[b' ', field.kind()])?;
+        }
+    }
     text(rt, b"\n")
 }
 
-// Carries out a line of a form.
-fn call(
-    rt: &impl Print,
-    form: &[u8],
-    v: Values,
-    store: &[u8],
-    table: &mut [u8],
-    pile: &mut [u8],
-) -> io::Result<Step> {
-    match place(form, b"each n\nnext\ntable n\n") {
-        0 => return Ok(Step::Each(v.a)),
-        1 => return Ok(Step::Next),
-        2 => return Ok(Step::Table(v.a)),
-        _ => {}
-    }
-    if tables_line(rt, form, v, store, table, pile)? {
-        return Ok(Step::On);
-    }
-    if receipts_line(rt, form, v, store, pile)? {
-        return Ok(Step::On);
-    }
-    unknown(rt, form)?;
-    Ok(Step::On)
-}
-
-// Prints the name before a line's command, and answers where the command starts.
-fn named(rt: &impl Print, line: &[u8], turn: u64) -> io::Result<usize>
-    ensures { IfOk result (λ n. n ≤ length line.now) }
-{
-    let e = find(line, 0, b':');
-    if line.len() - e < 2 {
-        return Ok(0);
-    }
-    show(rt, &line[0..e], &[turn])?;
-    text(rt, b": ")?;
-    Ok(e + 2)
-}
-
+// Carries out a command. One with too many fields is none.
 fn carry_out(
     rt: &impl Print,
-    line: &[u8],
-    turn: u64,
-    size: u64,
+    command: &[u8],
+    reader: &mut Reader,
     table: &mut [u8],
-    pile: &mut [u8],
-) -> io::Result<Step> {
-    if line.len() == 0 {
-        return Ok(Step::On);
+    pile: &mut [[u8; SLOT]],
+) -> io::Result<()> {
+    let Some(line) = Line::parse(command, reader.turn()) else {
+        return unknown(rt, None);
+    };
+    let table = first_mut(rt, table, reader.size)?;
+    match (line.word, line.fields()) {
+        (b"each", [Number(turns)]) => reader.each(*turns),
+        (b"next", []) => reader.again(),
+        (b"table", [Number(size)]) => reader.size = *size,
+        _ => {
+            if !tables_line(rt, &line, table, pile)? && !receipts_line(rt, &line, pile)? {
+                return unknown(rt, Some(&line));
+            }
+        }
     }
-    if line[0] == b'#' {
-        return Ok(Step::On);
-    }
-    if line[0] == b'-' {
-        text(rt, line)?;
-        text(rt, b"\n")?;
-        return Ok(Step::On);
-    }
-    let from = named(rt, line, turn)?;
-    let mut store = [0u8; 1920];
-    let v = parse(rt, &line[from..], turn, &mut store)?;
-    call(
-        rt,
-        slot(rt, &store, 0, v.form)?,
-        v,
-        &store,
-        slot_mut(rt, table, 0, size)?,
-        pile,
-    )
+    Ok(())
+}
+
+// Prints the name before a line's command, and answers the command.
+fn named<'a>(rt: &impl Print, line: &'a [u8], turn: u64) -> io::Result<&'a [u8]> {
+    let e = find(line, 0, b':');
+    let [_, _, command @ ..] = &line[e..] else {
+        return Ok(line);
+    };
+    show(rt, &line[..e], &[turn])?;
+    text(rt, b": ")?;
+    Ok(command)
 }
 
 // Carries out a text's lines, a million at most.
-fn carry_out_all(rt: &impl Print, t: &[u8], table: &mut [u8], pile: &mut [u8]) -> io::Result<()> {
-    let mut at: usize = 0;
-    let mut back: usize = 0;
-    let mut turn: u64 = 0;
-    let mut turns: u64 = 0;
-    let mut size: u64 = 0;
-    let mut left: u64 = 1000000;
-    while 0 < left {
-        if t.len() <= at {
+fn carry_out_all(
+    rt: &impl Print,
+    t: &[u8],
+    table: &mut [u8],
+    pile: &mut [[u8; SLOT]],
+) -> io::Result<()> {
+    let mut reader = Reader::new(t);
+    for _ in 0..1000000 {
+        let Some(line) = reader.next_line() else {
             return Ok(());
-        }
-        let e = find(t, at, 10);
-        let step = carry_out(rt, &t[at..e], turn, size, table, pile)?;
-        at = e + 1;
-        match step {
-            Step::On => {}
-            Step::Each(n) => {
-                back = at;
-                turn = 0;
-                turns = n;
+        };
+        match line {
+            [] | [b'#', ..] => {}
+            [b'-', ..] => {
+                text(rt, line)?;
+                text(rt, b"\n")?;
             }
-            Step::Next => {
-                if turn < 1000000 {
-                    turn += 1;
-                    if turn < turns {
-                        at = back;
-                    }
-                }
-            }
-            Step::Table(n) => {
-                size = n;
+            _ => {
+                let command = named(rt, line, reader.turn())?;
+                carry_out(rt, command, &mut reader, table, pile)?;
             }
         }
-        left -= 1;
     }
     text(rt, b"? more lines\n")
 }
 
 fn main(rt: HostRuntime) -> io::Result<()> {
-    let mut t = large_buffer();
-    let mut table = [0u8; LARGEST];
-    let mut pile = [0u8; 10240];
+    let mut t = buffer::<65536>();
+    let mut table = [0; LARGEST];
+    let mut pile = [[0; SLOT]; 64];
     let n = read_full(&mut rt.stdin(), &mut t)?;
     if n == t.len() {
         text(&rt, b"? more input\n")?;
