@@ -11,11 +11,7 @@ use a2m_open::open;
 use refusal::{Hashed, Refusal, Refused};
 
 // Refusals 4, 5 and 16, and the entry at the next position.
-fn append_open(
-    table: &mut [u8],
-    view: View,
-    value: &[u8; 32],
-) -> Result<Hashed<Bounds>, Refused>
+fn append_open(table: &mut [u8], view: View, value: &[u8; 32]) -> Result<Hashed<Bounds>, Refused>
     requires { Opened table.old view }
     ensures { Changed (table_step table.old (appends view.log value.now)) result table.new }
 {

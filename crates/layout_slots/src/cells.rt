@@ -38,7 +38,8 @@ impl Cells<'_> {
         }
     }
 
-    // Whether the position, value and digest of slot s are zero.
+    // Whether the position, value and digest of slot s are zero. Put into the walk, so that what the walk keeps stays in registers.
+    #[inline(always)]
     pub fn is_blank(self, s: usize) -> bool
         requires { (1 ≤ s) × (s ≤ self.slots) }
         ensures { result ≡ blank (slot_at (strict_from self.entry.table.now self.entry.start self.entry.slots) s) }

@@ -27,7 +27,7 @@ module _ (l t : List ℕ) (k : ℕ) (here : k ≤ length l) (so_far : take k l �
       let j : k + length x ≡ length y = omega (arith, length-append (take k l) x, length-take-le k l here) in
       let m : n - k - length x ≡ n - (k + length x) = omega arith in
       let behind : drop (k + length x) (splice l k x) ≡ rest =
-          ap (drop (k + length x)) (splice_nested l k x) ∙ ap (λ (i : ℕ). drop i (y ++ rest)) j ∙ drop-append_seam y rest
+      ap (drop (k + length x)) (splice_nested l k x) ∙ ap (λ (i : ℕ). drop i (y ++ rest)) j ∙ drop-append_seam y rest
       in
       let zero : drop (length x) (drop k l) ≡ zeros (n - k - length x) = ap (drop (length x)) e ∙ drop-replicate (length x) (n - k) 0 in
       behind ∙ sym (drop-drop (length x) k l) ∙ zero ∙ ap zeros m
