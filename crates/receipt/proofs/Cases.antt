@@ -44,6 +44,14 @@ module _ (a : Attestation) where
   unfolding blank_fits
   by-blank o h s = simp (ne_eqb a.kind 1 o, h, ne_eqb a.kind 2 s)
 
+  pub not_end : same a.name END ≡ false → false ≡ fresh_end a
+  unfolding fresh_end
+  not_end h = simp h
+
+  pub end-reference : same a.name END ≡ true → a.kind ≡ 0 → a.log ≤ 15 → a.position ≡ 0 → (a.reference ≡ 0 → ⊥) → false ≡ fresh_end a
+  unfolding fresh_end
+  end-reference h k l p r = simp (h, eq-eqb a.kind 0 k, le-leb a.log 15 l, eq-eqb a.position 0 p, ne_eqb a.reference 0 r)
+
   pub end-blank : same a.name END ≡ true → a.kind ≡ 0 → a.log ≤ 15 → a.position ≡ 0 → a.reference ≡ 0 → is_blank a ≡ fresh_end a
   unfolding fresh_end
   end-blank h k l p r = simp (h, eq-eqb a.kind 0 k, le-leb a.log 15 l, eq-eqb a.position 0 p, eq-eqb a.reference 0 r)
