@@ -2,7 +2,7 @@ ghost use Rattle.std.specs.Prelude.{◌<◌, ◌≤◌, length, IfSome};
 
 use line_fields::find;
 
-// The bytes that a field says, 160 at most.
+// The bytes that a field says, 160 at most. No program of this repository uses a heap, so no Vec.
 #[derive(Clone, Copy)]
 pub struct Bytes {
     bytes: [u8; 160],
@@ -90,7 +90,7 @@ fn read(s: &[u8], turn: u64) -> Field {
     }
 }
 
-// A line's word, and its fields, of which there may be 10.
+// A line's word, and its fields, of which there may be 10; no Vec, as above.
 #[derive(Clone, Copy)]
 pub struct Line<'a> {
     pub word: &'a [u8],

@@ -21,7 +21,7 @@ const HEADER01: usize = 52;
 
 const ROW01: usize = 20;
 
-// Whether the header has its constants.
+// Whether the header has its constants: other fields than the present header's, so it shares no test but the reads with that one's.
 fn constants01_fit(old: &[u8]) -> bool
     requires { header_size ≤ length old.now }
     ensures { result ≡ constants_fit01 old.now }
@@ -49,7 +49,8 @@ pub fn header01_counts(old: &[u8]) -> Option<Counts>
     }
 }
 
-// The row in a row's part of a table; such a row has no reserve.
+// The row in a row's part of a table; such a row has no reserve. Its fields lie elsewhere than those of a present row, so one
+// reader for both would be a list of places, no plainer.
 fn read_row01(part: &[u8]) -> Row
     requires { length part.now ≡ plan01.row }
     ensures { result ≡ read_row01 part.now }
