@@ -6,9 +6,14 @@ use std::io;
 // The bytes of a slot of the pile, a receipt's.
 pub const SLOT: usize = 160;
 
-// The first n of some bytes; where there are not so many, it says so and lends none.
-pub fn first<'a>(rt: &impl Print, bytes: &'a [u8], n: u64) -> io::Result<&'a [u8]> {
-    match bytes.get(..n as usize) {
+// How many slots a pile has, at most.
+const PILE: u64 = 64;
+
+const NO_PLACE: &[u8] = b"? no such place\n";
+
+// Bytes that are asked for; where there are none, it says so and lends none.
+fn lent<'a>(rt: &impl Print, part: Option<&'a [u8]>) -> io::Result<&'a [u8]> {
+    match part {
         Some(part) => Ok(part),
         None => {
             text(rt, b"? no such bytes\n")?;
@@ -18,8 +23,8 @@ pub fn first<'a>(rt: &impl Print, bytes: &'a [u8], n: u64) -> io::Result<&'a [u8
 }
 
 // The same, lent for writing: two functions, as std has get and get_mut.
-pub fn first_mut<'a>(rt: &impl Print, bytes: &'a mut [u8], n: u64) -> io::Result<&'a mut [u8]> {
-    match bytes.get_mut(..n as usize) {
+fn lent_mut<'a>(rt: &impl Print, part: Option<&'a mut [u8]>) -> io::Result<&'a mut [u8]> {
+    match part {
         Some(part) => Ok(part),
         None => {
             text(rt, b"? no such bytes\n")?;
@@ -28,21 +33,41 @@ pub fn first_mut<'a>(rt: &impl Print, bytes: &'a mut [u8], n: u64) -> io::Result
     }
 }
 
-// The bytes from slot i on.
-fn from(slots: &[[u8; SLOT]], i: u64) -> &[u8] {
-    slots.get(i as usize..).unwrap_or(&[]).as_flattened()
+// The first n of some bytes.
+pub fn first<'a>(rt: &impl Print, bytes: &'a [u8], n: u64) -> io::Result<&'a [u8]> {
+    lent(rt, bytes.get(..n as usize))
 }
 
-fn from_mut(slots: &mut [[u8; SLOT]], i: u64) -> &mut [u8] {
-    slots
-        .get_mut(i as usize..)
-        .unwrap_or(&mut [])
-        .as_flattened_mut()
+pub fn first_mut<'a>(rt: &impl Print, bytes: &'a mut [u8], n: u64) -> io::Result<&'a mut [u8]> {
+    lent_mut(rt, bytes.get_mut(..n as usize))
+}
+
+// The bytes from slot i on.
+fn from(slots: &[[u8; SLOT]], i: u64) -> Option<&[u8]> {
+    if PILE <= i {
+        return None;
+    }
+    Some(slots.get(i as usize..)?.as_flattened())
+}
+
+fn from_mut(slots: &mut [[u8; SLOT]], i: u64) -> Option<&mut [u8]> {
+    if PILE <= i {
+        return None;
+    }
+    Some(slots.get_mut(i as usize..)?.as_flattened_mut())
+}
+
+fn part(slots: &[[u8; SLOT]], i: u64, n: u64) -> Option<&[u8]> {
+    from(slots, i)?.get(..n as usize)
+}
+
+fn part_mut(slots: &mut [[u8; SLOT]], i: u64, n: u64) -> Option<&mut [u8]> {
+    from_mut(slots, i)?.get_mut(..n as usize)
 }
 
 // The first n bytes from slot i on.
 pub fn slot<'a>(rt: &impl Print, slots: &'a [[u8; SLOT]], i: u64, n: u64) -> io::Result<&'a [u8]> {
-    first(rt, from(slots, i), n)
+    lent(rt, part(slots, i, n))
 }
 
 pub fn slot_mut<'a>(
@@ -51,7 +76,7 @@ pub fn slot_mut<'a>(
     i: u64,
     n: u64,
 ) -> io::Result<&'a mut [u8]> {
-    first_mut(rt, from_mut(slots, i), n)
+    lent_mut(rt, part_mut(slots, i, n))
 }
 
 // So many bytes from a place on, if there are so many.
@@ -68,7 +93,7 @@ pub fn write(rt: &impl Print, bytes: &mut [u8], at: u64, part: &[u8]) -> io::Res
             to.copy_from_slice(part);
             Ok(())
         }
-        None => text(rt, b"? no such place\n"),
+        None => text(rt, NO_PLACE),
     }
 }
 
@@ -80,5 +105,8 @@ pub fn write_slot(
     at: u64,
     part: &[u8],
 ) -> io::Result<()> {
-    write(rt, from_mut(slots, i), at, part)
+    match from_mut(slots, i) {
+        Some(bytes) => write(rt, bytes, at, part),
+        None => text(rt, NO_PLACE),
+    }
 }

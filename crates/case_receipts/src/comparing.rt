@@ -1,7 +1,7 @@
 // Comparisons of runs: the answer, and the lent buffer as it is after. It is lent full of bytes ab, and no answer here may
 // change it: a collision of SHA-256 is not to be had.
 use case_fields::Field::{Bytes, Number};
-use case_fields::{Line, SLOT, slot_mut};
+use case_fields::{Line, SLOT, slot, slot_mut};
 use case_report::{refused, show};
 use printing::{hex, text};
 use refusal::{Hashed, Refused};
@@ -37,11 +37,10 @@ pub fn compare_line(rt: &impl Print, line: &Line, pile: &mut [[u8; SLOT]]) -> io
         first: *other_first,
         values: other_values.as_slice(),
     };
-    let buffer = slot_mut(rt, pile, *i, *n)?;
-    let answer = compare(one, two, buffer);
+    let answer = compare(one, two, slot_mut(rt, pile, *i, *n)?);
     said(rt, answer)?;
     text(rt, b"\n  ")?;
-    hex(rt, buffer)?;
+    hex(rt, slot(rt, pile, *i, *n)?)?;
     text(rt, b"\n")?;
     Ok(true)
 }

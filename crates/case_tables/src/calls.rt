@@ -6,7 +6,7 @@ use a2m_read::end::end;
 use a2m_read::lookup::lookup;
 use a2m_truncate::truncate;
 use case_fields::Field::{Bytes, Number};
-use case_fields::{Line, SLOT, slot_mut};
+use case_fields::{Line, SLOT, slot, slot_mut};
 use printing::text;
 use std::io;
 use survey::{Reading, Survey};
@@ -66,7 +66,7 @@ pub fn receipt_line(
         ) => {
             let receipt = slot_mut(rt, pile, *i, *n)?;
             let answer = lookup(table, *log, *position, nonce.as_slice(), receipt);
-            found(rt, answer, receipt, table)?;
+            found(rt, answer, slot(rt, pile, *i, *n)?, table)?;
         }
         (
             b"lookup",
@@ -88,7 +88,7 @@ pub fn receipt_line(
                 nonce.as_slice(),
                 receipt,
             );
-            found(rt, answer, receipt, table)?;
+            found(rt, answer, slot(rt, pile, *i, *n)?, table)?;
         }
         (b"answer", [Number(log), Bytes(nonce), Number(i), Number(n)]) => {
             let receipt = slot_mut(rt, pile, *i, *n)?;
@@ -96,9 +96,9 @@ pub fn receipt_line(
             ended(rt, answer, receipt)?;
         }
         (b"end", [Number(log), Bytes(nonce), Number(i), Number(n)]) => {
+            text(rt, b"end")?;
             let receipt = slot_mut(rt, pile, *i, *n)?;
             let answer = end(table, *log, nonce.as_slice(), receipt);
-            text(rt, b"end")?;
             ended(rt, answer, receipt)?;
             table_after(rt, table)?;
         }

@@ -77,10 +77,10 @@ fn carry_out(
     table: &mut [u8],
     pile: &mut [[u8; SLOT]],
 ) -> io::Result<()> {
+    let table = first_mut(rt, table, reader.size)?;
     let Some(line) = Line::parse(command, reader.turn()) else {
         return unknown(rt, None);
     };
-    let table = first_mut(rt, table, reader.size)?;
     match (line.word, line.fields()) {
         (b"each", [Number(turns)]) => reader.each(*turns),
         (b"next", []) => reader.again(),
