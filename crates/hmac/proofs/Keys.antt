@@ -1,8 +1,9 @@
 -- Key blocks: zero bytes after a key, and a function applied byte by byte in place.
 use mathlib.Core.Path.{◌≡◌, sym, ap, ◌∙◌}
-use Prim.Native.Nat.{ℕ, zero, suc, ◌-◌, ◌≤◌, ◌<◌}
-use native.Mathlib.Nat.{zero-sub, suc-sub-suc, sub-zero, zero-add}
+use Prim.Native.Nat.{ℕ, suc, ◌≤◌, ◌<◌}
+use native.Mathlib.Nat.{zero-add}
 use native.Mathlib.Omega.{arith}
+use Rattle.std.proofs.lemmas.List.{drop-replicate}
 use mathlib.Core.List.{List, [], ◌∷◌, ◌++◌, map, map-append}
 use lib.ListN.{length, get_or, take, drop, set, replicate, length-map}
 use lib.Seq.{drop-cons, take-suc, get_or_at, set_at, append_snoc, length-take-le}
@@ -10,11 +11,6 @@ use borrow.Author.Tests.{le-leb, lt-leb}
 use Rattle.octets.specs.Octets.{splice, zeros}
 use Rattle.sha256.specs.Sha256.{sha256}
 use Rattle.hmac.specs.Hmac.{short_key, padded}
-
-drop-replicate : (n m a : ℕ) → drop n (replicate m a) ≡ replicate (m - n) a
-drop-replicate zero m a = ap (λ (k : ℕ). replicate k a) (sym (sub-zero m))
-drop-replicate (suc n) zero a = ap (λ (k : ℕ). replicate k a) (sym (zero-sub (suc n)))
-drop-replicate (suc n) (suc m) a = drop-replicate n m a ∙ ap (λ (k : ℕ). replicate k a) (sym (suc-sub-suc m n))
 
 -- bytes at the start of a block of zeros
 pub padded-is : (k : List ℕ) → splice (replicate 64 0) 0 k ≡ padded k

@@ -6,9 +6,6 @@ ghost use Rattle.receipt.specs.Kind.{kind_number, IsKindOf};
 
 use refusal::Refusal;
 
-// The size of a receipt.
-pub const RECEIPT: usize = 160;
-
 // The name in a receipt's bytes 0 to 5.
 #[derive(Clone, Copy, PartialEq, Eq)]
 pub enum Name {

@@ -1,10 +1,9 @@
 -- Two bitwise operations on three words are equal if they are on bits.
 --
-use mathlib.Core.Path.{◌≡◌, refl, sym, ap, ap₂, ◌∙◌}
+use mathlib.Core.Path.{◌≡◌, sym, ap₂, ◌∙◌}
 use Prim.Native.Nat.{ℕ, zero, suc, ◌+◌, ◌*◌, ◌/◌, ◌%◌, ◌^◌, ◌<◌}
-use native.Mathlib.Nat.{div-add-mod', not-suc-le-zero, le_of_suc-le-suc}
+use native.Mathlib.Nat.{not-suc-le-zero, le_of_suc-le-suc}
 use native.Mathlib.Omega.{arith}
-use lib.Bits.{bit_xor, xor_shr, xor_mod}
 
 -- what holds of 0 and of 1 holds of a bit
 bit : (P : ℕ → Type 0) → P 0 → P 1 → (a : ℕ) → a < 2 → P a
@@ -38,31 +37,3 @@ agree f g sf sg e (suc k) x y z hx hy hz =
     (agree f g sf sg e k (x / 2) (y / 2) (z / 2) (omega arith) (omega arith) (omega arith))
     (e (x % 2) (y % 2) (z % 2) (omega arith) (omega arith) (omega arith))
     ∙ sym (sg x y z)
-
--- ---- the exclusive or of three words
-
-abbrev left : ℕ → ℕ → ℕ → ℕ
-left x y z = bit_xor (bit_xor x y) z
-
-abbrev right : ℕ → ℕ → ℕ → ℕ
-right x y z = bit_xor x (bit_xor y z)
-
-left_step : Stepwise left
-left_step x y z =
-    sym (div-add-mod' (left x y z) 2)
-    ∙ ap₂ (λ (q r : ℕ). q * 2 + r)
-    (xor_shr (bit_xor x y) z 1 ∙ ap (λ (u : ℕ). bit_xor u (z / 2)) (xor_shr x y 1))
-    (xor_mod (bit_xor x y) z 1 ∙ ap (λ (u : ℕ). bit_xor u (z % 2)) (xor_mod x y 1))
-
-right-step : Stepwise right
-right-step x y z =
-    sym (div-add-mod' (right x y z) 2)
-    ∙ ap₂ (λ (q r : ℕ). q * 2 + r)
-    (xor_shr x (bit_xor y z) 1 ∙ ap (bit_xor (x / 2)) (xor_shr y z 1))
-    (xor_mod x (bit_xor y z) 1 ∙ ap (bit_xor (x % 2)) (xor_mod y z 1))
-
-left-right : OnBits left right
-left-right = triples (λ (a b c : ℕ). left a b c ≡ right a b c) (refl, refl, refl, refl, refl, refl, refl, refl)
-
-pub xor_assoc : (k x y z : ℕ) → x < 2 ^ k → y < 2 ^ k → z < 2 ^ k → bit_xor (bit_xor x y) z ≡ bit_xor x (bit_xor y z)
-xor_assoc = agree left right left_step right-step left-right

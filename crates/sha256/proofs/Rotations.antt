@@ -6,10 +6,9 @@ use Prim.Native.Nat.{ℕ, ◌+◌, ◌-◌, ◌*◌, ◌/◌, ◌%◌, ◌^◌, 
 use native.Mathlib.Nat.{mul_assoc, mul_comm, add-mul, add_assoc, add_comm, div-add-mod', mod-lt}
 use native.Mathlib.Omega.{arith}
 use lib.Arith.{digits_lt, digits_div, digits_mod, mod-mul}
-use lib.Bits.{bit_or, bit_xor, or_shifted_r, xor_block, xor_lt}
+use lib.Bits.{bit_or, bit_xor, or_shifted_r, xor_block, xor_lt, xor_assoc}
 use lib.Pow.{pow_pos, pow-add, shl_lt, shr_lt, shr-shr}
 use Rattle.sha256.specs.Words.{rotr}
-use Rattle.sha256.proofs.Bitwise.{xor_assoc}
 
 -- a word's places are those of its low part and of its high part
 places : (k : ℕ) → k ≤ 32 → k + (32 - k) ≡ 32
@@ -123,4 +122,4 @@ chained i j k x few h =
     (ap (rotr i) (paired j k x (omega arith) h)
     ∙ rotr-xor i (rotr j x) (rotr (k + j) x) (omega arith) (rotr-lt j x (omega arith) h) (rotr-lt (k + j) x (omega arith) h)
     ∙ ap₂ bit_xor (rotr-rotr j i x (omega arith) h) (rotr-rotr (k + j) i x (omega arith) h))
-    ∙ sym (xor_assoc 32 (rotr i x) (rotr (j + i) x) (rotr (k + j + i) x) (rotr-lt i x (omega arith) h) (rotr-lt (j + i) x (omega arith) h) (rotr-lt (k + j + i) x (omega arith) h))
+    ∙ sym (xor_assoc (rotr i x) (rotr (j + i) x) (rotr (k + j + i) x))

@@ -2,9 +2,6 @@
 use Rattle.hmac.proofs.Keys.{padded-is, short-key, long-key}
 use Rattle.hmac.proofs.BlockLaws.{no-key-blocks, key-blocks}
 use Rattle.hmac.specs.Hmac.{padded}
-use Rattle.sha256.proofs.Sizes.{length-sha256}
-use native.Mathlib.Omega.{arith}
-use lib.ListN.{length}
 use mathlib.Core.Path.{ap, ◌∙◌, ◌≡◌, refl}
 use mathlib.Core.Bool.{true}
 use Rattle.refusal.specs.Unwritten.{unwritten, counts}
@@ -17,9 +14,6 @@ counted = refl
 
 pub returns-then-key-le64 : goal.returns-then-key-le64
 returns-then-key-le64 c = (c.put.ensures ∙ padded-is c.args.key.now ∙ ap padded (short-key c.args.key.now c.if-key-le64.true), no-key-blocks c.args.key.now c.if-key-le64.true)
-
-pub put-requires-2 : goal.put-requires-2
-put-requires-2 c = omega (arith, ap length c.digest_of-digest.ensures.0 ∙ length-sha256 c.args.key.now)
 
 pub returns : goal.returns
 returns c = (c.put-2.ensures ∙ padded-is c.digest_of-digest.result.value ∙ ap padded (c.digest_of-digest.ensures.0 ∙ long-key c.args.key.now c.if-key-le64.false), c.digest_of-digest.ensures.1 ∙ key-blocks c.args.key.now c.if-key-le64.false)

@@ -1,12 +1,9 @@
 -- `hmac::mask` meets its contract.
 use Rattle.std.specs.Int.Bits.{bit_xor}
-use Rattle.std.proofs.Common.{◌≡◌, ℕ, List, [], ◌++◌, length, get_or, take, drop, set, refl, ap, ap₂, ◌∙◌, add-one, append-nil, arith, take_all, drop_of_length-le}
+use Rattle.std.proofs.Common.{◌≡◌, ℕ, List, [], ◌++◌, length, get_or, take, drop, set, ap, ap₂, ◌∙◌, add-one, append-nil, arith, take_all, drop_of_length-le}
 use Rattle.hmac.proofs.Keys.{map-step}
 use Rattle.hmac.specs.Hmac.{masked}
 use Rattle.hmac.proofs.mask.Goals as goal
-
-pub loop-byte-init : goal.loop-byte-init
-loop-byte-init c = (omega arith, refl)
 
 pub loop-byte-preserved : goal.loop-byte-preserved
 loop-byte-preserved c = let size : length c.args.block ≡ 64 = omega arith in

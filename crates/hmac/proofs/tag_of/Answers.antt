@@ -1,10 +1,8 @@
 -- `hmac::tag_of` meets its contract.
-use Rattle.sha256.proofs.Sizes.{length-sha256}
 use Rattle.hmac.specs.Hmac.{hmac, tag_blocks}
 use Rattle.hmac.proofs.BlockLaws.{tag_fits, tag_is}
 use native.Mathlib.Omega.{arith}
-use lib.ListN.{length}
-use mathlib.Core.Path.{◌≡◌, ap, ◌∙◌, refl}
+use mathlib.Core.Path.{◌≡◌, refl}
 use Prim.Native.Nat.{◌+◌}
 use mathlib.Core.Bool.{true}
 use Rattle.refusal.specs.Unwritten.{unwritten, counts}
@@ -19,9 +17,6 @@ counted = refl
 -- the tag, and the sum of the blocks
 total : (c : goal.After-struct_known-1) → (c.prefixed_digest-outer.result.value ≡ hmac c.args.key.now c.args.text.now) × (c.key_block-key.result.blocks + c.prefixed_digest-inner.result.blocks + c.prefixed_digest-outer.result.blocks ≡ tag_blocks c.args.key.now c.args.text.now)
 total c = tag_is c.args.key.now c.args.text.now _ _ _ _ _ _ _ _ c.key_block-key.ensures c.mask.ensures c.prefixed_digest-inner.ensures c.mask-2.ensures c.prefixed_digest-outer.ensures
-
-pub prefixed_digest-outer-requires : goal.prefixed_digest-outer-requires
-prefixed_digest-outer-requires c = omega (arith, ap length c.prefixed_digest-inner.ensures.0 ∙ length-sha256 _)
 
 pub overflow_add-result : goal.overflow_add-result
 overflow_add-result c = omega (arith, (total c).1, tag_fits c.args.key.now c.args.text.now c.requires.0 c.requires.1)

@@ -1,5 +1,5 @@
 -- `sha256_digest::digest` meets its contract.
-use Rattle.std.proofs.Common.{◌≡◌, ℕ, ◌*◌, List, ◌++◌, length, take, drop, replicate, refl, ap, ap₂, ◌∙◌, add-one, append-nil, arith, take_all}
+use Rattle.std.proofs.Common.{ℕ, ◌*◌, List, replicate, refl, ap₂, ◌∙◌, add-one, arith}
 use Rattle.bigendian.specs.BigEndian.{be}
 use Rattle.octets.specs.Octets.{splice}
 use Rattle.sha256.proofs.Bytes.{word-written}
@@ -18,8 +18,3 @@ loop-i-preserved c = let z : List ℕ = replicate 32 0 in
           ∙ word-written c.args.h z i (omega arith)),
       c.put_number.auto.out ∙ c.loop-i.invariant.1,
     )
-
-pub returns : goal.returns
-returns c = let size : length c.args.h ≡ 8 = omega arith in
-    let e : c.loop-i.i ≡ 8 = omega arith in
-    c.loop-i.invariant.0 ∙ ap (λ (i : ℕ). bytes (take i c.args.h) ++ drop (i * 4) (replicate 32 0)) e ∙ append-nil (bytes (take 8 c.args.h)) ∙ ap bytes (take_all 8 c.args.h (omega arith))
