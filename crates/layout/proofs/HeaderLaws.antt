@@ -11,11 +11,11 @@ use lib.ListN.{length}
 use Rattle.octets.specs.Octets.{Bytes, part, same, zeros}
 use Rattle.bigendian.specs.BigEndian.{unbe}
 use Rattle.layout.specs.declared.Counts.{Counts}
-use Rattle.layout.specs.Layout.{mark_number, header_size, zero_offset, table_size, logs_of, slots_of}
-use Rattle.layout.specs.Fits.{Counted}
+use Rattle.layout.specs.Layout.{Plan, mark_number, header_size, zero_offset, cell_offset_in, logs_of, slots_of}
+use Rattle.layout.specs.Fits.{CountedIn}
 use Rattle.layout.proofs.CodeLaws.{zero_one, mark-four}
 use Rattle.layout.specs.Fits.{Range}
-use Rattle.layout.specs.Tests.{in_range, marked, constants_fit, header_fits, counts_if}
+use Rattle.layout.specs.Tests.{in_range, marked, constants_fit, header_fits_in, counts_if}
 use Rattle.layout.proofs.TestLaws.{and_yes, and_no, and-not, and_split, field-same}
 
 -- counts in range
@@ -57,69 +57,87 @@ pub no-mark : (b : List ℕ) {t : Bool} → t ≡ marked b → t ≡ false → t
 unfolding constants_fit
 no-mark b e h = h ∙ sym (and_no _ (sym e ∙ h))
 
--- the header
+-- the header, of any layout
 
-module _ (b : List ℕ) where
-  pub too_short : length b < header_size → header_fits b ≡ false
-  unfolding header_fits
-  too_short h = and-not (constants_fit b && in_range (logs_of b) (slots_of b)) (ne_eqb (length b) (table_size (logs_of b) (slots_of b)) (λ e. omega arith))
+module _ (p : Plan) (constants : List ℕ → Bool) (b : List ℕ) where
+  -- the shortest table, of one log and one slot, is longer than a header, since a slot alone is
+  pub too_short : length b < header_size → header_fits_in p constants b ≡ false
+  unfolding header_fits_in
+  too_short h = go (in_range (logs_of b) (slots_of b)) refl
+    where
+      go : (t : Bool) → in_range (logs_of b) (slots_of b) ≡ t → constants b && in_range (logs_of b) (slots_of b) && eqb (length b) (cell_offset_in p (logs_of b) (slots_of b)) ≡ false
+      go true e =
+          let r = in-range (logs_of b) (slots_of b) e in
+          and-not (constants b && in_range (logs_of b) (slots_of b)) (ne_eqb (length b) (cell_offset_in p (logs_of b) (slots_of b)) (λ q. omega (arith, q, r.slots-least)))
+      go false e = and_no _ (and-not (constants b) e)
 
-  pub other-constants : constants_fit b ≡ false → header_fits b ≡ false
-  unfolding header_fits
+  pub other-constants : constants b ≡ false → header_fits_in p constants b ≡ false
+  unfolding header_fits_in
   other-constants h = and_no _ (and_no _ h)
 
   module _ (c : Counts) (logs : c.logs ≡ logs_of b) (slots : c.slots ≡ slots_of b) where
-    pub other-counts : in_range c.logs c.slots ≡ false → header_fits b ≡ false
-    unfolding header_fits
-    other-counts h = and_no _ (and-not (constants_fit b) (sym (ap₂ in_range logs slots) ∙ h))
+    pub other-counts : in_range c.logs c.slots ≡ false → header_fits_in p constants b ≡ false
+    unfolding header_fits_in
+    other-counts h = and_no _ (and-not (constants b) (sym (ap₂ in_range logs slots) ∙ h))
 
-    pub other-length : (length b ≡ table_size c.logs c.slots → ⊥) → header_fits b ≡ false
-    unfolding header_fits
-    other-length h = and-not (constants_fit b && in_range (logs_of b) (slots_of b)) (ne_eqb (length b) (table_size (logs_of b) (slots_of b)) (λ e. h (e ∙ sym (ap₂ table_size logs slots))))
+    pub other-length : (length b ≡ cell_offset_in p c.logs c.slots → ⊥) → header_fits_in p constants b ≡ false
+    unfolding header_fits_in
+    other-length h = and-not (constants b && in_range (logs_of b) (slots_of b)) (ne_eqb (length b) (cell_offset_in p (logs_of b) (slots_of b)) (λ e. h (e ∙ sym (ap₂ (cell_offset_in p) logs slots))))
 
-    pub all-fit : constants_fit b ≡ true → in_range c.logs c.slots ≡ true → length b ≡ table_size c.logs c.slots → header_fits b ≡ true
-    unfolding header_fits
+    pub all-fit : constants b ≡ true → in_range c.logs c.slots ≡ true → length b ≡ cell_offset_in p c.logs c.slots → header_fits_in p constants b ≡ true
+    unfolding header_fits_in
     all-fit h k l =
         and_yes _ (and_yes _ h ∙ (sym (ap₂ in_range logs slots) ∙ k))
-        ∙ eq-eqb (length b) (table_size (logs_of b) (slots_of b)) (l ∙ ap₂ table_size logs slots)
+        ∙ eq-eqb (length b) (cell_offset_in p (logs_of b) (slots_of b)) (l ∙ ap₂ (cell_offset_in p) logs slots)
 
-    -- what is answered where all fits
-    pub some-fit : {t : Bool} → t ≡ true → Some c ≡ counts_if t b
-    some-fit h = ap Some (λ i. record { logs = logs i; slots = slots i }) ∙ sym (ap (λ (t : Bool). counts_if t b) h)
-
-  pub none-fit : {t : Bool} → t ≡ false → None ≡ counts_if t b
-  none-fit h = sym (ap (λ (t : Bool). counts_if t b) h)
+  pub header-test : constants b ≡ true → Range (logs_of b) (slots_of b) → length b ≡ cell_offset_in p (logs_of b) (slots_of b) → header_fits_in p constants b ≡ true
+  header-test h r l = all-fit (record { logs = logs_of b; slots = slots_of b }) refl refl h (range-in (logs_of b) (slots_of b) r) l
 
   -- what a passed header tells
-  pub header-parts : header_fits b ≡ true → (constants_fit b ≡ true) × (in_range (logs_of b) (slots_of b) ≡ true) × (length b ≡ table_size (logs_of b) (slots_of b))
-  unfolding header_fits
+  pub header-parts : header_fits_in p constants b ≡ true → (constants b ≡ true) × (in_range (logs_of b) (slots_of b) ≡ true) × (length b ≡ cell_offset_in p (logs_of b) (slots_of b))
+  unfolding header_fits_in
   header-parts e =
-      let s = and_split (constants_fit b && in_range (logs_of b) (slots_of b)) (eqb (length b) (table_size (logs_of b) (slots_of b))) e in
-      let t = and_split (constants_fit b) (in_range (logs_of b) (slots_of b)) s.0 in
-      (t.0, t.1, eqb-true (length b) (table_size (logs_of b) (slots_of b)) s.1)
+      let s = and_split (constants b && in_range (logs_of b) (slots_of b)) (eqb (length b) (cell_offset_in p (logs_of b) (slots_of b))) e in
+      let t = and_split (constants b) (in_range (logs_of b) (slots_of b)) s.0 in
+      (t.0, t.1, eqb-true (length b) (cell_offset_in p (logs_of b) (slots_of b)) s.1)
 
-  pub header-long : header_fits b ≡ true → header_size ≤ length b
-  header-long e = let p = header-parts e in let q = p.2 in omega arith
+  pub header-long : header_fits_in p constants b ≡ true → header_size ≤ length b
+  header-long e =
+      let q = header-parts e in
+      let r = in-range (logs_of b) (slots_of b) q.1 in
+      omega (arith, q.2, r.slots-least)
 
-  pub header-counted : (logs slots : ℕ) → header_fits b ≡ true → logs ≡ logs_of b → slots ≡ slots_of b → Counted b logs slots
-  header-counted logs slots e l s =
-      let p = header-parts e in
-      let r = in-range (logs_of b) (slots_of b) p.1 in
-      record { logs-are = l; slots-are = s; logs-most = omega (arith, r.logs-most); slots-most = omega (arith, r.slots-most); sized = p.2 ∙ sym (ap₂ table_size l s) }
+  -- the same, from what the code answers
 
--- the same, from what the code answers
+  pub fits_true : (c : Counts) → Some c ≡ counts_if (header_fits_in p constants b) b → header_fits_in p constants b ≡ true
+  fits_true c e = some-true (header_fits_in p constants b) e
+    where
+      some-true : (t : Bool) → Some c ≡ counts_if t b → t ≡ true
+      some-true true k = refl
+      some-true false k = cc
 
-pub fits_true : (b : List ℕ) (t : Bool) (c : Counts) → Some c ≡ counts_if t b → t ≡ true
-fits_true b true c e = refl
-fits_true b false c e = cc
+  pub fits_false : ◌≡◌ {A = Option Counts} None (counts_if (header_fits_in p constants b) b) → header_fits_in p constants b ≡ false
+  fits_false e = none-false (header_fits_in p constants b) e
+    where
+      none-false : (t : Bool) → ◌≡◌ {A = Option Counts} None (counts_if t b) → t ≡ false
+      none-false true k = cc
+      none-false false k = refl
 
-pub fits_false : (b : List ℕ) (t : Bool) → ◌≡◌ {A = Option Counts} None (counts_if t b) → t ≡ false
-fits_false b true e = cc
-fits_false b false e = refl
+  pub counted : (c : Counts) → Some c ≡ counts_if (header_fits_in p constants b) b → CountedIn p b c.logs c.slots
+  counted c e =
+      let q = header-parts (fits_true c e) in
+      let r = in-range (logs_of b) (slots_of b) q.1 in
+      let a = fits_are (header_fits_in p constants b) e in
+      record { logs-are = a.0; slots-are = a.1; logs-most = omega (arith, a.0, r.logs-most); slots-most = omega (arith, a.1, r.slots-most); sized = q.2 ∙ sym (ap₂ (cell_offset_in p) a.0 a.1) }
+    where
+      fits_are : (t : Bool) → Some c ≡ counts_if t b → (c.logs ≡ logs_of b) × (c.slots ≡ slots_of b)
+      fits_are true k = (cc, cc)
+      fits_are false k = (cc, cc)
 
-pub fits_are : (b : List ℕ) (t : Bool) (c : Counts) → Some c ≡ counts_if t b → (c.logs ≡ logs_of b) × (c.slots ≡ slots_of b)
-fits_are b true c e = (cc, cc)
-fits_are b false c e = (cc, cc)
+-- what is answered
+module _ (b : List ℕ) {t : Bool} where
+  pub some-fit : (c : Counts) → c.logs ≡ logs_of b → c.slots ≡ slots_of b → t ≡ true → Some c ≡ counts_if t b
+  some-fit c logs slots h = ap Some (λ i. record { logs = logs i; slots = slots i }) ∙ sym (ap (λ (t : Bool). counts_if t b) h)
 
-pub counted : (b : List ℕ) (c : Counts) → Some c ≡ counts_if (header_fits b) b → Counted b c.logs c.slots
-counted b c e = let a = fits_are b (header_fits b) c e in header-counted b c.logs c.slots (fits_true b (header_fits b) c e) a.0 a.1
+  pub none-fit : t ≡ false → None ≡ counts_if t b
+  none-fit h = sym (ap (λ (t : Bool). counts_if t b) h)

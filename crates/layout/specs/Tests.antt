@@ -3,7 +3,7 @@ use Rattle.std.specs.Prelude.{ℕ, zero, suc, ◌+◌, ◌*◌, List, Bool, true
 use Rattle.octets.specs.Octets.{part, same, zeros}
 use Rattle.layout.specs.declared.Counts.{Counts}
 use Rattle.layout.specs.Image.{Slot}
-use Rattle.layout.specs.Layout.{mark, zero_offset, slot_size, row_offset, logs_of, slots_of, table_size}
+use Rattle.layout.specs.Layout.{Plan, plan, mark, zero_offset, slot_size, row_offset, cell_offset_in, logs_of, slots_of}
 
 -- "The keeper holds 1 to 16 logs over one shared pool of 1 to 800 slots."
 unfoldable pub in_range : ℕ → ℕ → Bool
@@ -17,9 +17,13 @@ marked b = same (part b 0 4) mark
 unfoldable pub constants_fit : List ℕ → Bool
 constants_fit b = marked b && same (part b zero_offset 1) (zeros 1)
 
--- "the length, constants and counts are as above", as far as the header holds them
-unfoldable pub header_fits : List ℕ → Bool
-header_fits b = constants_fit b && in_range (logs_of b) (slots_of b) && eqb (length b) (table_size (logs_of b) (slots_of b))
+-- "the length, constants and counts are as above", as far as the header holds them, in a layout of so many bytes and such constants
+unfoldable pub header_fits_in : Plan → (List ℕ → Bool) → List ℕ → Bool
+header_fits_in p constants b = constants b && in_range (logs_of b) (slots_of b) && eqb (length b) (cell_offset_in p (logs_of b) (slots_of b))
+
+-- in the present one
+abbrev pub header_fits : List ℕ → Bool
+header_fits b = header_fits_in plan constants_fit b
 
 -- a table's counts, where a test says that they hold
 abbrev pub counts_if : Bool → List ℕ → Option Counts

@@ -4,11 +4,11 @@
 ghost use Rattle.std.specs.Prelude.{◌≡◌, ◌≤◌, ◌<◌, length};
 ghost use Rattle.layout.specs.Layout.{header_size, logs_of, slots_of, keeper_of, stocked, key_of, count_bytes, header_bytes};
 ghost use Rattle.layout.specs.Free.{free_part, put_part};
-ghost use Rattle.layout.specs.Tests.{in_range, marked, constants_fit, header_fits, counts_if};
+ghost use Rattle.layout.specs.Tests.{in_range, marked, constants_fit};
 ghost use Rattle.octets.specs.Octets.{splice};
 
 use bigendian::{number_at, put_number};
-use layout::places::{HEADER, MARK, array_at, put_array};
+use layout::places::{MARK, array_at, put_array};
 use layout::{Counts, Free};
 
 // The number of logs, and that of slots.
@@ -110,25 +110,9 @@ pub fn has_mark(table: &[u8]) -> bool
 }
 
 // Whether the header has its constants.
-fn constants_fit(table: &[u8]) -> bool
+pub fn constants_fit(table: &[u8]) -> bool
     requires { header_size ≤ length table.now }
     ensures { result ≡ constants_fit table.now }
 {
     has_mark(table) && number_at::<1>(table, 5) == 0
-}
-
-// The counts of a table whose header has its constants and counts in range, and which has the length that they give.
-pub fn header_counts(table: &[u8]) -> Option<Counts>
-    ensures { result ≡ counts_if (header_fits table.now) table.now }
-{
-    if table.len() < HEADER || !constants_fit(table) {
-        return None;
-    }
-    let counts = counts_of(table);
-    let ranged = in_range(counts.logs as u64, counts.slots as u64);
-    if ranged && table.len() == counts.size() {
-        Some(counts)
-    } else {
-        None
-    }
 }

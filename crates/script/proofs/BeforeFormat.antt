@@ -6,7 +6,7 @@ use mathlib.Core.Option.{some}
 use Rattle.octets.specs.Octets.{same}
 use Rattle.refusal.specs.Order.{first_fault}
 use Rattle.table.specs.Whole.{whole}
-use Rattle.layout.specs.Tests.{constants_fit, header_fits}
+use Rattle.layout.specs.Tests.{constants_fit, header_fits_in}
 use Rattle.a2m.specs.Call.{Call}
 use Rattle.a2m.specs.ImageCalls.{wrong_length, faults}
 use Rattle.a2m.specs.TableCalls.{table_refusal, table_step}
@@ -14,7 +14,7 @@ use Rattle.script.specs.declared.Answer.TheVariants.{Plain}
 use Rattle.script.specs.Answer.{call_answer}
 
 empty_torn : whole [] ≡ false
-unfolding whole header_fits constants_fit same
+unfolding whole header_fits_in constants_fit same
 empty_torn = refl
 
 torn-first : (call : Call) → wrong_length call ≡ false → table_refusal [] call ≡ some 1

@@ -12,7 +12,7 @@ use Rattle.octets.specs.Octets.{part, same, zeros}
 use Rattle.octets.proofs.Same.{same-eq, eq-same}
 use Rattle.layout.specs.declared.Row.{Row}
 use Rattle.layout.specs.Image.{Slot, Image, slot_at}
-use Rattle.layout.specs.Layout.{mark, zero_offset, slot_size, row_offset, logs_of, slots_of, table_size, read_table, stock_of}
+use Rattle.layout.specs.Layout.{plan, mark, zero_offset, slot_size, row_offset, logs_of, slots_of, read_table, stock_of}
 use Rattle.layout.proofs.TableLaws.{length-slots}
 use Rattle.table.specs.Chains.{reaches, chain, last_of, positions_of}
 use Rattle.table.specs.Free.{free_chain}
@@ -22,10 +22,9 @@ use Rattle.layout.specs.Tests.{blank}
 use Rattle.table.specs.Whole.{whole, stock_fits}
 use Rattle.layout.specs.Tests.{constants_fit, header_fits, all_below, pads_from, pads_fit}
 use Rattle.table.specs.Conditions.{Links, Blank, Each, Rising, Fresh, Started, Rows, total_of, lack_with, Whole}
-use Rattle.layout.specs.Fits.{Range}
 use Rattle.layout.proofs.TestLaws.{and_yes, and_split}
 use Rattle.table.proofs.WalkLaws.{chain-none}
-use Rattle.layout.proofs.HeaderLaws.{in-range, range-in, header-parts}
+use Rattle.layout.proofs.HeaderLaws.{in-range, header-parts, header-test}
 use Rattle.table.proofs.LinkedLaws.{length_meets}
 use Rattle.table.proofs.LinkLaws.{links-reach, reach-links}
 use Rattle.table.proofs.ReserveLaws.{lack-in}
@@ -191,10 +190,6 @@ constants_conditions b e =
     let t = and_split (same (part b 0 4) mark) (same (part b zero_offset 1) (zeros 1)) e in
     (same-eq (part b 0 4) mark t.0, same-eq (part b zero_offset 1) (zeros 1) t.1)
 
-pub header_test : (b : List ℕ) → constants_fit b ≡ true → Range (logs_of b) (slots_of b) → length b ≡ table_size (logs_of b) (slots_of b) → header_fits b ≡ true
-unfolding header_fits
-header_test b e r l = and_yes _ (and_yes _ e ∙ range-in (logs_of b) (slots_of b) r) ∙ eq-eqb (length b) (table_size (logs_of b) (slots_of b)) l
-
 -- the clauses on chains, of an image
 
 pub record Linked (m : Image) : Type 0 where
@@ -244,7 +239,7 @@ whole_conditions b e =
     let k₂ = and_split (eqb (stock_of b).count (length (free_chain m))) (eqb (stock_of b).last (last_of (free_chain m))) a.1 in
     let s = and_split (header_fits b && pads_fit b) (whole_image m) a.0 in
     let t = and_split (header_fits b) (pads_fit b) s.0 in
-    let p = header-parts b t.0 in
+    let p = header-parts plan constants_fit b t.0 in
     let k = constants_conditions b p.0 in
     let n = and_split (linked m) (leb (lack_all m) (length (free_chain m))) s.1 in
     let l = linked_conditions m n.0 in
@@ -272,6 +267,6 @@ unfolding whole whole_image stock_fits
 conditions-whole b w =
     let m : Image = read_table b in
     let l = conditions-linked m w.freed w.chains w.free w.blank w.rows (w.total ∙ sym (length-slots b)) in
-    and_yes _ (and_yes _ (and_yes _ (header_test b (constants_test b w.marked w.zero) w.counts w.sized) ∙ pads-test b (row_offset (logs_of b)) (slots_of b) w.pads)
+    and_yes _ (and_yes _ (and_yes _ (header-test plan constants_fit b (constants_test b w.marked w.zero) w.counts w.sized) ∙ pads-test b (row_offset (logs_of b)) (slots_of b) w.pads)
     ∙ (and_yes _ l.0 ∙ le-leb (lack_all m) (length (free_chain m)) (omega (arith, l.2, w.enough, ap length l.1))))
     ∙ (and_yes _ (eq-eqb (stock_of b).count (length (free_chain m)) (w.number ∙ sym (ap length l.1))) ∙ eq-eqb (stock_of b).last (last_of (free_chain m)) (w.last ∙ sym (ap last_of l.1)))

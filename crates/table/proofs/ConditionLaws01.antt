@@ -4,8 +4,6 @@ use mathlib.Core.Path.{◌≡◌, sym, ap, ap₂, ◌∙◌, subst}
 use mathlib.Core.Logic.{◌↔◌}
 use mathlib.Core.List.{List}
 use mathlib.Core.Bool.{true, ◌&&◌}
-use borrow.Author.Tests.{eq-eqb, eqb-true}
-use lib.Dec.{eqb}
 use lib.ListN.{length}
 use Rattle.octets.specs.Octets.{Bytes, part, same, zeros}
 use Rattle.octets.proofs.Same.{same-eq, eq-same}
@@ -13,9 +11,9 @@ use Rattle.layout.specs.Image.{Image}
 use Rattle.layout.specs.Layout.{plan01, zero_offset, count_offset, row_offset_in, logs_of, slots_of}
 use Rattle.layout.specs.Layout01.{table_size01, read01, write01}
 use Rattle.layout.specs.Fits.{Fits, Unreserved, Range}
-use Rattle.layout.specs.Tests.{in_range, pads_from}
+use Rattle.layout.specs.Tests.{pads_from}
 use Rattle.layout.proofs.TestLaws.{and_yes, and_split}
-use Rattle.layout.proofs.HeaderLaws.{in-range, range-in}
+use Rattle.layout.proofs.HeaderLaws.{in-range, header-parts, header-test}
 use Rattle.layout.proofs.Layout01Laws.{length_slots01, fits-read01, length-write01, logs-write01, slots-write01, mark-write01, zero-write01, unused-write01, pads-write01, read-write01}
 use Rattle.table.specs.WholeImage.{linked}
 use Rattle.table.specs.Free.{free_chain}
@@ -33,26 +31,26 @@ pub record Formed01 (b : List ℕ) : Type 0 where
 
 module _ (b : List ℕ) where
   pub header-conditions01 : header_fits01 b ≡ true → Formed01 b
-  unfolding header_fits01 constants_fit01
+  unfolding constants_fit01
   header-conditions01 e =
-      let s = and_split (constants_fit01 b && in_range (logs_of b) (slots_of b)) (eqb (length b) (table_size01 (logs_of b) (slots_of b))) e in
-      let t = and_split (constants_fit01 b) (in_range (logs_of b) (slots_of b)) s.0 in
-      let u = and_split (same (part b 0 4) plan01.mark && same (part b zero_offset 1) (zeros 1)) (same (part b count_offset 2) (zeros 2)) t.0 in
+      let p = header-parts plan01 constants_fit01 b e in
+      let u = and_split (same (part b 0 4) plan01.mark && same (part b zero_offset 1) (zeros 1)) (same (part b count_offset 2) (zeros 2)) p.0 in
       let v = and_split (same (part b 0 4) plan01.mark) (same (part b zero_offset 1) (zeros 1)) u.0 in
       record {
         marked = same-eq (part b 0 4) plan01.mark v.0;
         zero = same-eq (part b zero_offset 1) (zeros 1) v.1;
         unused = same-eq (part b count_offset 2) (zeros 2) u.1;
-        counts = in-range (logs_of b) (slots_of b) t.1;
-        sized = eqb-true (length b) (table_size01 (logs_of b) (slots_of b)) s.1;
+        counts = in-range (logs_of b) (slots_of b) p.1;
+        sized = p.2;
       }
 
   header-test01 : Formed01 b → header_fits01 b ≡ true
-  unfolding header_fits01 constants_fit01
+  unfolding constants_fit01
   header-test01 f =
-      and_yes _ (and_yes _ (and_yes _ (and_yes _ (eq-same (part b 0 4) plan01.mark f.marked) ∙ eq-same (part b zero_offset 1) (zeros 1) f.zero) ∙ eq-same (part b count_offset 2) (zeros 2) f.unused)
-      ∙ range-in (logs_of b) (slots_of b) f.counts)
-      ∙ eq-eqb (length b) (table_size01 (logs_of b) (slots_of b)) f.sized
+      header-test plan01 constants_fit01 b
+      (and_yes _ (and_yes _ (eq-same (part b 0 4) plan01.mark f.marked) ∙ eq-same (part b zero_offset 1) (zeros 1) f.zero) ∙ eq-same (part b count_offset 2) (zeros 2) f.unused)
+      f.counts
+      f.sized
 
   whole01-parts : whole01 b ≡ true → (header_fits01 b ≡ true) × (pads_fit01 b ≡ true) × (linked (read01 b) ≡ true)
   unfolding whole01

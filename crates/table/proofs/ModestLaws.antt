@@ -26,7 +26,7 @@ strict-modest01 b logs slots c =
     }
 
 pub present-laws : FormLaws plan strict_table
-present-laws = record { slots = λ b logs slots c. strict-are b logs slots (row_offset logs) c refl; modest = λ b logs slots bytes c. strict-modest b logs slots bytes c }
+present-laws = record { near = λ logs h. omega arith; slots = λ b logs slots c. strict-are b logs slots (row_offset logs) c refl; modest = λ b logs slots bytes c. strict-modest b logs slots bytes c }
 
 pub old-laws : FormLaws plan01 strict01
-old-laws = record { slots = λ b logs slots c. strict_are01 b logs slots c; modest = λ b logs slots bytes c. strict-modest01 b logs slots c }
+old-laws = record { near = λ logs h. omega arith; slots = λ b logs slots c. strict_are01 b logs slots c; modest = λ b logs slots bytes c. strict-modest01 b logs slots c }

@@ -9,7 +9,7 @@ use Rattle.octets.specs.Octets.{Bytes}
 use lib.Dec.{eqb}
 use lib.ListN.{length}
 use Rattle.layout.specs.Image.{Image}
-use Rattle.layout.specs.Layout.{Stock, row_offset, logs_of, slots_of, read_table, stock_of, write_with}
+use Rattle.layout.specs.Layout.{plan, Stock, row_offset, logs_of, slots_of, read_table, stock_of, write_with}
 use Rattle.layout.specs.Fits.{Fits, StockFits, Formed}
 use Rattle.layout.proofs.TableLaws.{logs-written, slots-written, read-with, stock-with, formed-with, write_read as write-with}
 use Rattle.table.specs.Chains.{last_of}
@@ -17,12 +17,13 @@ use Rattle.table.specs.Free.{free_chain, joint, stock_in, write_table}
 use Rattle.table.specs.Reserve.{lack_but}
 use Rattle.table.specs.WholeImage.{whole_image}
 use Rattle.table.specs.Whole.{whole, stock_fits, checked, check_of}
-use Rattle.layout.specs.Tests.{header_fits, pads_fit}
+use Rattle.layout.specs.Tests.{constants_fit, header_fits, pads_fit}
+use Rattle.layout.proofs.HeaderLaws.{header-test}
 use Rattle.layout.specs.Fits.{Range}
 use Rattle.layout.proofs.TestLaws.{and_yes, and_split}
 use Rattle.table.proofs.WalkLaws.{chain-short}
 use Rattle.table.proofs.LinkLaws.{chain-within}
-use Rattle.table.proofs.ConditionLaws.{constants_test, header_test, pads-test, whole_conditions}
+use Rattle.table.proofs.ConditionLaws.{constants_test, pads-test, whole_conditions}
 use Rattle.table.proofs.Found.{found_whole, whole-same}
 use Rattle.std.proofs.Common.{Err}
 use Rattle.refusal.specs.declared.Refusal.TheVariants.{Torn}
@@ -83,7 +84,7 @@ formed-whole : (b : List ℕ) → Formed b → Range (logs_of b) (slots_of b) �
 unfolding whole stock_fits
 formed-whole b f r k =
     and-true _ (and_yes _ (eq-eqb (stock_of b).count (length (free_chain (read_table b))) (ap (λ (x : Stock). x.count) k)) ∙ eq-eqb (stock_of b).last (joint (read_table b)) (ap (λ (x : Stock). x.last) k))
-    ∙ and_yes _ (and_yes _ (header_test b (constants_test b f.marked f.zero) r f.sized) ∙ pads-test b (row_offset (logs_of b)) (slots_of b) f.pads)
+    ∙ and_yes _ (and_yes _ (header-test plan constants_fit b (constants_test b f.marked f.zero) r f.sized) ∙ pads-test b (row_offset (logs_of b)) (slots_of b) f.pads)
   where
     and-true : (x : Bool) {y : Bool} → y ≡ true → x && y ≡ x
     and-true true e = e

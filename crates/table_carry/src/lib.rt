@@ -16,7 +16,7 @@ ghost use Rattle.table.specs.Walks.{walk_of};
 ghost use Rattle.table.specs.Whole01.{whole01};
 ghost use Rattle.table.specs.Carry.{carry_refusal, carry_bytes};
 
-use crate::old::{Old, header01_counts};
+use crate::old::Old;
 use layout::places::{HEADER, ROW};
 use layout::{Counts, Free};
 use layout_header::{Header, counts_of, free_of, keeper_of, key_of, write_header};
@@ -24,13 +24,13 @@ use layout_rows::write_row;
 use layout_slots::Cells;
 use refusal::{Hashed, Refusal, Refused};
 use table::Met;
-use table_walks::{Form, free_walk, held_walk};
+use table_walks::{Form, free_walk, header_counts, held_walk};
 
 // Inner: whether a table is whole by document 01's own test; and if so, how many slots are free, and the last of the free chain.
 pub fn check01(old: &[u8]) -> Option<Met>
     ensures { result ≡ walk_of (whole01 old.now) (free_chain (read01 old.now)) }
 {
-    let counts = header01_counts(old)?;
+    let counts = header_counts::<Old>(old)?;
     let start = Old::start(counts.logs);
     let cells = Cells {
         table: old,

@@ -4,14 +4,11 @@ ghost use Rattle.std.specs.Prelude.{◌≡◌, ◌≤◌, length};
 ghost use Rattle.layout.specs.Layout.{plan01, header_size};
 ghost use Rattle.layout.specs.Layout01.{read_row01};
 ghost use Rattle.layout.specs.Strict.{strict01};
-ghost use Rattle.layout.specs.Tests.{counts_if};
-ghost use Rattle.table.specs.Whole01.{constants_fit01, header_fits01};
+ghost use Rattle.table.specs.Whole01.{constants_fit01};
 ghost use Rattle.table.proofs.ModestLaws.{old-laws};
 
 use bigendian::number_at;
-use layout::places::{HEADER, SLOT};
 use layout::{Counts, Row};
-use layout_header::{counts_of, in_range};
 use table_walks::Form;
 
 // The mark, "A2MT", as a big-endian number.
@@ -30,23 +27,6 @@ fn constants01_fit(old: &[u8]) -> bool
         return false;
     }
     number_at::<2>(old, 18) == 0
-}
-
-// The counts of a table whose header has its constants and counts in range, and which has the length that they give. No such
-// table is shorter than a present header.
-pub fn header01_counts(old: &[u8]) -> Option<Counts>
-    ensures { result ≡ counts_if (header_fits01 old.now) old.now }
-{
-    if old.len() < HEADER || !constants01_fit(old) {
-        return None;
-    }
-    let counts = counts_of(old);
-    let ranged = in_range(counts.logs as u64, counts.slots as u64);
-    if ranged && old.len() == HEADER01 + ROW01 * counts.logs + SLOT * counts.slots {
-        Some(counts)
-    } else {
-        None
-    }
 }
 
 // The row in a row's part of a table; such a row has no reserve. Its fields lie elsewhere than those of a present row, so one
@@ -71,6 +51,12 @@ impl Form for Old {
     ghost places = { plan01 };
 
     ghost image = { strict01 };
+
+    ghost constants = { constants_fit01 };
+
+    fn constants_fit(table: &[u8]) -> bool {
+        constants01_fit(table)
+    }
 
     ghost laws = { old-laws };
 

@@ -11,17 +11,17 @@ ghost use Rattle.table.specs.Whole.{check_of, whole_refusal};
 
 use layout::Free;
 use layout::places::row_offset;
-use layout_header::{free_of, header_counts};
+use layout_header::free_of;
 use layout_slots::Cells;
 use refusal::Refusal;
 use table::Whole;
-use table_walks::{Present, free_walk, held_walk};
+use table_walks::{Present, free_walk, header_counts, held_walk};
 
 // What the check finds of a table, if it is whole.
 fn found(table: &[u8], log: u64) -> Option<Whole>
     ensures { ok_or result Torn ≡ check_of table.now log }
 {
-    let counts = header_counts(table)?;
+    let counts = header_counts::<Present>(table)?;
     let start = row_offset(counts.logs);
     let cells = Cells {
         table,

@@ -1,9 +1,10 @@
-// Chains of slots, each walked once, no further than the table has slots. A slot is read with its zero byte, so that the walks
+// A table's parts in any layout: the test of its header, and its chains of slots, each walked once, no further than the table has slots. A slot is read with its zero byte, so that the walks
 // make the test of it. The slots are given as they stand, so that the chains of document 01's layout are walked by the same code.
 // The two loops stay `while`: they follow links and count no index. They stay two, since they differ in their tests.
 #![tactic(auto)]
 
 mod form;
+mod header;
 
 ghost use Rattle.std.specs.Prelude.{◌≡◌, cond, ◌≤◌, ◌<◌, eqb};
 ghost use Rattle.layout.specs.Fits.{CountedIn};
@@ -12,6 +13,7 @@ ghost use Rattle.table.specs.Walks.{free_walk, held_walk, row_walk, started_walk
 ghost use Rattle.table.specs.WholeImage.{fresh};
 
 pub use form::{Form, Present};
+pub use header::header_counts;
 use layout::{Counts, Row};
 use layout_slots::Cells;
 use table::{Holding, Met};

@@ -3,17 +3,16 @@ use Rattle.std.proofs.Common.{ℕ, ap, ◌∙◌}
 use Rattle.layout.specs.Layout.{plan01}
 use Rattle.layout.specs.Fits.{Counted01}
 use Rattle.layout.proofs.CellLaws.{slotted}
-use Rattle.layout.proofs.HeaderLaws.{fits_true, fits_false}
+use Rattle.layout.proofs.HeaderLaws.{fits_true, fits_false, header-long, counted}
 use Rattle.layout.specs.Strict.{strict_from}
 use Rattle.table.specs.Walks.{free_walk}
-use Rattle.table.specs.Whole01.{header_fits01}
-use Rattle.table.proofs.HeaderLaws01.{counted01, header-long01}
+use Rattle.table.specs.Whole01.{constants_fit01}
 use Rattle.table.proofs.CheckLaws01.{Walked01, torn-header01, torn-free01, torn-held01, torn-over01, torn-total01, is-whole01}
 use Rattle.table_carry.proofs.check01.Goals as goal
 use Rattle.table_carry.proofs.check01.Goals.{In_ok-counts, In_ok-all, then-counts-all-via-then-counts-all, then-counts-all-via-else-counts-all+then-free-counts}
 
 counts : (c : goal.In_ok-counts) → Counted01 c.args.old.now c.in_ok-counts.counts.logs c.in_ok-counts.counts.slots
-counts c = counted01 c.args.old.now c.in_ok-counts.counts c.in_ok-counts.ensures
+counts c = counted plan01 constants_fit01 c.args.old.now c.in_ok-counts.counts c.in_ok-counts.ensures
 
 -- both walks found their chains in order
 walked : (c : goal.In_ok-all) → Walked01 c.args.old.now c.in_ok-counts.counts c.in_ok-free.free c.in_ok-all.all
@@ -27,13 +26,13 @@ walked c =
     }
 
 pub returns-in_err-counts : goal.returns-in_err-counts
-returns-in_err-counts c = let b = c.args.old.now in c.from_residual.ensures ∙ torn-header01 b (fits_false b (header_fits01 b) c.in_err-counts.ensures)
+returns-in_err-counts c = let b = c.args.old.now in c.from_residual.ensures ∙ torn-header01 b (fits_false plan01 constants_fit01 b c.in_err-counts.ensures)
 
 pub start-start-requires : goal.start-start-requires
 start-start-requires c = let f = counts (goal.at.start-start-requires c).In_ok-counts in f.logs-most
 
 pub free_of-first-requires : goal.free_of-first-requires
-free_of-first-requires c = let b = c.args.old.now in header-long01 b (fits_true b (header_fits01 b) c.in_ok-counts.counts c.in_ok-counts.ensures)
+free_of-first-requires c = let b = c.args.old.now in header-long plan01 constants_fit01 b (fits_true plan01 constants_fit01 b c.in_ok-counts.counts c.in_ok-counts.ensures)
 
 pub invariant_of-cells : goal.invariant_of-cells
 invariant_of-cells c = let n = c.in_ok-counts.counts in record { slotted = slotted plan01 c.args.old.now n.logs n.slots c.start-start.result (counts (goal.at.invariant_of-cells c).In_ok-counts) c.start-start.ensures }
@@ -64,4 +63,4 @@ returns-then-counts-all c =
 pub returns : goal.returns
 returns c =
     let b = c.args.old.now in
-    is-whole01 (walked (goal.at.returns c).In_ok-all) (fits_true b (header_fits01 b) c.in_ok-counts.counts c.in_ok-counts.ensures) c.if-counts-all.false c.if-free-counts.false
+    is-whole01 (walked (goal.at.returns c).In_ok-all) (fits_true plan01 constants_fit01 b c.in_ok-counts.counts c.in_ok-counts.ensures) c.if-counts-all.false c.if-free-counts.false

@@ -4,7 +4,7 @@ use Rattle.std.specs.Option.{ok_or}
 use Rattle.refusal.specs.declared.Refusal.TheVariants.{Torn}
 use Rattle.layout.specs.Layout.{plan, header_size}
 use Rattle.layout.specs.Fits.{Counted}
-use Rattle.layout.specs.Tests.{header_fits}
+use Rattle.layout.specs.Tests.{constants_fit}
 use Rattle.layout.proofs.CellLaws.{slotted}
 use Rattle.layout.proofs.HeaderLaws.{fits_true, fits_false, header-long, counted}
 use Rattle.table.proofs.CheckLaws.{Walked, torn-header, torn-free, torn-held, torn-over, torn-total, torn-lack, torn-number, torn-last, is_whole}
@@ -12,11 +12,11 @@ use Rattle.table_check.proofs.found.Goals as goal
 use Rattle.table_check.proofs.found.Goals.{In_ok-counts, After-row_offset-start, In_ok-all, then-counts-all-via-then-counts-all, then-counts-all-via-else-counts-all+then-free-counts, then-counts-all-via-else-counts-all+else-free-counts+then-free-all, then-counts-all-via-else-counts-all+else-free-counts+else-free-all+then-free_of-free, then-counts-all-via-else-counts-all+else-free-counts+else-free-all+else-free_of-free+then-free_of-free-2}
 
 counts : (c : goal.In_ok-counts) → Counted c.args.table.now c.in_ok-counts.counts.logs c.in_ok-counts.counts.slots
-counts c = counted c.args.table.now c.in_ok-counts.counts c.in_ok-counts.ensures
+counts c = counted plan constants_fit c.args.table.now c.in_ok-counts.counts c.in_ok-counts.ensures
 
 -- a header that fits is as long as a header
 long : (c : goal.In_ok-counts) → header_size ≤ length c.args.table.now
-long c = header-long c.args.table.now (fits_true c.args.table.now (header_fits c.args.table.now) c.in_ok-counts.counts c.in_ok-counts.ensures)
+long c = header-long plan constants_fit c.args.table.now (fits_true plan constants_fit c.args.table.now c.in_ok-counts.counts c.in_ok-counts.ensures)
 
 -- both walks found their chains in order
 walked : (c : goal.In_ok-all) → Walked c.args.table.now c.in_ok-counts.counts c.in_ok-free.free c.in_ok-all.all c.args.log
@@ -34,7 +34,7 @@ walked c =
 pub returns-in_err-counts : goal.returns-in_err-counts
 returns-in_err-counts c =
     let b = c.args.table.now in
-    ap (λ x. ok_or x Torn) c.from_residual.ensures ∙ torn-header b (fits_false b (header_fits b) c.in_err-counts.ensures) c.args.log
+    ap (λ x. ok_or x Torn) c.from_residual.ensures ∙ torn-header b (fits_false plan constants_fit b c.in_err-counts.ensures) c.args.log
 
 pub row_offset-start-requires : goal.row_offset-start-requires
 row_offset-start-requires c = (counts c).logs-most
@@ -72,5 +72,5 @@ returns-then-counts-all c =
 pub returns : goal.returns
 returns c =
     is_whole (walked (goal.at.returns c).In_ok-all) c.free_of.result c.free_of-else-free_of-free.result
-    (fits_true c.args.table.now (header_fits c.args.table.now) c.in_ok-counts.counts c.in_ok-counts.ensures)
+    (fits_true plan constants_fit c.args.table.now c.in_ok-counts.counts c.in_ok-counts.ensures)
     c.if-counts-all.false c.if-free-counts.false c.if-free-all.false c.free_of.ensures.0 c.if-free_of-free.false c.free_of-else-free_of-free.ensures.0 c.if-free_of-free-2.false
