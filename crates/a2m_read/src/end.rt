@@ -9,6 +9,7 @@ ghost use Rattle.a2m.specs.Opened.{Opened, slot_number, Ended};
 use a2m::View;
 use a2m_attest::attest::attest;
 use a2m_open::open;
+use layout::TableRef;
 use layout_header::keeper_of;
 use receipt::{Facts, Kind, Name};
 use refusal::{Hashed, Refusal, Refused};
@@ -39,7 +40,11 @@ fn end_open(table: &[u8], view: View, nonce: &[u8; 32], receipt: &mut [u8; 160])
         position: row.high,
         reference: row.high,
     };
-    let blocks = attest(table, view.counts, last, facts, nonce, receipt);
+    let lent = TableRef {
+        table,
+        counts: view.counts,
+    };
+    let blocks = attest(lent, last, facts, nonce, receipt);
     Hashed { value: (), blocks }
 }
 

@@ -8,6 +8,7 @@ use a2m::View;
 use a2m_attest::attest::attest;
 use a2m_attest::search::find;
 use a2m_open::open;
+use layout::TableRef;
 use layout_header::keeper_of;
 use receipt::{Facts, Name};
 use refusal::{Hashed, Refusal, Refused};
@@ -35,7 +36,11 @@ fn lookup_open(
         position,
         reference: hit.reference,
     };
-    let blocks = attest(table, view.counts, hit.slot, facts, nonce, receipt);
+    let lent = TableRef {
+        table,
+        counts: view.counts,
+    };
+    let blocks = attest(lent, hit.slot, facts, nonce, receipt);
     Ok(Hashed {
         value: hit.examined,
         blocks,

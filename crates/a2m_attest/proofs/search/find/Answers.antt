@@ -16,8 +16,11 @@ returns-then-row-n c = record { within = tt; found = is-unassigned (read_table c
 pub returns-then-n-row : goal.returns-then-n-row
 returns-then-n-row c = record { within = tt; found = is-forgotten (read_table c.args.table.now).slots c.args.view.row (entries_in (read_table c.args.table.now) c.args.view.log) c.args.n c.if-row-n.false c.if-n-row.true }
 
+pub invariant_of-lent : goal.invariant_of-lent
+invariant_of-lent c = record { counted = opened-counted c.args.table.now c.args.view c.requires }
+
 pub search-requires : goal.search-requires
-search-requires c = record { counted = opened-counted c.args.table.now c.args.view c.requires; first_value = opened-reaches c.args.table.now c.args.view c.requires }
+search-requires c = opened-reaches c.args.table.now c.args.view c.requires
 
 pub returns : goal.returns
 returns c = record { within = c.search.ensures.within; found = is-searched (read_table c.args.table.now).slots c.args.view.row (entries_in (read_table c.args.table.now) c.args.view.log) c.args.n c.if-row-n.false c.if-n-row.false (found_of (read_table c.args.table.now).slots c.search.result) (c.search.ensures.found ∙ ap (λ (es : List Entry). search c.args.n 0 es) (entries-are c.args.table.now c.args.view c.requires)) }

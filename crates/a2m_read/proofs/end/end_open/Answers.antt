@@ -24,8 +24,11 @@ keeper_of-requires c = opened-long c.args.table.now c.args.view c.requires
 pub overflow_cast-facts : goal.overflow_cast-facts
 overflow_cast-facts c = let l = opened-log c.args.table.now c.args.view c.requires in let k = (opened-counted c.args.table.now c.args.view c.requires).logs-most in omega arith
 
+pub invariant_of-lent : goal.invariant_of-lent
+invariant_of-lent c = record { counted = opened-counted c.args.table.now c.args.view c.requires }
+
 pub attest-blocks-requires : goal.attest-blocks-requires
-attest-blocks-requires c = record { counted = opened-counted c.args.table.now c.args.view c.requires; shown_slot = last-within c.args.table.now c.args.view c.requires c.last_slot-last.result c.last_slot-last.ensures.number c.last_slot-last.ensures.slot }
+attest-blocks-requires c = last-within c.args.table.now c.args.view c.requires c.last_slot-last.result c.last_slot-last.ensures.number c.last_slot-last.ensures.slot
 
 pub returns : goal.returns
 returns c =
