@@ -4,9 +4,9 @@ ghost use Rattle.layout.specs.Layout.{read_table};
 ghost use Rattle.table.specs.Chains.{reaches, chain, entries_of};
 ghost use Rattle.a2m.specs.ImageCalls.{entries_in};
 ghost use Rattle.a2m.specs.Search.{search as searched, looked_up};
-ghost use Rattle.a2m.specs.Opened.{Opened, found_of};
+ghost use Rattle.a2m.specs.Opened.{found_of};
 
-use a2m::{Hit, View};
+use a2m::{Hit, OpenTable};
 use layout::TableRef;
 use layout_slots::link_at;
 use receipt::Kind;
@@ -50,11 +50,11 @@ fn search(lent: TableRef, log: usize, first: usize, n: u64) -> Hit
 }
 
 // What stands at n: above the high position nothing, below the low one nothing any more, else what the chain says.
-pub fn find(table: &[u8], view: View, n: u64) -> Hit
-    requires { Opened table.now view }
-    ensures within { IfSome result.slot (λ s. (1 ≤ s) × (s ≤ view.counts.slots)) }
-    ensures found { found_of (read_table table.now).slots result ≡ looked_up view.row (entries_in (read_table table.now) view.log) n }
+pub fn find(opened: OpenTable, n: u64) -> Hit
+    ensures within { IfSome result.slot (λ s. (1 ≤ s) × (s ≤ opened.entry.view.counts.slots)) }
+    ensures found { found_of (read_table opened.entry.table.now).slots result ≡ looked_up opened.entry.view.row (entries_in (read_table opened.entry.table.now) opened.entry.view.log) n }
 {
+    let OpenTable { table, view } = opened;
     let row = view.row;
     if row.high < n {
         return Hit {
