@@ -2,8 +2,11 @@
 // to an image and to bytes, and what it answers.
 #![tactic(auto)]
 
+mod tables;
+
 use layout::{Counts, Row};
 use receipt::Kind;
+pub use tables::OpenTable;
 
 // What append, advance and truncate answer: the row's low and high position after the call.
 #[derive(Clone, Copy, PartialEq, Eq)]

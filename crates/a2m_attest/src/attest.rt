@@ -4,10 +4,9 @@ ghost use Rattle.receipt.specs.Attestation.{receipt_bytes};
 ghost use Rattle.receipt.specs.Writer.{attestation_of};
 ghost use Rattle.layout.specs.Image.{slot_at};
 ghost use Rattle.layout.specs.Layout.{read_table};
-ghost use Rattle.layout.specs.Fits.{Counted};
 ghost use Rattle.a2m.specs.Opened.{slot_number};
 
-use layout::Counts;
+use layout::TableRef;
 use layout_header::key_of;
 use layout_slots::{digest_at, value_at};
 use receipt::Facts;
@@ -16,27 +15,25 @@ use receipt_write::put_receipt;
 // Writes the receipt of these facts under the table's key, with the value and digest of the slot shown; zero bytes where none is. The
 // answer is the number of blocks hashed.
 pub fn attest(
-    table: &[u8],
-    counts: Counts,
+    lent: TableRef,
     shown: Option<usize>,
     f: Facts,
     nonce: &[u8; 32],
     receipt: &mut [u8; 160],
 ) -> u64
-    requires counted { Counted table.now counts.logs counts.slots }
-    requires shown_slot { IfSome shown (λ s. (1 ≤ s) × (s ≤ counts.slots)) }
+    requires { IfSome shown (λ s. (1 ≤ s) × (s ≤ lent.counts.slots)) }
     ensures blocks { result ≡ 6 }
-    ensures bytes { receipt.new ≡ receipt_bytes (read_table table.now).key (attestation_of f nonce.now (slot_at (read_table table.now).slots (slot_number shown)).value (slot_at (read_table table.now).slots (slot_number shown)).digest) }
+    ensures bytes { receipt.new ≡ receipt_bytes (read_table lent.entry.table.now).key (attestation_of f nonce.now (slot_at (read_table lent.entry.table.now).slots (slot_number shown)).value (slot_at (read_table lent.entry.table.now).slots (slot_number shown)).digest) }
 {
-    let key = key_of(table);
+    let key = key_of(lent.table);
     match shown {
         None => {
             let none = [0; 32];
             put_receipt(receipt, key, f, nonce, &none, &none)
         }
         Some(s) => {
-            let value = value_at(table, counts, s);
-            let digest = digest_at(table, counts, s);
+            let value = value_at(lent, s);
+            let digest = digest_at(lent, s);
             put_receipt(receipt, key, f, nonce, value, digest)
         }
     }

@@ -8,7 +8,7 @@ ghost use Rattle.a2m.specs.ImageCalls.{put};
 ghost use Rattle.a2m.specs.Opened.{Opened, hooked, last_after, entry_at};
 
 use a2m::{Bounds, View};
-use layout::{Counts, Free, Row, Slot};
+use layout::{Counts, Free, Row, Slot, TableRef};
 use layout_header::put_free;
 use layout_rows::put_row;
 use layout_slots::{link_at, put_next, put_slot};
@@ -54,7 +54,7 @@ pub fn enter(
     let counts = view.counts;
     let log = view.log;
     let t = view.free;
-    let l = link_at(table, counts, t);
+    let l = link_at(TableRef { table, counts }, t);
     let held = Slot {
         owner: log + 1,
         next: 0,

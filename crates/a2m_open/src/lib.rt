@@ -5,7 +5,7 @@ ghost use Rattle.std.specs.Prelude.{◌≡◌};
 ghost use Rattle.a2m.specs.Opened.{opening_of};
 
 use a2m::View;
-use layout::Free;
+use layout::{Free, TableRef};
 use layout_header::{counts_of, free_of};
 use layout_rows::row_at;
 use refusal::Refusal;
@@ -22,7 +22,7 @@ pub fn open(table: &[u8], log: u64) -> Result<View, Refusal>
         return Err(Refusal::NoLog);
     }
     let g = log as usize;
-    let row = row_at(table, counts, g);
+    let row = row_at(TableRef { table, counts }, g);
     let free = free_of(table, Free::First);
     Ok(View {
         counts,

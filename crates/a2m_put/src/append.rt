@@ -8,6 +8,7 @@ use a2m::{Bounds, View};
 use a2m_enter::digest::digest_after;
 use a2m_enter::entering::enter;
 use a2m_open::open;
+use layout::TableRef;
 use refusal::{Hashed, Refusal, Refused};
 
 // Refusals 4, 5 and 16, and the entry at the next position.
@@ -20,7 +21,11 @@ fn append_open(table: &mut [u8], view: View, value: &[u8; 32]) -> Result<Hashed<
     }
     room(view)?;
     let after = view.row.append(view.free);
-    let own = digest_after(table, view.counts, view.last_slot(), after.high, value);
+    let before = TableRef {
+        table,
+        counts: view.counts,
+    };
+    let own = digest_after(before, view.last_slot(), after.high, value);
     Ok(enter(table, view, after, value, &own))
 }
 

@@ -4,11 +4,12 @@ ghost use Rattle.receipt.specs.Kind.{kind_number};
 ghost use Rattle.a2m.specs.Call.{end as ends};
 ghost use Rattle.a2m.specs.ImageCalls.{end_kind};
 ghost use Rattle.a2m.specs.TableCalls.{table_step};
-ghost use Rattle.a2m.specs.Opened.{Opened, slot_number, Ended};
+ghost use Rattle.a2m.specs.Opened.{slot_number, Ended};
 
-use a2m::View;
+use a2m::OpenTable;
 use a2m_attest::attest::attest;
 use a2m_open::open;
+use layout::TableRef;
 use layout_header::keeper_of;
 use receipt::{Facts, Kind, Name};
 use refusal::{Hashed, Refusal, Refused};
@@ -25,10 +26,10 @@ fn kind_at(last: Option<usize>) -> Kind
 }
 
 // The receipt of the entry at the high position; of a fresh log, that nothing is assigned there.
-fn end_open(table: &[u8], view: View, nonce: &[u8; 32], receipt: &mut [u8; 160]) -> Hashed<()>
-    requires { Opened table.now view }
-    ensures { Ended (table_step table.now (ends view.log nonce.now (length receipt.old))) (Ok result) receipt.old receipt.new }
+fn end_open(opened: OpenTable, nonce: &[u8; 32], receipt: &mut [u8; 160]) -> Hashed<()>
+    ensures { Ended (table_step opened.entry.table.now (ends opened.entry.view.log nonce.now (length receipt.old))) (Ok result) receipt.old receipt.new }
 {
+    let OpenTable { table, view } = opened;
     let row = view.row;
     let last = view.last_slot();
     let facts = Facts {
@@ -39,7 +40,11 @@ fn end_open(table: &[u8], view: View, nonce: &[u8; 32], receipt: &mut [u8; 160])
         position: row.high,
         reference: row.high,
     };
-    let blocks = attest(table, view.counts, last, facts, nonce, receipt);
+    let lent = TableRef {
+        table,
+        counts: view.counts,
+    };
+    let blocks = attest(lent, last, facts, nonce, receipt);
     Hashed { value: (), blocks }
 }
 
@@ -50,5 +55,5 @@ pub fn end(table: &[u8], log: u64, nonce: &[u8], receipt: &mut [u8]) -> Result<H
     let nonce = nonce.as_array::<32>().ok_or(Refusal::Length)?;
     let receipt = receipt.as_mut_array::<160>().ok_or(Refusal::Length)?;
     let view = open(table, log)?;
-    Ok(end_open(table, view, nonce, receipt))
+    Ok(end_open(OpenTable { table, view }, nonce, receipt))
 }

@@ -9,7 +9,7 @@ ghost use Rattle.a2m.specs.ImageCalls.{releases, lowered};
 ghost use Rattle.a2m.specs.Opened.{Opened, joined_at};
 
 use a2m::{Bounds, View};
-use layout::{Counts, Free, Slot};
+use layout::{Counts, Free, Slot, TableRef};
 use layout_header::put_free;
 use layout_rows::put_row;
 use layout_slots::{link_at, put_next, put_slot};
@@ -44,7 +44,7 @@ pub fn strike(table: &mut [u8], view: View, n: u64) -> Bounds
     let mut s = view.row.first;
     join(table, counts, last, s);
     'entries: loop {
-        let l = link_at(table, counts, s);
+        let l = link_at(TableRef { table, counts }, s);
         if n <= l.position {
             break;
         }

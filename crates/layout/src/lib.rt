@@ -2,6 +2,9 @@
 #![tactic(auto)]
 
 pub mod places;
+mod tables;
+
+pub use tables::TableRef;
 
 // How many logs and slots a table has.
 #[derive(Clone, Copy, PartialEq, Eq)]

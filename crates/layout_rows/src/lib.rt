@@ -8,7 +8,7 @@ ghost use Rattle.layout.specs.Fits.{RowFits, Counted};
 
 use bigendian::{number_at, put_number};
 use layout::places::{ROW, row_offset};
-use layout::{Counts, Row};
+use layout::{Counts, Row, TableRef};
 
 // The row in a row's part of a table.
 fn read_row(part: &[u8]) -> Row
@@ -25,13 +25,12 @@ fn read_row(part: &[u8]) -> Row
 }
 
 // The row of log g.
-pub fn row_at(table: &[u8], counts: Counts, g: usize) -> Row
-    requires counted { Counted table.now counts.logs counts.slots }
-    requires g_lt_logs { g < counts.logs }
-    ensures { result ≡ row_at (read_table table.now).rows g }
+pub fn row_at(lent: TableRef, g: usize) -> Row
+    requires { g < lent.counts.logs }
+    ensures { result ≡ row_at (read_table lent.entry.table.now).rows g }
 {
     let at = row_offset(g);
-    read_row(&table[at..at + ROW])
+    read_row(&lent.table[at..at + ROW])
 }
 
 // A row into its part of a table.

@@ -12,7 +12,7 @@ ghost use Rattle.layout.specs.Fits.{Counted};
 use bigendian::{number_at, put_number};
 pub use cells::Cells;
 use layout::places::{SLOT, array_at, put_array, slot_offset};
-use layout::{Counts, Link, Slot};
+use layout::{Counts, Link, Slot, TableRef};
 
 // The owner, next slot and position in a slot's part of a table.
 fn read_link(part: &[u8]) -> Link
@@ -28,31 +28,28 @@ fn read_link(part: &[u8]) -> Link
 }
 
 // The owner, next slot and position of slot s of a table.
-pub fn link_at(table: &[u8], counts: Counts, s: usize) -> Link
-    requires counted { Counted table.now counts.logs counts.slots }
-    requires le_s { (1 ≤ s) × (s ≤ counts.slots) }
-    ensures { result ≡ link_of (slot_at (read_table table.now).slots s) }
+pub fn link_at(lent: TableRef, s: usize) -> Link
+    requires { (1 ≤ s) × (s ≤ lent.counts.slots) }
+    ensures { result ≡ link_of (slot_at (read_table lent.entry.table.now).slots s) }
 {
-    let at = slot_offset(counts.logs, s);
-    read_link(&table[at..at + SLOT])
+    let at = slot_offset(lent.counts.logs, s);
+    read_link(&lent.table[at..at + SLOT])
 }
 
 // The value of slot s, as a part of the table.
-pub fn value_at(table: &[u8], counts: Counts, s: usize) -> &[u8; 32]
-    requires counted { Counted table.now counts.logs counts.slots }
-    requires le_s { (1 ≤ s) × (s ≤ counts.slots) }
-    ensures { result.now ≡ (slot_at (read_table table.now).slots s).value }
+pub fn value_at(lent: TableRef, s: usize) -> &[u8; 32]
+    requires { (1 ≤ s) × (s ≤ lent.counts.slots) }
+    ensures { result.now ≡ (slot_at (read_table lent.entry.table.now).slots s).value }
 {
-    array_at(table, slot_offset(counts.logs, s) + 12)
+    array_at(lent.table, slot_offset(lent.counts.logs, s) + 12)
 }
 
 // The digest of slot s, as a part of the table.
-pub fn digest_at(table: &[u8], counts: Counts, s: usize) -> &[u8; 32]
-    requires counted { Counted table.now counts.logs counts.slots }
-    requires le_s { (1 ≤ s) × (s ≤ counts.slots) }
-    ensures { result.now ≡ (slot_at (read_table table.now).slots s).digest }
+pub fn digest_at(lent: TableRef, s: usize) -> &[u8; 32]
+    requires { (1 ≤ s) × (s ≤ lent.counts.slots) }
+    ensures { result.now ≡ (slot_at (read_table lent.entry.table.now).slots s).digest }
 {
-    array_at(table, slot_offset(counts.logs, s) + 44)
+    array_at(lent.table, slot_offset(lent.counts.logs, s) + 44)
 }
 
 // An entry, or a free slot, into the slot's part of a table.

@@ -17,7 +17,7 @@ ghost use Rattle.script.specs.Named.{Named, ChangeNamed, change_answer};
 
 use a2m::Bounds;
 use bigendian::{number_at, put_number};
-use layout::Row;
+use layout::{Row, TableRef};
 use layout_header::counts_of;
 use layout_rows::row_at;
 use receipt_fields::{kind_of, position_of, reference_of, value_of};
@@ -38,7 +38,11 @@ fn row_of(table: &[u8], log: u64) -> Row
     requires { (whole table.now ≡ true) × (log < logs_of table.now) }
     ensures { result ≡ row_in (read_table table.now) log }
 {
-    row_at(table, counts_of(table), log as usize)
+    let lent = TableRef {
+        table,
+        counts: counts_of(table),
+    };
+    row_at(lent, log as usize)
 }
 
 // The answer to a refused call: a torn table and no log have no row.

@@ -10,7 +10,7 @@ ghost use Rattle.table.specs.Forms.{FormLaws};
 ghost use Rattle.table.proofs.ModestLaws.{present-laws};
 
 use layout::places::row_offset;
-use layout::{Counts, Row};
+use layout::{Counts, Row, TableRef};
 
 pub trait Form {
     ghost places: { Plan };
@@ -61,6 +61,6 @@ impl Form for Present {
     }
 
     fn row_at(table: &[u8], counts: Counts, g: usize) -> Row {
-        layout_rows::row_at(table, counts, g)
+        layout_rows::row_at(TableRef { table, counts }, g)
     }
 }

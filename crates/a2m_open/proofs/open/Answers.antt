@@ -26,10 +26,10 @@ counts_of-counts-requires c = whole_long c.args.table.now (check-whole c.args.ta
 pub returns-then-counts-log : goal.returns-then-counts-log
 returns-then-counts-log c = open-beyond c.args.table.now c.args.log (check-whole c.args.table.now c.args.log _ (all_of c.args.table.now c.args.log c.in_ok-whole.ensures)).0 (omega (arith, c.if-counts-log.true, c.counts_of-counts.ensures.are.0))
 
-pub row_at-row-requires : goal.row_at-row-requires
-row_at-row-requires c =
+pub invariant_of-row_at : goal.invariant_of-row_at
+invariant_of-row_at c =
     let w = check-whole c.args.table.now c.args.log _ (all_of c.args.table.now c.args.log c.in_ok-whole.ensures) in
-    record { counted = whole-counted c.args.table.now _ _ w.0 c.counts_of-counts.ensures.are.0 c.counts_of-counts.ensures.are.1; g_lt_logs = c.if-counts-log.false }
+    record { counted = whole-counted c.args.table.now _ _ w.0 c.counts_of-counts.ensures.are.0 c.counts_of-counts.ensures.are.1 }
 
 pub free_of-free-requires : goal.free_of-free-requires
 free_of-free-requires c = whole_long c.args.table.now (check-whole c.args.table.now c.args.log _ (all_of c.args.table.now c.args.log c.in_ok-whole.ensures)).0

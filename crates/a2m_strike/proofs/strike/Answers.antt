@@ -19,10 +19,15 @@ join-requires c = record { counted = opened-counted c.args.table.now c.args.view
 pub entries-init : goal.entries-init
 entries-init c = (refl, λ b B. releasing-first b c.args.view B.opened c.args.n B.least B.most B.bytes c.join.new.table B.joined)
 
+pub invariant_of-link_at : goal.invariant_of-link_at
+invariant_of-link_at c =
+    let R = c.entries.invariant.1 c.args.table.now (begun (goal.at.invariant_of-link_at c).After-join (search rules)) in
+    record { counted = holds-counted _ _ _ _ _ R.held }
+
 pub link_at-l-requires : goal.link_at-l-requires
 link_at-l-requires c =
     let R = c.entries.invariant.1 c.args.table.now (begun (goal.at.link_at-l-requires c).After-join (search rules)) in
-    record { counted = holds-counted _ _ _ _ _ R.held; le_s = slot-within c.requires.opened R }
+    slot-within c.requires.opened R
 
 pub put_slot-requires : goal.put_slot-requires
 put_slot-requires c =

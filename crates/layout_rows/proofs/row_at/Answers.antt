@@ -4,4 +4,4 @@ use Rattle.layout.proofs.CodeLaws.{row-there}
 use Rattle.layout_rows.proofs.row_at.Goals as goal
 
 pub returns : goal.returns
-returns c = c.read_row.ensures ∙ row-there c.args.table.now c.args.counts.logs c.args.counts.slots c.requires.counted c.row_offset-at.result c.args.g c.row_offset-at.ensures c.requires.g_lt_logs
+returns c = let t = c.args.lent in c.read_row.ensures ∙ row-there t.table.now t.counts.logs t.counts.slots t.counted c.row_offset-at.result c.args.g c.row_offset-at.ensures c.requires

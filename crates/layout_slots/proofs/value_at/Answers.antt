@@ -4,4 +4,4 @@ use Rattle.layout.proofs.CodeLaws.{value_there}
 use Rattle.layout_slots.proofs.value_at.Goals as goal
 
 pub returns : goal.returns
-returns c = c.array_at.ensures ∙ value_there c.args.table.now c.args.counts.logs c.args.counts.slots c.requires.counted c.slot_offset.result c.args.s c.slot_offset.ensures c.requires.le_s.0 c.requires.le_s.1
+returns c = let t = c.args.lent in c.array_at.ensures ∙ value_there t.table.now t.counts.logs t.counts.slots t.counted c.slot_offset.result c.args.s c.slot_offset.ensures c.requires.0 c.requires.1

@@ -11,5 +11,8 @@ undivided = refl
 pub counts_of-requires : goal.counts_of-requires
 counts_of-requires c = whole_long c.args.table.now c.requires.0
 
+pub invariant_of-lent : goal.invariant_of-lent
+invariant_of-lent c = record { counted = whole-counted c.args.table.now c.counts_of.result.logs c.counts_of.result.slots c.requires.0 c.counts_of.ensures.are.0 c.counts_of.ensures.are.1 }
+
 pub row_at-requires : goal.row_at-requires
-row_at-requires c = record { counted = whole-counted c.args.table.now c.counts_of.result.logs c.counts_of.result.slots c.requires.0 c.counts_of.ensures.are.0 c.counts_of.ensures.are.1; g_lt_logs = omega (arith, c.requires.1, c.counts_of.ensures.are.0) }
+row_at-requires c = omega (arith, c.requires.1, c.counts_of.ensures.are.0)

@@ -13,4 +13,4 @@ counted = refl
 
 pub returns-in-None-clause-digest : goal.returns-in-None-clause-digest
 unfolding zeros
-returns-in-None-clause-digest c = none_before c.args.table.now c.args.position c.args.value.now c.in-None.is c.entry_digest.ensures.0
+returns-in-None-clause-digest c = none_before c.args.lent.table.now c.args.position c.args.value.now c.in-None.is c.entry_digest.ensures.0

@@ -19,8 +19,11 @@ counted = refl
 entering : (c : goal.Start) → Bytes c.args.table.now → Entering c.args.table.now c.args.view c.args.after c.args.value.now c.args.own.now.value
 entering c bytes = record { opened = c.requires.opened; bytes = bytes; free = c.requires.le_free; rowed = c.requires.after_value; high = c.requires.high_bound; value = omega arith; digest = omega arith }
 
+pub invariant_of-link_at : goal.invariant_of-link_at
+invariant_of-link_at c = record { counted = opened-counted c.args.table.now c.args.view c.requires.opened }
+
 pub link_at-l-requires : goal.link_at-l-requires
-link_at-l-requires c = record { counted = opened-counted c.args.table.now c.args.view c.requires.opened; le_s = (c.requires.le_free, free-most c.args.table.now c.args.view c.requires.opened) }
+link_at-l-requires c = (c.requires.le_free, free-most c.args.table.now c.args.view c.requires.opened)
 
 pub overflow_add-held : goal.overflow_add-held
 overflow_add-held c = let l = opened-log c.args.table.now c.args.view c.requires.opened in let k = (opened-counted c.args.table.now c.args.view c.requires.opened).logs-most in omega arith

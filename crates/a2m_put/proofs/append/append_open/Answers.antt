@@ -27,8 +27,11 @@ returns-then-view-eq18446744073709551615 c = changed_not (table_step c.args.tabl
 pub returns-in_err-room : goal.returns-in_err-room
 returns-in_err-room c = changed_not (table_step c.args.table.now (append c.args.view.log c.args.value.now)) _ (as_err _ c.from_residual.ensures) (append-crowded c.args.table.now c.args.value.now c.args.view c.requires (omega arith) c.if-view-eq18446744073709551615.false _ c.in_err-room.ensures)
 
+pub invariant_of-before : goal.invariant_of-before
+invariant_of-before c = record { counted = opened-counted c.args.table.now c.args.view c.requires }
+
 pub digest_after-own-requires : goal.digest_after-own-requires
-digest_after-own-requires c = record { counted = opened-counted c.args.table.now c.args.view c.requires; last_slot = last-within c.args.table.now c.args.view c.requires c.last_slot.result c.last_slot.ensures.number c.last_slot.ensures.slot }
+digest_after-own-requires c = last-within c.args.table.now c.args.view c.requires c.last_slot.result c.last_slot.ensures.number c.last_slot.ensures.slot
 
 pub enter-requires : goal.enter-requires
 enter-requires c =

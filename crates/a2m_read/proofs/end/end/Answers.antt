@@ -35,8 +35,8 @@ returns-in_err-view c =
     let call = end c.args.log c.args.nonce.now (length c.args.receipt.now) in
     ended_not (table_step c.args.table.now call) _ (as_err _ c.from_residual-in_err-view.ensures) (came_back (table_step c.args.table.now call) q.0 (read_unopened c.args.table.now c.args.log _ call c.args.receipt.now c.in_err-view.ensures refl (end-sized c.args.table.now c.args.nonce.now c.args.receipt.now c.args.log (length c.args.receipt.now) p.1 q.1)))
 
-pub end_open-requires : goal.end_open-requires
-end_open-requires c = (opened c.args.table.now c.args.log c.in_ok-view.view c.in_ok-view.ensures).0
+pub invariant_of-end_open : goal.invariant_of-end_open
+invariant_of-end_open c = record { opened = (opened c.args.table.now c.args.log c.in_ok-view.view c.in_ok-view.ensures).0 }
 
 pub returns : goal.returns
 returns c =

@@ -19,16 +19,19 @@ pub counted : unwritten counts function.body ≡ true
 counted = refl
 
 pub keeper_of-requires : goal.keeper_of-requires
-keeper_of-requires c = opened-long c.args.table.now c.args.view c.requires
+keeper_of-requires c = opened-long c.args.opened.table.now c.args.opened.view c.args.opened.opened
 
 pub overflow_cast-facts : goal.overflow_cast-facts
-overflow_cast-facts c = let l = opened-log c.args.table.now c.args.view c.requires in let k = (opened-counted c.args.table.now c.args.view c.requires).logs-most in omega arith
+overflow_cast-facts c = let l = opened-log c.args.opened.table.now c.args.opened.view c.args.opened.opened in let k = (opened-counted c.args.opened.table.now c.args.opened.view c.args.opened.opened).logs-most in omega arith
+
+pub invariant_of-lent : goal.invariant_of-lent
+invariant_of-lent c = record { counted = opened-counted c.args.opened.table.now c.args.opened.view c.args.opened.opened }
 
 pub attest-blocks-requires : goal.attest-blocks-requires
-attest-blocks-requires c = record { counted = opened-counted c.args.table.now c.args.view c.requires; shown_slot = last-within c.args.table.now c.args.view c.requires c.last_slot-last.result c.last_slot-last.ensures.number c.last_slot-last.ensures.slot }
+attest-blocks-requires c = last-within c.args.opened.table.now c.args.opened.view c.args.opened.opened c.last_slot-last.result c.last_slot-last.ensures.number c.last_slot-last.ensures.slot
 
 pub returns : goal.returns
 returns c =
-    ended (table_step c.args.table.now (end c.args.view.log c.args.nonce.now (length c.args.receipt.now))) (Ok _)
-    (end-done c.args.table.now c.args.nonce.now c.args.receipt.now c.args.view c.requires (omega arith) (omega arith) c.from.result c.keeper_of.result c.attest-blocks.result (slot_number c.last_slot-last.result) c.attest-blocks.new.receipt
+    ended (table_step c.args.opened.table.now (end c.args.opened.view.log c.args.nonce.now (length c.args.receipt.now))) (Ok _)
+    (end-done c.args.opened.table.now c.args.nonce.now c.args.receipt.now c.args.opened.view c.args.opened.opened (omega arith) (omega arith) c.from.result c.keeper_of.result c.attest-blocks.result (slot_number c.last_slot-last.result) c.attest-blocks.new.receipt
     c.last_slot-last.ensures.number (c.from.ensures ∙ c.kind_at.ensures) c.keeper_of.ensures c.attest-blocks.ensures.blocks c.attest-blocks.ensures.bytes)

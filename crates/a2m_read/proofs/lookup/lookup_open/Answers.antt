@@ -18,19 +18,19 @@ pub counted : unwritten counts function.body ≡ true
 counted = refl
 
 pub returns-then-position-eq0 : goal.returns-then-position-eq0
-returns-then-position-eq0 c = looked_not (table_step c.args.table.now (lookup c.args.view.log c.args.position c.args.nonce.now (length c.args.receipt.now))) _ (ap Err c.into.ensures) (lookup-zero c.args.table.now c.args.nonce.now c.args.receipt.now c.args.position c.args.view c.requires (omega arith) (omega arith) c.if-position-eq0.true)
+returns-then-position-eq0 c = looked_not (table_step c.args.opened.table.now (lookup c.args.opened.view.log c.args.position c.args.nonce.now (length c.args.receipt.now))) _ (ap Err c.into.ensures) (lookup-zero c.args.opened.table.now c.args.nonce.now c.args.receipt.now c.args.position c.args.opened.view c.args.opened.opened (omega arith) (omega arith) c.if-position-eq0.true)
 
 pub keeper_of-requires : goal.keeper_of-requires
-keeper_of-requires c = opened-long c.args.table.now c.args.view c.requires
+keeper_of-requires c = opened-long c.args.opened.table.now c.args.opened.view c.args.opened.opened
 
 pub overflow_cast-facts : goal.overflow_cast-facts
-overflow_cast-facts c = let l = opened-log c.args.table.now c.args.view c.requires in let k = (opened-counted c.args.table.now c.args.view c.requires).logs-most in omega arith
+overflow_cast-facts c = let l = opened-log c.args.opened.table.now c.args.opened.view c.args.opened.opened in let k = (opened-counted c.args.opened.table.now c.args.opened.view c.args.opened.opened).logs-most in omega arith
 
-pub attest-blocks-requires : goal.attest-blocks-requires
-attest-blocks-requires c = record { counted = opened-counted c.args.table.now c.args.view c.requires; shown_slot = c.find-hit.ensures.within }
+pub invariant_of-lent : goal.invariant_of-lent
+invariant_of-lent c = record { counted = opened-counted c.args.opened.table.now c.args.opened.view c.args.opened.opened }
 
 pub returns : goal.returns
 returns c =
-    looked (table_step c.args.table.now (lookup c.args.view.log c.args.position c.args.nonce.now (length c.args.receipt.now))) (Ok _)
-    (lookup-done c.args.table.now c.args.nonce.now c.args.receipt.now c.args.position c.args.view c.requires (omega arith) (omega arith) c.if-position-eq0.false c.find-hit.result c.from.result c.keeper_of.result c.attest-blocks.result c.attest-blocks.new.receipt
+    looked (table_step c.args.opened.table.now (lookup c.args.opened.view.log c.args.position c.args.nonce.now (length c.args.receipt.now))) (Ok _)
+    (lookup-done c.args.opened.table.now c.args.nonce.now c.args.receipt.now c.args.position c.args.opened.view c.args.opened.opened (omega arith) (omega arith) c.if-position-eq0.false c.find-hit.result c.from.result c.keeper_of.result c.attest-blocks.result c.attest-blocks.new.receipt
     c.from.ensures c.find-hit.ensures.found c.keeper_of.ensures c.attest-blocks.ensures.blocks c.attest-blocks.ensures.bytes)

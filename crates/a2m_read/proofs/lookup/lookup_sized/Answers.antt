@@ -22,8 +22,8 @@ returns-in_err-view c =
     let call = lookup c.args.log c.args.position c.args.nonce.now (length c.args.receipt.now) in
     looked_not (table_step c.args.table.now call) _ (as_err _ c.from_residual.ensures) (read_unopened c.args.table.now c.args.log _ call c.args.receipt.now c.in_err-view.ensures refl (lookup-sized c.args.table.now c.args.nonce.now c.args.receipt.now c.args.position c.args.log (length c.args.receipt.now) (omega arith) (omega arith)))
 
-pub lookup_open-requires : goal.lookup_open-requires
-lookup_open-requires c = (opened c.args.table.now c.args.log c.in_ok-view.view c.in_ok-view.ensures).0
+pub invariant_of-lookup_open : goal.invariant_of-lookup_open
+invariant_of-lookup_open c = record { opened = (opened c.args.table.now c.args.log c.in_ok-view.view c.in_ok-view.ensures).0 }
 
 pub returns : goal.returns
 returns c = same-look c.args.table.now (ap (λ (g : ℕ). lookup g c.args.position c.args.nonce.now (length c.args.receipt.now)) (opened c.args.table.now c.args.log c.in_ok-view.view c.in_ok-view.ensures).1) refl c.lookup_open.ensures
