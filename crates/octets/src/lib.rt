@@ -1,8 +1,8 @@
-// Byte slices: equality, zero bytes, and a copy into a part of a lent slice.
+// Byte slices: equality, zero bytes, a part as an array, and a copy into a part of a lent slice.
 #![tactic(auto)]
 
 ghost use Rattle.std.specs.Prelude.{◌≡◌, ◌+◌, ◌≤◌, length};
-ghost use Rattle.octets.specs.Octets.{splice, same, zeros};
+ghost use Rattle.octets.specs.Octets.{part, splice, same, zeros};
 
 // Whether a and b hold the same bytes. All bytes are looked at, so the time does not tell where they differ.
 pub fn equal(a: &[u8], b: &[u8]) -> bool
@@ -16,6 +16,14 @@ pub fn equal(a: &[u8], b: &[u8]) -> bool
         diff |= x ^ y;
     }
     diff == 0
+}
+
+// The N bytes at a place, as a part of the slice.
+pub fn array_at<const N: usize>(bytes: &[u8], at: usize) -> &[u8; N]
+    requires { at + N ≤ length bytes.now }
+    ensures { result.now ≡ part bytes.now at N }
+{
+    bytes[at..at + N].as_array().unwrap()
 }
 
 // Writes the bytes of part from at on. Not by copy_from_slice: where out and part are both lent and the length is not known, the

@@ -6,7 +6,7 @@ mod places;
 ghost use Rattle.std.specs.Prelude.{◌≡◌};
 ghost use Rattle.quorum.specs.Certificate.{certificate, station_answer, certificate_blocks, station_blocks, NamesExactly};
 
-use places::first_place;
+use places::Certificate;
 use quorum::{Certified, receipts_in};
 use quorum_tally::tally_of;
 use refusal::{Hashed, Refusal, Refused};
@@ -34,12 +34,16 @@ pub fn certify(
     let Some(items) = items(members, roster) else {
         return Err(Refusal::Roster.into());
     };
-    let Some(pile) = receipts_in(cert) else {
+    let Some(receipts) = receipts_in(cert) else {
         return Err(Refusal::NoReceipt.into());
     };
-    let tally = tally_of(items, nonce, log, position, pile);
+    let tally = tally_of(items, nonce, log, position, receipts);
     let blocks = tally.blocks;
-    let Some(value) = first_place(&tally.value, pile, needed as u32) else {
+    let read = Certificate {
+        receipts,
+        members: &tally.value,
+    };
+    let Some(value) = read.first_place(needed as u32) else {
         return Err(Refused {
             why: Refusal::TooFew,
             blocks,

@@ -1,12 +1,12 @@
 // The fields of a receipt, read from its bytes.
 #![tactic(auto, unfolding(receipt::specs::Attestation::read_attestation, receipt::specs::Attestation::LOOKUP, receipt::specs::Attestation::END))]
 
-ghost use Rattle.std.specs.Prelude.{◌≡◌, ◌+◌, ◌≤◌};
-ghost use Rattle.octets.specs.Octets.{part, same};
+ghost use Rattle.std.specs.Prelude.{◌≡◌};
+ghost use Rattle.octets.specs.Octets.{same};
 ghost use Rattle.receipt.specs.Attestation.{LOOKUP, END, read_attestation, pair_in, attested_in, tag_in};
 
 use bigendian::number_at;
-use octets::equal;
+use octets::{array_at, equal};
 
 // Whether the name is LOOKUP.
 pub fn is_lookup(r: &[u8; 160]) -> bool
@@ -52,48 +52,40 @@ pub fn reference_of(r: &[u8; 160]) -> u64
     number_at::<8>(r, 24)
 }
 
-// The N bytes from at on, as a part of the receipt.
-fn bytes<const N: usize>(r: &[u8; 160], at: usize) -> &[u8; N]
-    requires { at + N ≤ 160 }
-    ensures { result.now ≡ part r.now at N }
-{
-    r[at..at + N].as_array().unwrap()
-}
-
 pub fn nonce_of(r: &[u8; 160]) -> &[u8; 32]
     ensures { result.now ≡ (read_attestation r.now).nonce }
 {
-    bytes::<32>(r, 32)
+    array_at::<32>(r, 32)
 }
 
 pub fn value_of(r: &[u8; 160]) -> &[u8; 32]
     ensures { result.now ≡ (read_attestation r.now).value }
 {
-    bytes::<32>(r, 64)
+    array_at::<32>(r, 64)
 }
 
 pub fn digest_of(r: &[u8; 160]) -> &[u8; 32]
     ensures { result.now ≡ (read_attestation r.now).digest }
 {
-    bytes::<32>(r, 96)
+    array_at::<32>(r, 96)
 }
 
 // Value and digest, which stand on end.
 pub fn pair_of(r: &[u8; 160]) -> &[u8; 64]
     ensures { result.now ≡ pair_in r.now }
 {
-    bytes::<64>(r, 64)
+    array_at::<64>(r, 64)
 }
 
 // What the tag is over.
 pub fn attested_of(r: &[u8; 160]) -> &[u8; 128]
     ensures { result.now ≡ attested_in r.now }
 {
-    bytes::<128>(r, 0)
+    array_at::<128>(r, 0)
 }
 
 pub fn tag_of(r: &[u8; 160]) -> &[u8; 32]
     ensures { result.now ≡ tag_in r.now }
 {
-    bytes::<32>(r, 128)
+    array_at::<32>(r, 128)
 }

@@ -49,15 +49,15 @@ pub overflow_cast-needed : goal.overflow_cast-needed
 overflow_cast-needed c =
     let p = (permitted-exactly c.args.members c.args.needed).0 (sym c.is_permitted.ensures ∙ c.if-not-is_permitted.false) in omega (arith, p.most, p.not_more)
 
-pub first_place-requires : goal.first_place-requires
-first_place-requires c =
+pub invariant_of-read : goal.invariant_of-read
+invariant_of-read c =
     let n = parsed c.args.nonce.now 32 Length c.as_array.result c.in_ok-nonce.nonce c.as_array.ensures.cases c.ok_or.ensures.value c.in_ok-nonce.was in
     let p = sym c.is_permitted.ensures ∙ c.if-not-is_permitted.false in
     let m = members-most c.args.members c.args.needed c.args.roster.now c.args.nonce.now c.args.log c.args.position c.args.cert.now n.1 p c.in-Some.ensures.0 in
     let few = ((receipts-exactly c.args.cert.now).0 c.in-Some-receipts_in.ensures.0).most in
     record {
-      size = omega (arith, few, c.in-Some-receipts_in.ensures.1.1);
-      bounded = tally-bounded (concat c.in-Some.items.now) c.in_ok-nonce.nonce.now c.args.log c.args.position (concat c.in-Some-receipts_in.pile.now) c.tally_of-tally.result.value (length c.in-Some-receipts_in.pile.now) (omega (arith, m, ap size c.in-Some.ensures.1.0)) c.tally_of-tally.ensures.members;
+      few = omega (arith, few, c.in-Some-receipts_in.ensures.1.1);
+      bounded = tally-bounded (concat c.in-Some.items.now) c.in_ok-nonce.nonce.now c.args.log c.args.position (concat c.in-Some-receipts_in.receipts.now) c.tally_of-tally.result.value (length c.in-Some-receipts_in.receipts.now) (omega (arith, m, ap size c.in-Some.ensures.1.0)) c.tally_of-tally.ensures.members;
     }
 
 pub returns-in_default-first_place : goal.returns-in_default-first_place

@@ -4,4 +4,4 @@ use Rattle.receipt.proofs.Fields.{pair-bytes}
 use Rattle.receipt_fields.proofs.pair_of.Goals as goal
 
 pub returns : goal.returns
-returns c = c.bytes.ensures ∙ pair-bytes c.args.r.now
+returns c = c.array_at.ensures ∙ pair-bytes c.args.r.now
