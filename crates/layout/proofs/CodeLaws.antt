@@ -5,9 +5,9 @@ use mathlib.Core.List.{List, ◌++◌, append_assoc}
 use native.Mathlib.Nat.{mod-eq_of_lt}
 use native.Mathlib.Omega.{arith}
 use borrow.Rule.Slice.PartMut.{put_mid}
-use lib.ListN.{length, take, drop, set, length-append}
+use lib.ListN.{length, set, length-append}
 use Rattle.octets.specs.Octets.{part, splice, zeros}
-use Rattle.octets.proofs.Parts.{part-between, part-part, put_back, splice-then, splice-whole}
+use Rattle.octets.proofs.Parts.{part-part, put_back, splice-then, splice-whole}
 use Rattle.bigendian.specs.BigEndian.{be}
 use Rattle.bigendian.proofs.Laws.{length-be, put_byte}
 use Rattle.layout.specs.declared.Row.{Row}
@@ -22,22 +22,19 @@ use Rattle.layout.proofs.TableLaws.{row_read, slot_read}
 -- reading
 
 module _ (b : List ℕ) (logs slots : ℕ) (h : Counted b logs slots) (at : ℕ) where
-  pub row-there : (g : ℕ) → at ≡ row_offset g → g < logs → read_row (take (at + row_size - at) (drop at b)) ≡ row_at (read_table b).rows g
-  row-there g e k = ap read_row (part-between b at row_size ∙ ap (λ (a : ℕ). part b a row_size) e) ∙ sym (row_read b g (omega (arith, h.logs-are)))
+  pub row-there : (g : ℕ) → at ≡ row_offset g → g < logs → read_row (part b at row_size) ≡ row_at (read_table b).rows g
+  row-there g e k = ap read_row (ap (λ (a : ℕ). part b a row_size) e) ∙ sym (row_read b g (omega (arith, h.logs-are)))
 
-  slot-part : (s : ℕ) → at ≡ slot_offset logs s → 1 ≤ s → s ≤ slots → read_slot (part b at slot_size) ≡ slot_at (read_table b).slots s
-  slot-part s e l k = ap read_slot (ap (λ (a : ℕ). part b a slot_size) (e ∙ ap (λ (g : ℕ). slot_offset g s) h.logs-are)) ∙ sym (slot_read b s l (omega (arith, h.slots-are)))
-
-  pub slot-there : (s : ℕ) → at ≡ slot_offset logs s → 1 ≤ s → s ≤ slots → read_slot (take (at + slot_size - at) (drop at b)) ≡ slot_at (read_table b).slots s
-  slot-there s e l k = ap read_slot (part-between b at slot_size) ∙ slot-part s e l k
+  pub slot-there : (s : ℕ) → at ≡ slot_offset logs s → 1 ≤ s → s ≤ slots → read_slot (part b at slot_size) ≡ slot_at (read_table b).slots s
+  slot-there s e l k = ap read_slot (ap (λ (a : ℕ). part b a slot_size) (e ∙ ap (λ (g : ℕ). slot_offset g s) h.logs-are)) ∙ sym (slot_read b s l (omega (arith, h.slots-are)))
 
   pub value_there : (s : ℕ) → at ≡ slot_offset logs s → 1 ≤ s → s ≤ slots → part b (at + 12) 32 ≡ (slot_at (read_table b).slots s).value
   unfolding read_slot
-  value_there s e l k = sym (part-part b at slot_size 12 32 (omega arith)) ∙ ap (λ (x : Slot). x.value) (slot-part s e l k)
+  value_there s e l k = sym (part-part b at slot_size 12 32 (omega arith)) ∙ ap (λ (x : Slot). x.value) (slot-there s e l k)
 
   pub digest-there : (s : ℕ) → at ≡ slot_offset logs s → 1 ≤ s → s ≤ slots → part b (at + 44) 32 ≡ (slot_at (read_table b).slots s).digest
   unfolding read_slot
-  digest-there s e l k = sym (part-part b at slot_size 44 32 (omega arith)) ∙ ap (λ (x : Slot). x.digest) (slot-part s e l k)
+  digest-there s e l k = sym (part-part b at slot_size 44 32 (omega arith)) ∙ ap (λ (x : Slot). x.digest) (slot-there s e l k)
 
   -- writing into a part of the table, y being what came back
 

@@ -1,11 +1,11 @@
 -- Document 01's layout: an image without reserves that was written is read back, and what bytes of that layout say fits.
-use Prim.Native.Nat.{ℕ, ◌+◌, ◌-◌, ◌*◌, ◌^◌, ◌≤◌, ◌<◌}
+use Prim.Native.Nat.{ℕ, ◌+◌, ◌*◌, ◌^◌, ◌≤◌, ◌<◌}
 use mathlib.Core.Path.{◌≡◌, refl, sym, ap, ap₂, ◌∙◌, subst}
 use mathlib.Core.List.{List, ◌++◌, append_assoc}
 use native.Mathlib.Omega.{arith}
-use lib.ListN.{length, get_or, take, drop, length-append}
+use lib.ListN.{length, get_or, length-append}
 use Rattle.octets.specs.Octets.{Bytes, part, zeros}
-use Rattle.octets.proofs.Parts.{length_part, part-append-left, part-between, bytes-part}
+use Rattle.octets.proofs.Parts.{length_part, part-append-left, bytes-part}
 use Rattle.octets.proofs.Zeros.{length-zeros}
 use Rattle.bigendian.specs.BigEndian.{be, unbe}
 use Rattle.bigendian.proofs.Laws.{length-be, unbe-be, unbe-part-lt}
@@ -191,10 +191,8 @@ pub row-read01 : (b : List ℕ) (g : ℕ) → g < logs_of b → row_at (read01 b
 unfolding read01 rows_of01
 row-read01 b g h = get_or-tabulate (logs_of b) (λ j. read_row01 (part b (row_offset_in plan01 j) plan01.row)) g (fresh_row 0) h
 
--- a row's part of the bytes, as code lends it
-pub row_there01 : (b : List ℕ) (logs slots g : ℕ) → Counted01 b logs slots → g < logs
-    → read_row01 (take (row_offset_in plan01 g + plan01.row - row_offset_in plan01 g) (drop (row_offset_in plan01 g) b)) ≡ row_at (read01 b).rows g
-row_there01 b logs slots g c h = ap read_row01 (part-between b (row_offset_in plan01 g) plan01.row) ∙ sym (row-read01 b g (omega (arith, c.logs-are)))
+pub row_there01 : (b : List ℕ) (logs slots g : ℕ) → Counted01 b logs slots → g < logs → read_row01 (part b (row_offset_in plan01 g) plan01.row) ≡ row_at (read01 b).rows g
+row_there01 b logs slots g c h = sym (row-read01 b g (omega (arith, c.logs-are)))
 
 -- rows of 20 bytes have no reserve
 pub unreserved01 : (b : List ℕ) → Unreserved (read01 b)

@@ -4,9 +4,9 @@ use mathlib.Core.Path.{◌≡◌, sym, ap, ap₂, ◌∙◌, subst}
 use mathlib.Core.List.{List}
 use native.Mathlib.Omega.{arith}
 use borrow.Author.Tests.{eq-eqb}
-use lib.ListN.{length, take, drop}
+use lib.ListN.{length}
 use Rattle.octets.specs.Octets.{part, same, zeros}
-use Rattle.octets.proofs.Parts.{part-between, part-part, length_part}
+use Rattle.octets.proofs.Parts.{part-part, length_part}
 use Rattle.octets.proofs.Same.{same-eq}
 use Rattle.bigendian.specs.BigEndian.{unbe}
 use Rattle.layout.specs.Image.{slot_at, free_slot}
@@ -28,11 +28,6 @@ module _ (b : List ℕ) (start slots : ℕ) where
       let e : suc i - 1 ≡ i = omega arith in
       get_or-tabulate slots (λ j. strict_slot (part b (start + slot_size * j) slot_size)) i (free_slot 0) (omega arith)
       ∙ ap (λ (j : ℕ). strict_slot (part b (start + slot_size * j) slot_size)) (sym e)
-
-  -- as the code reads it
-  pub strict-there : (s : ℕ) → 1 ≤ s → s ≤ slots
-      → strict_slot (take (start + slot_size * (s - 1) + slot_size - (start + slot_size * (s - 1))) (drop (start + slot_size * (s - 1)) b)) ≡ slot_at (strict_from b start slots) s
-  strict-there s h k = ap strict_slot (part-between b (start + slot_size * (s - 1)) slot_size) ∙ sym (strict-read s h k)
 
 -- a table's slots stand behind its rows
 

@@ -1,6 +1,6 @@
 // Where the parts of a table start. The sizes and offsets of `Layout`, for the code.
 ghost use Rattle.std.specs.Prelude.{◌≡◌, ◌+◌, ◌≤◌, length};
-ghost use Rattle.octets.specs.Octets.{part, splice};
+ghost use Rattle.octets.specs.Octets.{splice};
 ghost use Rattle.layout.specs.Layout.{row_offset, slot_offset, table_size};
 
 use crate::Counts;
@@ -41,14 +41,6 @@ impl Counts {
     {
         HEADER + ROW * self.logs + SLOT * self.slots
     }
-}
-
-// The 32 bytes at a place, as a part of the slice.
-pub fn array_at(s: &[u8], at: usize) -> &[u8; 32]
-    requires { at + 32 ≤ length s.now }
-    ensures { result.now ≡ part s.now at 32 }
-{
-    s[at..at + 32].as_array::<32>().unwrap()
 }
 
 // Puts 32 bytes at a place. Copied first: a local overlaps nothing, so that they are put as a few moves.

@@ -1,26 +1,38 @@
 // A log's row, read and written.
 #![tactic(auto)]
 
-ghost use Rattle.std.specs.Prelude.{◌≡◌, ◌<◌, length};
+ghost use Rattle.std.specs.Prelude.{◌≡◌, ◌≤◌, ◌<◌, length};
 ghost use Rattle.layout.specs.Image.{row_at};
-ghost use Rattle.layout.specs.Layout.{row_size, read_row, row_bytes, read_table, put_row};
+ghost use Rattle.layout.specs.Layout.{plan01, row_size, read_row, row_bytes, read_table, put_row};
+ghost use Rattle.layout.specs.Layout01.{read_row01};
 ghost use Rattle.layout.specs.Fits.{RowFits, Counted};
 
 use bigendian::{number_at, put_number};
 use layout::places::{ROW, row_offset};
 use layout::{Counts, Row, TableRef};
+use octets::array_at;
 
-// The row in a row's part of a table.
-fn read_row(part: &[u8]) -> Row
-    requires { length part.now ≡ row_size }
-    ensures { result ≡ read_row part.now }
+// The row in a row's part of a table of document 01's layout, which has no reserve. The present row begins with the same fields.
+pub fn read_row01(part: &[u8]) -> Row
+    requires { plan01.row ≤ length part.now }
+    ensures { result ≡ read_row01 part.now }
 {
     Row {
         low: number_at::<8>(part, 0),
         high: number_at::<8>(part, 8),
         first: number_at::<2>(part, 16) as usize,
         last: number_at::<2>(part, 18) as usize,
+        reserve: 0,
+    }
+}
+
+// The row in a row's part of a table.
+fn read_row(part: &[u8; ROW]) -> Row
+    ensures { result ≡ read_row part.now }
+{
+    Row {
         reserve: number_at::<2>(part, 20) as usize,
+        ..read_row01(part)
     }
 }
 
@@ -29,8 +41,7 @@ pub fn row_at(lent: TableRef, g: usize) -> Row
     requires { g < lent.counts.logs }
     ensures { result ≡ row_at (read_table lent.entry.table.now).rows g }
 {
-    let at = row_offset(g);
-    read_row(&lent.table[at..at + ROW])
+    read_row(array_at(lent.table, row_offset(g)))
 }
 
 // A row into its part of a table.

@@ -5,7 +5,7 @@ use crate::read_link;
 use bigendian::number_at;
 use layout::Link;
 use layout::places::SLOT;
-use octets::is_zero;
+use octets::{array_at, is_zero};
 
 // So many slots, the first at the start and the last at the end of the bytes.
 #[derive(Clone, Copy)]
@@ -30,7 +30,7 @@ impl Cells<'_> {
         ensures { result ≡ link_of (slot_at (strict_from self.entry.table.now self.entry.start self.entry.slots) s) }
     {
         let at = self.start + SLOT * (s - 1);
-        let part = &self.table[at..at + SLOT];
+        let part = array_at::<SLOT>(self.table, at);
         let link = read_link(part);
         Link {
             owner: link.owner + 256 * number_at::<1>(part, 1) as usize,

@@ -11,12 +11,12 @@ ghost use Rattle.layout.specs.Fits.{Counted};
 
 use bigendian::{number_at, put_number};
 pub use cells::Cells;
-use layout::places::{SLOT, array_at, put_array, slot_offset};
+use layout::places::{SLOT, put_array, slot_offset};
 use layout::{Counts, Link, Slot, TableRef};
+use octets::array_at;
 
 // The owner, next slot and position in a slot's part of a table.
-fn read_link(part: &[u8]) -> Link
-    requires { length part.now ≡ slot_size }
+fn read_link(part: &[u8; SLOT]) -> Link
     ensures fields { result ≡ link_of (read_slot part.now) }
     ensures byte { result.owner < 256 }
 {
@@ -32,8 +32,7 @@ pub fn link_at(lent: TableRef, s: usize) -> Link
     requires { (1 ≤ s) × (s ≤ lent.counts.slots) }
     ensures { result ≡ link_of (slot_at (read_table lent.entry.table.now).slots s) }
 {
-    let at = slot_offset(lent.counts.logs, s);
-    read_link(&lent.table[at..at + SLOT])
+    read_link(array_at(lent.table, slot_offset(lent.counts.logs, s)))
 }
 
 // The value of slot s, as a part of the table.

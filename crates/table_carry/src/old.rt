@@ -2,13 +2,14 @@
 // number and key stand where the present header has them.
 ghost use Rattle.std.specs.Prelude.{◌≡◌, ◌≤◌, length};
 ghost use Rattle.layout.specs.Layout.{plan01, header_size};
-ghost use Rattle.layout.specs.Layout01.{read_row01};
 ghost use Rattle.layout.specs.Strict.{strict01};
 ghost use Rattle.table.specs.Whole01.{constants_fit01};
 ghost use Rattle.table.proofs.ModestLaws.{old-laws};
 
 use bigendian::number_at;
 use layout::{Counts, Row};
+use layout_rows::read_row01;
+use octets::array_at;
 use table_walks::Form;
 
 // The mark, "A2MT", as a big-endian number.
@@ -27,21 +28,6 @@ fn constants01_fit(old: &[u8]) -> bool
         return false;
     }
     number_at::<2>(old, 18) == 0
-}
-
-// The row in a row's part of a table; such a row has no reserve. Its fields lie elsewhere than those of a present row, so one
-// reader for both would be a list of places, no plainer.
-fn read_row01(part: &[u8]) -> Row
-    requires { length part.now ≡ plan01.row }
-    ensures { result ≡ read_row01 part.now }
-{
-    Row {
-        low: number_at::<8>(part, 0),
-        high: number_at::<8>(part, 8),
-        first: number_at::<2>(part, 16) as usize,
-        last: number_at::<2>(part, 18) as usize,
-        reserve: 0,
-    }
 }
 
 // Document 01's layout.
@@ -66,6 +52,6 @@ impl Form for Old {
 
     fn row_at(table: &[u8], counts: Counts, g: usize) -> Row {
         let at = HEADER01 + ROW01 * g;
-        read_row01(&table[at..at + ROW01])
+        read_row01(array_at::<ROW01>(table, at))
     }
 }

@@ -1,6 +1,6 @@
--- `table_carry::old::read_row01` meets its contract.
+-- `layout_rows::read_row01` meets its contract.
 use Rattle.layout.specs.Layout01.{read_row01}
-use Rattle.table_carry.proofs.old.read_row01.Goals as goal
+use Rattle.layout_rows.proofs.read_row01.Goals as goal
 
 pub returns : goal.returns
 unfolding read_row01
