@@ -2,13 +2,13 @@
 ghost use Rattle.std.specs.Prelude.{◌≡◌, ◌≤◌, ◌<◌, ◌^◌};
 ghost use Rattle.layout.specs.Layout.{read_table};
 ghost use Rattle.table.specs.Free.{write_table};
-ghost use Rattle.layout.specs.Fits.{Counted};
+ghost use Rattle.layout.specs.Lent.{Becomes};
 ghost use Rattle.layout.specs.Changes.{advanced_row};
 ghost use Rattle.a2m.specs.ImageCalls.{put};
 ghost use Rattle.a2m.specs.Opened.{Opened, hooked, last_after, entry_at};
 
 use a2m::{Bounds, View};
-use layout::{Counts, Free, Row, Slot, TableRef};
+use layout::{Free, Row, Slot, TableMut, TableRef};
 use layout_header::put_free;
 use layout_rows::put_row;
 use layout_slots::{link_at, put_next, put_slot};
@@ -16,13 +16,12 @@ use refusal::Hashed;
 
 // Slot t becomes the next of slot last, if there is one. Not one function with a2m_strike's join: where there is no slot last, an
 // entry's slot is first by its log's row, and a freed one by the header.
-pub fn hook(table: &mut [u8], counts: Counts, last: usize, t: usize)
-    requires counted { Counted table.old counts.logs counts.slots }
-    requires last_le_slots { (last ≤ counts.slots) × (t ≤ counts.slots) }
-    ensures { table.new ≡ hooked table.old last t }
+pub fn hook(lent: &mut TableMut, last: usize, t: usize)
+    requires { (last ≤ lent.old.counts.slots) × (t ≤ lent.old.counts.slots) }
+    ensures { Becomes lent.old lent.new (hooked lent.old.table.now last t) }
 {
     if last != 0 {
-        put_next(table, counts, last, t);
+        put_next(lent, last, t);
     }
 }
 
@@ -62,9 +61,10 @@ pub fn enter(
         value,
         digest: &own.value,
     };
-    put_slot(table, counts, t, held);
-    hook(table, counts, view.row.last, t);
-    put_row(table, counts, log, after);
+    let mut lent = TableMut { table, counts };
+    put_slot(&mut lent, t, held);
+    hook(&mut lent, view.row.last, t);
+    put_row(&mut lent, log, after);
     put_free(table, Free::First, l.next);
     put_free(table, Free::Count, view.count - 1);
     put_free(table, Free::Last, last_after(l.next, view.last));

@@ -1,36 +1,17 @@
 // Advance.
 ghost use Rattle.a2m.specs.Call.{advance as advances};
 ghost use Rattle.a2m.specs.TableCalls.{table_step};
-ghost use Rattle.a2m.specs.Opened.{Opened, Changed};
+ghost use Rattle.a2m.specs.Opened.{Changed};
 
 use crate::room::room;
-use a2m::{Bounds, View};
+use a2m::Bounds;
 use a2m_enter::entering::enter;
 use a2m_open::open;
 use entry::entry_digest;
 use refusal::{Hashed, Refusal, Refused};
 
-// Refusals 3, 5 and 16, and the entry at the given position; the given digest stands for the previous one.
-fn advance_open(
-    table: &mut [u8],
-    view: View,
-    position: u64,
-    digest: &[u8; 32],
-    value: &[u8; 32],
-) -> Result<Hashed<Bounds>, Refused>
-    requires { Opened table.old view }
-    ensures { Changed (table_step table.old (advances view.log position digest.now value.now)) result table.new }
-{
-    if position <= view.row.high {
-        return Err(Refusal::Position.into());
-    }
-    room(view)?;
-    let after = view.row.advance(position, view.free);
-    let own = entry_digest(position, value, digest);
-    Ok(enter(table, view, after, value, &own))
-}
-
-// An advance whose digest and value have their lengths.
+// An advance whose digest and value have their lengths: refusals 3, 5 and 16 behind those of an opening, and the entry at the given
+// position; the given digest stands for the previous one.
 pub fn advance_sized(
     table: &mut [u8],
     log: u64,
@@ -41,7 +22,13 @@ pub fn advance_sized(
     ensures { Changed (table_step table.old (advances log position digest.now value.now)) result table.new }
 {
     let view = open(table, log)?;
-    advance_open(table, view, position, digest, value)
+    if position <= view.row.high {
+        return Err(Refusal::Position.into());
+    }
+    room(view)?;
+    let after = view.row.advance(position, view.free);
+    let own = entry_digest(position, value, digest);
+    Ok(enter(table, view, after, value, &own))
 }
 
 // Puts a value at a later position; those between become skipped.

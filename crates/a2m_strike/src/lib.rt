@@ -4,26 +4,25 @@
 ghost use Rattle.std.specs.Prelude.{◌≡◌, ◌≤◌};
 ghost use Rattle.layout.specs.Layout.{read_table};
 ghost use Rattle.table.specs.Free.{write_table};
-ghost use Rattle.layout.specs.Fits.{Counted};
+ghost use Rattle.layout.specs.Lent.{Becomes};
 ghost use Rattle.a2m.specs.ImageCalls.{releases, lowered};
 ghost use Rattle.a2m.specs.Opened.{Opened, joined_at};
 
 use a2m::{Bounds, View};
-use layout::{Counts, Free, Slot, TableRef};
+use layout::{Free, Slot, TableMut};
 use layout_header::put_free;
 use layout_rows::put_row;
 use layout_slots::{link_at, put_next, put_slot};
 
 // The free chain goes on at slot t behind slot last, or starts there.
-fn join(table: &mut [u8], counts: Counts, last: usize, t: usize)
-    requires counted { Counted table.old counts.logs counts.slots }
-    requires last_le_slots { (last ≤ counts.slots) × (t ≤ counts.slots) }
-    ensures { table.new ≡ joined_at table.old last t }
+fn join(lent: &mut TableMut, last: usize, t: usize)
+    requires { (last ≤ lent.old.counts.slots) × (t ≤ lent.old.counts.slots) }
+    ensures { Becomes lent.old lent.new (joined_at lent.old.table.now last t) }
 {
     if last == 0 {
-        put_free(table, Free::First, t);
+        put_free(lent.table, Free::First, t);
     } else {
-        put_next(table, counts, last, t);
+        put_next(lent, last, t);
     }
 }
 
@@ -42,9 +41,10 @@ pub fn strike(table: &mut [u8], view: View, n: u64) -> Bounds
     let mut last = view.last;
     let mut count = view.count;
     let mut s = view.row.first;
-    join(table, counts, last, s);
+    let mut lent = TableMut { table, counts };
+    join(&mut lent, last, s);
     'entries: loop {
-        let l = link_at(TableRef { table, counts }, s);
+        let l = link_at(lent.as_ref(), s);
         if n <= l.position {
             break;
         }
@@ -55,14 +55,14 @@ pub fn strike(table: &mut [u8], view: View, n: u64) -> Bounds
             value: &none,
             digest: &none,
         };
-        put_slot(table, counts, s, freed);
+        put_slot(&mut lent, s, freed);
         last = s;
         count += 1;
         s = l.next;
     }
-    join(table, counts, last, 0);
+    join(&mut lent, last, 0);
     let after = view.row.truncate(n, s);
-    put_row(table, counts, view.log, after);
+    put_row(&mut lent, view.log, after);
     put_free(table, Free::Count, count);
     put_free(table, Free::Last, last);
     Bounds {

@@ -3,18 +3,18 @@
 
 ghost use Rattle.a2m.specs.Call.{truncate as truncates};
 ghost use Rattle.a2m.specs.TableCalls.{table_step};
-ghost use Rattle.a2m.specs.Opened.{Opened, Changed};
+ghost use Rattle.a2m.specs.Opened.{Changed};
 
-use a2m::{Bounds, View};
+use a2m::Bounds;
 use a2m_open::open;
 use a2m_strike::strike;
 use refusal::{Hashed, Refusal, Refused};
 
-// Refusal 3, and the entries below the position struck.
-fn truncate_open(table: &mut [u8], view: View, position: u64) -> Result<Hashed<Bounds>, Refused>
-    requires { Opened table.old view }
-    ensures { Changed (table_step table.old (truncates view.log position)) result table.new }
+// Strikes the log's entries below a position. Refusal 3 behind those of an opening.
+pub fn truncate(table: &mut [u8], log: u64, position: u64) -> Result<Hashed<Bounds>, Refused>
+    ensures { Changed (table_step table.old (truncates log position)) result table.new }
 {
+    let view = open(table, log)?;
     if position <= view.row.low || view.row.high < position {
         return Err(Refusal::Position.into());
     }
@@ -22,12 +22,4 @@ fn truncate_open(table: &mut [u8], view: View, position: u64) -> Result<Hashed<B
         value: strike(table, view, position),
         blocks: 0,
     })
-}
-
-// Strikes the log's entries below a position.
-pub fn truncate(table: &mut [u8], log: u64, position: u64) -> Result<Hashed<Bounds>, Refused>
-    ensures { Changed (table_step table.old (truncates log position)) result table.new }
-{
-    let view = open(table, log)?;
-    truncate_open(table, view, position)
 }

@@ -12,3 +12,4 @@ pub mod HeaderLaws
 pub mod BlankLaws
 pub mod FreeLaws
 pub mod FillLaws
+pub mod CountedLaws

@@ -4,6 +4,7 @@ pub mod Free
 pub mod Image
 pub mod Layout
 pub mod Layout01
+pub mod Lent
 pub mod Lists
 pub mod Strict
 pub mod Tests

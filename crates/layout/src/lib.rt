@@ -4,7 +4,7 @@
 pub mod places;
 mod tables;
 
-pub use tables::TableRef;
+pub use tables::{TableMut, TableRef};
 
 // How many logs and slots a table has.
 #[derive(Clone, Copy, PartialEq, Eq)]

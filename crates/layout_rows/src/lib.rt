@@ -5,11 +5,12 @@ ghost use Rattle.std.specs.Prelude.{◌≡◌, ◌≤◌, ◌<◌, length};
 ghost use Rattle.layout.specs.Image.{row_at};
 ghost use Rattle.layout.specs.Layout.{plan01, row_size, read_row, row_bytes, read_table, put_row};
 ghost use Rattle.layout.specs.Layout01.{read_row01};
-ghost use Rattle.layout.specs.Fits.{RowFits, Counted};
+ghost use Rattle.layout.specs.Fits.{RowFits};
+ghost use Rattle.layout.specs.Lent.{Becomes};
 
 use bigendian::{number_at, put_number};
 use layout::places::{ROW, row_offset};
-use layout::{Counts, Row, TableRef};
+use layout::{Row, TableMut, TableRef};
 use octets::array_at;
 
 // The row in a row's part of a table of document 01's layout, which has no reserve. The present row begins with the same fields.
@@ -58,12 +59,11 @@ pub fn write_row(part: &mut [u8], row: Row)
 }
 
 // Another row of log g.
-pub fn put_row(table: &mut [u8], counts: Counts, g: usize, row: Row)
-    requires counted { Counted table.old counts.logs counts.slots }
-    requires g_lt_logs { g < counts.logs }
+pub fn put_row(lent: &mut TableMut, g: usize, row: Row)
+    requires g_lt_logs { g < lent.old.counts.logs }
     requires row_fits { RowFits row }
-    ensures { table.new ≡ put_row table.old g row }
+    ensures { Becomes lent.old lent.new (put_row lent.old.table.now g row) }
 {
     let at = row_offset(g);
-    write_row(&mut table[at..at + ROW], row);
+    write_row(&mut lent.table[at..at + ROW], row);
 }

@@ -7,12 +7,12 @@ ghost use Rattle.std.specs.Prelude.{◌≡◌, ◌≤◌, ◌<◌, length};
 ghost use Rattle.layout.specs.Image.{slot_at};
 ghost use Rattle.layout.specs.Changes.{link_of, slot_said};
 ghost use Rattle.layout.specs.Layout.{slot_size, read_slot, slot_bytes, read_table, put_slot, put_next};
-ghost use Rattle.layout.specs.Fits.{Counted};
+ghost use Rattle.layout.specs.Lent.{Becomes};
 
 use bigendian::{number_at, put_number};
 pub use cells::Cells;
 use layout::places::{SLOT, put_array, slot_offset};
-use layout::{Counts, Link, Slot, TableRef};
+use layout::{Link, Slot, TableMut, TableRef};
 use octets::array_at;
 
 // The owner, next slot and position in a slot's part of a table.
@@ -67,23 +67,25 @@ pub fn write_slot(part: &mut [u8], slot: Slot)
 }
 
 // An entry, or a free slot, into slot s.
-pub fn put_slot(table: &mut [u8], counts: Counts, s: usize, slot: Slot)
-    requires counted { Counted table.old counts.logs counts.slots }
-    requires le_s { (1 ≤ s) × (s ≤ counts.slots) }
+pub fn put_slot(lent: &mut TableMut, s: usize, slot: Slot)
+    requires le_s { (1 ≤ s) × (s ≤ lent.old.counts.slots) }
     requires owner_bound { slot.owner < 256 }
     requires next_bound { slot.next < 65536 }
-    ensures { table.new ≡ put_slot table.old s (slot_said slot.entry) }
+    ensures { Becomes lent.old lent.new (put_slot lent.old.table.now s (slot_said slot.entry)) }
 {
-    let at = slot_offset(counts.logs, s);
-    write_slot(&mut table[at..at + SLOT], slot);
+    let at = slot_offset(lent.counts.logs, s);
+    write_slot(&mut lent.table[at..at + SLOT], slot);
 }
 
 // Another next slot in slot s.
-pub fn put_next(table: &mut [u8], counts: Counts, s: usize, next: usize)
-    requires counted { Counted table.old counts.logs counts.slots }
-    requires le_s { (1 ≤ s) × (s ≤ counts.slots) }
+pub fn put_next(lent: &mut TableMut, s: usize, next: usize)
+    requires le_s { (1 ≤ s) × (s ≤ lent.old.counts.slots) }
     requires next_bound { next < 65536 }
-    ensures { table.new ≡ put_next table.old s next }
+    ensures { Becomes lent.old lent.new (put_next lent.old.table.now s next) }
 {
-    put_number::<2>(table, slot_offset(counts.logs, s) + 2, next as u64);
+    put_number::<2>(
+        lent.table,
+        slot_offset(lent.counts.logs, s) + 2,
+        next as u64,
+    );
 }

@@ -8,7 +8,8 @@ use mathlib.Core.Path.{◌≡◌}
 use Rattle.a2m_strike.proofs.strike.Given as given
 
 abbrev pub invariant-entries : given.invariant-entries
-invariant-entries l = (length l.table ≡ length l.initial.table) × ((b : List ℕ) → Begins b l.view l.n l.initial.table → Releasing b l.view l.n l.table l.last l.count l.s)
+invariant-entries l = (l.lent.table.ghost_name ≡ l.initial.lent.table.ghost_name) × (l.lent.counts ≡ l.view.counts)
+    × ((b : List ℕ) → Begins b l.view l.n l.initial.lent.table.now → Releasing b l.view l.n l.lent.table.now l.last l.count l.s)
 
 abbrev pub decreases-entries : given.decreases-entries
-decreases-entries l = length (chain (read_table l.table).slots (suc l.view.log) l.s)
+decreases-entries l = length (chain (read_table l.lent.table.now).slots (suc l.view.log) l.s)

@@ -1,11 +1,11 @@
 -- `a2m_enter::entering::enter` meets its contract. Assumes nothing.
 use borrow.Author.Rules.{rules}
-use Rattle.a2m.proofs.EnterLaws.{Entering, row-good, next-good, held-1, held-2, held-3, held-4, held-5, held-long, some-free, last-most-after, entered, entered-low}
-use Rattle.layout.proofs.HoldsLaws.{holds-counted}
+use Rattle.a2m.proofs.EnterLaws.{Entering, row-good, next-good, held-3, held-4, held-5, held-long, some-free, last-most-after, entered, entered-low}
 use Rattle.a2m.proofs.OpenedLaws.{opened-counted, opened-log, free-most, count_most, last-most}
 use Rattle.octets.specs.Octets.{Bytes}
 use native.Mathlib.Omega.{arith}
-use mathlib.Core.Path.{refl, ◌≡◌}
+use mathlib.Core.Path.{refl, ap, ◌≡◌, ◌∙◌}
+use Rattle.layout.specs.declared.Counts.{Counts}
 use mathlib.Core.Bool.{true}
 use Rattle.refusal.specs.Unwritten.{unwritten, counts}
 use Rattle.a2m_enter.proofs.entering.enter.Code.Mir.{function}
@@ -28,26 +28,33 @@ link_at-l-requires c = (c.requires.le_free, free-most c.args.table.now c.args.vi
 pub overflow_add-held : goal.overflow_add-held
 overflow_add-held c = let l = opened-log c.args.table.now c.args.view c.requires.opened in let k = (opened-counted c.args.table.now c.args.view c.requires.opened).logs-most in omega arith
 
+pub invariant_of-lent : goal.invariant_of-lent
+invariant_of-lent c = record { counted = opened-counted c.args.table.now c.args.view c.requires.opened }
+
 pub put_slot-requires : goal.put_slot-requires
 put_slot-requires c =
     let l = opened-log c.args.table.now c.args.view c.requires.opened in
     let k = opened-counted c.args.table.now c.args.view c.requires.opened in
-    record { counted = k; le_s = (c.requires.le_free, free-most c.args.table.now c.args.view c.requires.opened); owner_bound = omega (arith, k.logs-most); next_bound = omega arith }
+    record { le_s = (c.requires.le_free, free-most c.args.table.now c.args.view c.requires.opened); owner_bound = omega (arith, k.logs-most); next_bound = omega arith }
 
 pub hook-requires : goal.hook-requires
 hook-requires c =
-    let E = entering (goal.at.hook-requires c).Start (search rules) in
-    record { counted = holds-counted _ _ _ _ _ (held-1 E c.put_slot.ensures); last_le_slots = (last-most c.args.table.now c.args.view c.requires.opened, free-most c.args.table.now c.args.view c.requires.opened) }
+    let e = ap (λ (n : Counts). n.slots) c.put_slot.ensures.counts in
+    let l = last-most c.args.table.now c.args.view c.requires.opened in
+    let f = free-most c.args.table.now c.args.view c.requires.opened in
+    (omega (arith, e), omega (arith, e))
 
 pub put_row-requires : goal.put_row-requires
 put_row-requires c =
     let E = entering (goal.at.put_row-requires c).Start (search rules) in
-    record { counted = holds-counted _ _ _ _ _ (held-2 E c.put_slot.ensures c.hook.ensures); g_lt_logs = opened-log c.args.table.now c.args.view c.requires.opened; row_fits = row-good E }
+    let e = ap (λ (n : Counts). n.logs) (c.hook.ensures.counts ∙ c.put_slot.ensures.counts) in
+    let l = opened-log c.args.table.now c.args.view c.requires.opened in
+    record { g_lt_logs = omega (arith, e); row_fits = row-good E }
 
 pub put_free-requires : goal.put_free-requires
 put_free-requires c =
     let E = entering (goal.at.put_free-requires c).Start (search rules) in
-    record { header_size_in_bounds = held-long _ _ _ _ _ (held-3 E c.put_slot.ensures c.hook.ensures c.put_row.ensures); bound = next-good E c.link_at-l.ensures }
+    record { header_size_in_bounds = held-long _ _ _ _ _ (held-3 E c.put_slot.ensures.bytes c.hook.ensures.bytes (search rules)); bound = next-good E c.link_at-l.ensures }
 
 pub overflow_sub-view : goal.overflow_sub-view
 overflow_sub-view c = some-free (entering (goal.at.overflow_sub-view c).Start (search rules))
@@ -57,14 +64,14 @@ put_free-requires-2 c =
     let E = entering (goal.at.put_free-requires-2 c).Start (search rules) in
     let m = count_most c.args.table.now c.args.view c.requires.opened in
     let n = (opened-counted c.args.table.now c.args.view c.requires.opened).slots-most in
-    record { header_size_in_bounds = held-long _ _ _ _ _ (held-4 E c.link_at-l.ensures c.put_slot.ensures c.hook.ensures c.put_row.ensures c.put_free.ensures); bound = omega arith }
+    record { header_size_in_bounds = held-long _ _ _ _ _ (held-4 E c.link_at-l.ensures c.put_slot.ensures.bytes c.hook.ensures.bytes (search rules) c.put_free.ensures); bound = omega arith }
 
 pub put_free-requires-3 : goal.put_free-requires-3
 put_free-requires-3 c =
     let E = entering (goal.at.put_free-requires-3 c).Start (search rules) in
     let m = last-most-after E c.link_at-l.result.next in
     let z = (opened-counted c.args.table.now c.args.view c.requires.opened).slots-most in
-    record { header_size_in_bounds = held-long _ _ _ _ _ (held-5 E c.link_at-l.ensures c.put_slot.ensures c.hook.ensures c.put_row.ensures c.put_free.ensures c.put_free-2.ensures); bound = omega (arith, c.last_after.ensures) }
+    record { header_size_in_bounds = held-long _ _ _ _ _ (held-5 E c.link_at-l.ensures c.put_slot.ensures.bytes c.hook.ensures.bytes (search rules) c.put_free.ensures c.put_free-2.ensures); bound = omega (arith, c.last_after.ensures) }
 
 pub returns : goal.returns
 returns c =
@@ -72,5 +79,5 @@ returns c =
       low = entered-low c.args.view c.args.after c.requires.after_value;
       high = refl;
       blocks = refl;
-      bytes = entered (entering (goal.at.returns c).Start (search rules)) c.link_at-l.ensures c.put_slot.ensures c.hook.ensures c.put_row.ensures c.put_free.ensures c.put_free-2.ensures c.last_after.ensures c.put_free-3.ensures;
+      bytes = entered (entering (goal.at.returns c).Start (search rules)) c.link_at-l.ensures c.put_slot.ensures.bytes c.hook.ensures.bytes (search rules) c.put_free.ensures c.put_free-2.ensures c.last_after.ensures c.put_free-3.ensures;
     }
