@@ -60,7 +60,7 @@ fn repetition(s: &[u8]) -> Option<(usize, &[u8])>
     let [b'*', s @ ..] = s else {
         return Some((1, s));
     };
-    let e = find(s, 0, b'.');
+    let e = find(s, b'.');
     let count = decimal::parse(&s[..e])?;
     Some((count as usize, s.get(e + 1..).unwrap_or(&[])))
 }

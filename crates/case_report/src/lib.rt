@@ -23,7 +23,7 @@ pub fn show(rt: &impl Print, t: &[u8], values: &[u64]) -> io::Result<()> {
     let mut rest = t;
     let mut values = values;
     loop {
-        let e = find(rest, 0, b'%');
+        let e = find(rest, b'%');
         text(rt, &rest[..e])?;
         let [_, kind, after @ ..] = &rest[e..] else {
             return Ok(());

@@ -96,7 +96,7 @@ fn carry_out(
 
 // Prints the name before a line's command, and answers the command.
 fn named<'a>(rt: &impl Print, line: &'a [u8], turn: u64) -> io::Result<&'a [u8]> {
-    let e = find(line, 0, b':');
+    let e = find(line, b':');
     let [_, _, command @ ..] = &line[e..] else {
         return Ok(line);
     };

@@ -47,7 +47,7 @@ impl<'a> Reader<'a> {
         if rest.is_empty() {
             return None;
         }
-        let e = find(rest, 0, b'\n');
+        let e = find(rest, b'\n');
         self.rest = rest.get(e + 1..).unwrap_or(&[]);
         Some(&rest[..e])
     }

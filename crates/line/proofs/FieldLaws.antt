@@ -1,19 +1,30 @@
 -- Laws of fields and numbers.
 use Prim.Native.Nat.{ℕ, suc, ◌+◌, ◌-◌, ◌≤◌, ◌<◌}
-use mathlib.Core.Path.{◌≡◌, refl, sym, ap, ap₂, ◌∙◌}
+use mathlib.Core.Path.{◌≡◌, refl, sym, ap, ap₂, subst, ◌∙◌}
 use mathlib.Core.Logic.{◌⊎◌, inl, inr}
-use mathlib.Core.Bool.{Bool, true, false, cond}
+use mathlib.Core.Bool.{Bool, true, false, not, cond}
 use mathlib.Core.List.{List, [], ◌∷◌, ◌++◌, append_assoc, append-nil}
 use Rattle.std.specs.Prelude.{Option, Some, None}
+use Rattle.std.specs.List.{slice_split, onto_first, position_or_len, position}
+use Rattle.std.specs.Option.{unwrap_or}
+use Rattle.std.specs.Fn.{CalledAt}
+use Rattle.std.specs.Iterator.{Yields}
+use Rattle.std.specs.Slice.Iter.{split_rest, split_done, split_callee, split_steps}
+use Rattle.std.specs.declared.slice.Split.{Split}
+use Rattle.std.proofs.lemmas.Iterator.{YieldsList}
+use Rattle.std.proofs.lemmas.Bool.{lt-ltb, le-ltb}
+use Rattle.std.proofs.lemmas.Iterator.Splits.{YieldsList-from_slice_split}
+use denote.Param.Members.{Mut}
+use denote.Ref.{Bor}
 use native.Mathlib.Omega.{arith}
 use native.Mathlib.Numerals.{add-one}
-use lib.ListN.{length, take, drop, get_or, set, length-append, length-drop, length-take, drop_of_length-le}
+use lib.ListN.{length, take, drop, get_or, set, length-append, length-drop, length-take, drop_of_length-le, take-append-drop}
 use native.Mathlib.Decide.{dec_le}
-use lib.Seq.{drop-cons, drop-drop}
+use lib.Seq.{drop-cons, take_all}
 use lib.Dec.{eqb}
-use borrow.Author.Tests.{eq-eqb, ne_eqb, eqb-true}
+use borrow.Author.Tests.{eqb-true}
 use Rattle.decimal.specs.Decimal.{number_of}
-use Rattle.line.specs.Fields.{on_first, fields_of, before, numbers_of, parts_of, up_to}
+use Rattle.line.specs.Fields.{on_first, before, numbers_of, parts_of, up_to}
 use Rattle.line.specs.Command.{padded}
 use Rattle.octets.specs.Octets.{zeros}
 use Rattle.line.proofs.PaddedLaws.{padded-set, padded-full}
@@ -21,19 +32,15 @@ use Rattle.line.proofs.PaddedLaws.{padded-set, padded-full}
 -- ---- the part before the first mark
 
 module _ (mark : ℕ) where
-  pub first-comma : (s : List ℕ) (i : ℕ) → i < length s → get_or s i 0 ≡ mark → length (up_to mark (drop i s)) ≡ 0
+  -- the place of the mark, as the library's functions find it
+  pub before-mark : (l : List ℕ) → position_or_len (λ b. eqb b mark) l ≡ length (up_to mark l)
   unfolding up_to
-  first-comma s i h e = ap (λ (l : List ℕ). length (up_to mark l)) (drop-cons s i 0 h) ∙ rw (eq-eqb (get_or s i 0) mark e)
-
-  pub first_more : (s : List ℕ) (i : ℕ) → i < length s → (get_or s i 0 ≡ mark → ⊥) → length (up_to mark (drop i s)) ≡ suc (length (up_to mark (drop (i + 1) s)))
-  unfolding up_to
-  first_more s i h e =
-      ap (λ (l : List ℕ). length (up_to mark l)) (drop-cons s i 0 h)
-      ∙ rw (ne_eqb (get_or s i 0) mark e) (ap (λ (k : ℕ). suc (length (up_to mark (drop k s)))) (sym (add-one i)))
-
-  pub first-none : (s : List ℕ) (i : ℕ) → length s ≤ i → length (up_to mark (drop i s)) ≡ 0
-  unfolding up_to
-  first-none s i h = ap (λ (l : List ℕ). length (up_to mark l)) (drop_of_length-le s h)
+  before-mark [] = refl
+  before-mark (b ∷ l) = go (eqb b mark) (before-mark l)
+    where
+      go : (t : Bool) → position_or_len (λ b. eqb b mark) l ≡ length (up_to mark l) → cond (not t) (1 + position_or_len (λ b. eqb b mark) l) 0 ≡ length (cond t [] (b ∷ up_to mark l))
+      go true ih = refl
+      go false ih = omega (arith, ih)
 
   pub take-first : (l : List ℕ) → take (length (up_to mark l)) l ≡ up_to mark l
   unfolding up_to
@@ -64,25 +71,81 @@ module _ (mark : ℕ) where
       go true ih q = refl
       go false ih q = ap (on_first b) (ih (omega arith))
 
-  -- ---- the same at places of a slice: the field from at ends at e
+  -- ---- the same of a text l whose first part ends at e
 
-  module _ (s : List ℕ) (at e : ℕ) (ends : e ≡ at + length (up_to mark (drop at s))) where
-    pub field-part : take (e - at) (drop at s) ≡ up_to mark (drop at s)
-    field-part =
-        let q : e - at ≡ length (up_to mark (drop at s)) = omega arith in
-        ap (λ (k : ℕ). take k (drop at s)) q ∙ take-first (drop at s)
+  module _ (l : List ℕ) (e : ℕ) (ends : e ≡ length (up_to mark l)) where
+    pub field-part : take e l ≡ up_to mark l
+    field-part = ap (λ (k : ℕ). take k l) ends ∙ take-first l
 
-    pub last-field : e ≡ length s → parts_of mark (drop at s) ≡ up_to mark (drop at s) ∷ []
-    last-field h = fields-last (drop at s) (omega (arith, length-drop at s))
+    pub last-field : e ≡ length l → parts_of mark l ≡ up_to mark l ∷ []
+    last-field h = fields-last l (sym ends ∙ h)
 
-    pub more-fields : e < length s → parts_of mark (drop at s) ≡ up_to mark (drop at s) ∷ parts_of mark (drop (e + 1) s)
+    pub more-fields : e < length l → parts_of mark l ≡ up_to mark l ∷ parts_of mark (drop (e + 1) l)
     more-fields h =
-        let q : at + suc (length (up_to mark (drop at s))) ≡ e + 1 = omega arith in
-        fields-more (drop at s) (omega (arith, length-drop at s))
-        ∙ ap (λ (l : List ℕ). up_to mark (drop at s) ∷ parts_of mark l) (drop-drop (suc (length (up_to mark (drop at s)))) at s ∙ ap (λ (k : ℕ). drop k s) q)
+        let q : suc (length (up_to mark l)) ≡ e + 1 = omega (arith, ends) in
+        fields-more l (omega (arith, ends)) ∙ ap (λ (k : ℕ). up_to mark l ∷ parts_of mark (drop k l)) q
 
   pub length-up_to : (l : List ℕ) → length (up_to mark l) ≤ length l
   length-up_to l = omega (arith, ap length (take-first l), length-take (length (up_to mark l)) l)
+
+-- the library's split finds the same parts
+pub split-parts : (mark : ℕ) (l : List ℕ) → slice_split (λ b. eqb b mark) l ≡ parts_of mark l
+unfolding parts_of
+split-parts mark [] = refl
+split-parts mark (b ∷ l) = ap₂ (λ (ps qs : List (List ℕ)). cond (eqb b mark) ([] ∷ ps) qs) (split-parts mark l) (onto (slice_split (λ b. eqb b mark) l) ∙ ap (on_first b) (split-parts mark l))
+  where
+    onto : (ps : List (List ℕ)) → onto_first b ps ≡ on_first b ps
+    onto [] = refl
+    onto (p ∷ ps) = refl
+
+pub length-parts : (mark : ℕ) (l : List ℕ) → length (parts_of mark l) ≤ length l + 1
+unfolding parts_of
+length-parts mark [] = omega arith
+length-parts mark (b ∷ l) = go (eqb b mark) (parts_of mark l) (length-parts mark l)
+  where
+    go : (t : Bool) (ps : List (List ℕ)) → length ps ≤ length l + 1 → length (cond t ([] ∷ ps) (on_first b ps)) ≤ length (b ∷ l) + 1
+    go true ps h = omega arith
+    go false [] h = omega arith
+    go false (p ∷ ps) h = omega arith
+
+-- a split of what a text has from a place on, of which some parts were read, gives its parts, where the closure tests for the mark
+pub parts-read : {F : Type 0} {s t : Split ℕ F} {g : Mut F (Bor ℕ × Unit {0}) Bool} (xs : List (Bor (List ℕ))) (u : Split ℕ F) → Yields (split_steps g) t xs u → (mark : ℕ) {f : F} (l : List ℕ) (from : ℕ) → t ≡ s → split_rest s ≡ take (length l - from) (drop from l) → split_done s ≡ false → split_callee s ≡ f → ((x : ℕ) (b : Bool) (q : F) → CalledAt g f x b q → (q ≡ f) × (b ≡ eqb x mark)) → YieldsList (split_steps g) (λ x. x.now) t (parts_of mark (drop from l))
+parts-read {F} {s} {t} {g} xs u y mark l from is r d c h =
+    subst (λ (t : Split ℕ F). YieldsList (split_steps g) (λ x. x.now) t (parts_of mark (drop from l))) (sym is)
+    (subst (YieldsList (split_steps g) (λ x. x.now) s) (split-parts mark (drop from l))
+    (YieldsList-from_slice_split g (λ b. eqb b mark) (drop from l) (r ∙ take_all (length l - from) (drop from l) (omega (arith, length-drop from l))) d c h))
+
+-- the library's search for a mark in l finds its place, or none
+module _ (mark : ℕ) (l : List ℕ) where
+  abbrev place : ℕ
+  place = position_or_len (λ b. eqb b mark) l
+
+  searched : ((position (λ b. eqb b mark) l ≡ Some place) × (place < length l)) ⊎ ((position (λ b. eqb b mark) l ≡ None) × (place ≡ length l))
+  searched = go (dec_le (length l) (position_or_len (λ b. eqb b mark) l))
+    where
+      go : Dec (length l ≤ place) → ((position (λ b. eqb b mark) l ≡ Some place) × (place < length l)) ⊎ ((position (λ b. eqb b mark) l ≡ None) × (place ≡ length l))
+      go (no h) = let k : place < length l = omega arith in inl (rw (lt-ltb place (length l) k) refl, k)
+      go (yes h) = inr (rw (le-ltb place (length l) h) refl, let k = h in omega (arith, before-mark mark l, length-up_to mark l))
+
+  module _ (o : Option ℕ) (is : o ≡ position (λ b. eqb b mark) l) where
+    -- the place, or the end
+    pub marked : (r : ℕ) → r ≡ unwrap_or o (length l) → (r ≡ length (up_to mark l)) × (r ≤ length l)
+    marked r u = elim searched [
+      | inl h ↦ let e : unwrap_or o (length l) ≡ place = ap (λ (o : Option ℕ). unwrap_or o (length l)) (is ∙ h.0) in (omega (arith, u, e, before-mark mark l), omega (arith, u, e, h.1))
+      | inr h ↦ let e : unwrap_or o (length l) ≡ length l = ap (λ (o : Option ℕ). unwrap_or o (length l)) (is ∙ h.0) in (omega (arith, u, e, h.1, before-mark mark l), omega (arith, u, e))
+    ]
+
+    pub at-mark : (e : ℕ) → o ≡ Some e → (e ≡ length (up_to mark l)) × (e < length l)
+    at-mark e q = elim searched [
+      | inl h ↦ let k : e ≡ place = cc in (omega (arith, k, before-mark mark l), omega (arith, k, h.1))
+      | inr h ↦ let z : ◌≡◌ {A = ℕ} 0 1 = cc in absurd (omega arith)
+    ]
+
+    pub no-mark : o ≡ None → up_to mark l ≡ l
+    no-mark q = elim searched [
+      | inl h ↦ let z : ◌≡◌ {A = ℕ} 0 1 = cc in absurd (omega arith)
+      | inr h ↦ sym (take-first mark l) ∙ take_all (length (up_to mark l)) l (omega (arith, h.1, before-mark mark l))
+    ]
 
 -- ---- numbers, some of them read
 
@@ -128,57 +191,47 @@ some_inj xs ys h = cc
 pub none-some : (xs : List ℕ) → None ≡ Some xs → ⊥
 none-some xs h = let z : ◌≡◌ {A = ℕ} 0 1 = cc in omega arith
 
--- the numbers from a place on, those before another place read, n of them, and the first 19 kept
-pub record Reading (s : List ℕ) (from at n : ℕ) (values : List ℕ) : Type 0 where
+-- n of the fields were read, and the first 19 of their numbers kept
+pub record Reading (fields : List (List ℕ)) (n : ℕ) (values : List ℕ) : Type 0 where
   pub ns : List ℕ
-  pub read : numbers_of (fields_of (drop from s)) ≡ prepend ns (numbers_of (fields_of (drop at s)))
+  pub read : numbers_of fields ≡ prepend ns (numbers_of (drop n fields))
   pub size : length ns ≡ n
   pub kept : values ≡ padded 19 ns
 
-pub reading-none : (s : List ℕ) (from : ℕ) (values : List ℕ) → values ≡ zeros 19 → Reading s from from 0 values
+pub reading-none : (fields : List (List ℕ)) (values : List ℕ) → values ≡ zeros 19 → Reading fields 0 values
 unfolding padded zeros
-reading-none s from values h = record { ns = []; read = prepend-nil (numbers_of (fields_of (drop from s))); size = refl; kept = h }
+reading-none fields values h = record { ns = []; read = prepend-nil (numbers_of fields); size = refl; kept = h }
 
--- the field from at ends at e
-module _ (s : List ℕ) (from at n : ℕ) (values : List ℕ) (r : Reading s from at n values) (e : ℕ) (ends : e ≡ at + length (up_to 44 (drop at s))) where
+pub reading-all : (fields : List (List ℕ)) (n : ℕ) (values : List ℕ) (r : Reading fields n values) → n ≡ length fields → numbers_of fields ≡ Some r.ns
+reading-all fields n values r h =
+    r.read ∙ ap (λ (fs : List (List ℕ)). prepend r.ns (numbers_of fs)) (drop_of_length-le fields (omega arith)) ∙ numbers-end r.ns
+
+-- f is the next field
+module _ (fields : List (List ℕ)) (n : ℕ) (values : List ℕ) (r : Reading fields n values) (f : List ℕ) (at : (n < length fields) × (f ≡ get_or fields n f)) where
+  next : drop n fields ≡ f ∷ drop (n + 1) fields
+  next = drop-cons fields n f at.0 ∙ ap₂ (λ (g : List ℕ) (k : ℕ). g ∷ drop k fields) (sym at.1) (sym (add-one n))
+
   -- it is no number
-  pub reading-bad : number_of (take (e - at) (drop at s)) ≡ None → numbers_of (fields_of (drop from s)) ≡ None
-  reading-bad h =
-      let l : List ℕ = drop at s in
-      let f = parts-cons 44 l in
-      r.read ∙ ap (λ (fs : List (List ℕ)). prepend r.ns (numbers_of fs)) f.1 ∙ numbers_bad r.ns (up_to 44 l) f.0 (ap number_of (sym (field-part 44 s at e ends)) ∙ h)
+  pub reading-bad : number_of f ≡ None → numbers_of fields ≡ None
+  reading-bad h = r.read ∙ ap (λ (fs : List (List ℕ)). prepend r.ns (numbers_of fs)) next ∙ numbers_bad r.ns f (drop (n + 1) fields) h
 
-  -- it is one, v
-  module _ (v : ℕ) (is : number_of (take (e - at) (drop at s)) ≡ Some v) where
-    says : number_of (up_to 44 (drop at s)) ≡ Some v
-    says = ap number_of (sym (field-part 44 s at e ends)) ∙ is
+  -- it is one, v, which is stored if it is among the first 19
+  module _ (v : ℕ) (is : number_of f ≡ Some v) (values' : List ℕ) (stored : ((n < 19) × (values' ≡ set values n v)) ⊎ ((19 ≤ n) × (values' ≡ values))) where
+    still : values' ≡ padded 19 (r.ns ++ (v ∷ []))
+    still = go stored
+      where
+        go : ((n < 19) × (values' ≡ set values n v)) ⊎ ((19 ≤ n) × (values' ≡ values)) → values' ≡ padded 19 (r.ns ++ (v ∷ []))
+        go (inl w) = w.1 ∙ ap₂ (λ (l : List ℕ) (i : ℕ). set l i v) r.kept (sym r.size) ∙ padded-set 19 r.ns v (omega (arith, r.size, w.0))
+        go (inr w) = w.1 ∙ r.kept ∙ padded-full 19 r.ns v (omega (arith, r.size, w.0))
 
-    -- the last
-    pub reading-last : e ≡ length s → numbers_of (fields_of (drop from s)) ≡ Some (r.ns ++ (v ∷ []))
-    reading-last h =
-        r.read
-        ∙ ap (λ (fs : List (List ℕ)). prepend r.ns (numbers_of fs)) (last-field 44 s at e ends h)
-        ∙ numbers_more r.ns (up_to 44 (drop at s)) [] v says
-        ∙ numbers-end (r.ns ++ (v ∷ []))
-
-    -- others follow
-    pub reading-more : (values' : List ℕ) → values' ≡ padded 19 (r.ns ++ (v ∷ [])) → e < length s → Reading s from (e + 1) (n + 1) values'
-    reading-more values' k h =
+    pub reading-more : Reading fields (n + 1) values'
+    reading-more =
         record {
           ns = r.ns ++ (v ∷ []);
-          read =
-              r.read
-              ∙ ap (λ (fs : List (List ℕ)). prepend r.ns (numbers_of fs)) (more-fields 44 s at e ends h)
-              ∙ numbers_more r.ns (up_to 44 (drop at s)) (fields_of (drop (e + 1) s)) v says;
+          read = r.read ∙ ap (λ (fs : List (List ℕ)). prepend r.ns (numbers_of fs)) next ∙ numbers_more r.ns f (drop (n + 1) fields) v is;
           size = omega (arith, length-append r.ns (v ∷ []), r.size);
-          kept = k;
+          kept = still;
         }
-
-    -- it is stored if it is among the first 19
-    pub reading-kept : (values' : List ℕ) → ((n < 19) × (values' ≡ set values n v)) ⊎ ((19 ≤ n) × (values' ≡ values)) → values' ≡ padded 19 (r.ns ++ (v ∷ []))
-    reading-kept values' (inl w) =
-        w.1 ∙ ap₂ (λ (l : List ℕ) (i : ℕ). set l i v) r.kept (sym r.size) ∙ padded-set 19 r.ns v (omega (arith, r.size, w.0))
-    reading-kept values' (inr w) = w.1 ∙ r.kept ∙ padded-full 19 r.ns v (omega (arith, r.size, w.0))
 
 -- the part before the first mark, and the mark
 pub take-marked : (mark : ℕ) (l : List ℕ) → length (up_to mark l) < length l → take (length (up_to mark l) + 1) l ≡ up_to mark l ++ (mark ∷ [])
@@ -192,3 +245,9 @@ take-marked mark l h = ap (λ (k : ℕ). take k l) (add-one (length (up_to mark 
         at : (t : Bool) → eqb b mark ≡ t → (length (up_to mark l) < length l → take (suc (length (up_to mark l))) l ≡ up_to mark l ++ (mark ∷ [])) → length (cond t [] (b ∷ up_to mark l)) < suc (length l) → take (suc (length (cond t [] (b ∷ up_to mark l)))) (b ∷ l) ≡ cond t [] (b ∷ up_to mark l) ++ (mark ∷ [])
         at true e ih q = ap {B = List ℕ} (λ (x : ℕ). x ∷ []) (eqb-true b mark e)
         at false e ih q = ap {B = List ℕ} (λ (x : List ℕ). b ∷ x) (ih (omega arith))
+
+-- a text is the part before its first mark, the mark, and what follows
+pub marked-off : (mark : ℕ) (l : List ℕ) (e : ℕ) → e ≡ length (up_to mark l) → e < length l → (up_to mark l ++ (mark ∷ [])) ++ drop (e + 1) l ≡ l
+marked-off mark l e ends h =
+    ap (λ (x : List ℕ). x ++ drop (e + 1) l) (sym (take-marked mark l (omega (arith, ends))) ∙ ap (λ (k : ℕ). take (k + 1) l) (sym ends))
+    ∙ take-append-drop (e + 1) l

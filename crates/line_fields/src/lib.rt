@@ -1,7 +1,7 @@
 // Fields parted by commas, and their numbers.
 #![tactic(auto)]
 
-ghost use Rattle.std.specs.Prelude.{◌≡◌, List, ℕ, ◌+◌, ◌≤◌, max, length, drop};
+ghost use Rattle.std.specs.Prelude.{◌≡◌, List, ℕ, ◌≤◌, length, drop};
 ghost use Rattle.octets.specs.Octets.{zeros};
 ghost use Rattle.line.specs.Fields.{fields_of, numbers_of, up_to};
 ghost use Rattle.line.specs.Command.{count_of, padded};
@@ -9,16 +9,11 @@ ghost use Rattle.line.specs.Command.{count_of, padded};
 // The numbers that are kept: a format's own three and 16 reserves.
 const KEPT: usize = 19;
 
-// The place of the first mark from a place on, or the end.
-pub fn find(s: &[u8], from: usize, mark: u8) -> usize
-    ensures { (result ≡ from + length (up_to mark (drop from s.now))) × (result ≤ max from (length s.now)) }
+// The place of the first mark, or the end.
+pub fn find(s: &[u8], mark: u8) -> usize
+    ensures { (result ≡ length (up_to mark s.now)) × (result ≤ length s.now) }
 {
-    for i in from..s.len() {
-        if s[i] == mark {
-            return i;
-        }
-    }
-    if from < s.len() { s.len() } else { from }
+    s.iter().position(|b| *b == mark).unwrap_or(s.len())
 }
 
 // The numbers of the fields from a place on: how many, and the first 19 of them.
@@ -27,18 +22,13 @@ pub fn numbers(s: &[u8], from: usize, values: &mut [u64]) -> Option<usize>
     ensures value { result ≡ count_of (numbers_of (fields_of (drop from s.now))) }
     ensures by_index { (ns : List ℕ) → numbers_of (fields_of (drop from s.now)) ≡ Some ns → values.new ≡ padded 19 ns }
 {
-    let mut at = from;
     let mut n = 0;
-    loop {
-        let e = find(s, at, b',');
-        let v = decimal::parse(&s[at..e])?;
+    for field in s[from..].split(|b| *b == b',') {
+        let v = decimal::parse(field)?;
         if n < KEPT {
             values[n] = v;
         }
         n += 1;
-        if e == s.len() {
-            return Some(n);
-        }
-        at = e + 1;
     }
+    Some(n)
 }

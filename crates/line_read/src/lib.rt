@@ -68,7 +68,7 @@ pub fn parse(line: &[u8]) -> Option<Command>
     if 200 < line.len() {
         return None;
     }
-    let e = find(line, 0, b',');
+    let e = find(line, b',');
     if e == line.len() {
         return None;
     }

@@ -11,7 +11,7 @@ pub fn text(rt: &impl Print, t: &[u8]) -> io::Result<()> {
     rt.write_all(t)
 }
 
-// A number in decimal.
+// A number in decimal: a buffer and the end of the text in it, since there is no heap, and std's Display would divide.
 pub fn number(rt: &impl Print, n: u64) -> io::Result<()> {
     let mut digits = [48u8; 20];
     let to = put(&mut digits, 0, n);

@@ -1,4 +1,4 @@
--- The four ways out of `no_run`, and what a run that is one has.
+-- What `no_run` has of the last position, and what a run that is one has.
 use mathlib.Core.Path.{◌≡◌, refl, sym}
 use Prim.Native.Nat.{ℕ, ◌+◌, ◌-◌, ◌/◌, ◌%◌, ◌^◌, ◌≤◌, ◌<◌}
 use native.Mathlib.Omega.{arith}
@@ -18,26 +18,13 @@ same_test true a b c d e h k = sym (le-leb c d (h (ltb-true a b e)))
 same_test false a b c d e h k = sym (lt-leb c d (k (ltb-false a b e)))
 
 module _ (first : ℕ) (values : List ℕ) where
-  pub no-values : length values ≡ 0 → true ≡ no_run first values
+  -- there are whole values, and the first position is not 0: then the last decides
+  pub by_last : (length values ≡ 0 → ⊥) → length values % 32 ≡ 0 → (first ≡ 0 → ⊥) → first < 2 ^ 64 → ltb (18446744073709551615 - first) (length values / 32 - 1) ≡ no_run first values
   unfolding no_run
-  no-values h = simp (eq-eqb (length values) 0 h)
-
-  module _ (h : length values ≡ 0 → ⊥) where
-    pub part-of-a-value : (length values % 32 ≡ 0 → ⊥) → true ≡ no_run first values
-    unfolding no_run
-    part-of-a-value k = simp (ne_eqb (length values) 0 h, ne_eqb (length values % 32) 0 k)
-
-    module _ (k : length values % 32 ≡ 0) where
-      pub first-is-zero : first ≡ 0 → true ≡ no_run first values
-      unfolding no_run
-      first-is-zero f = simp (ne_eqb (length values) 0 h, eq-eqb (length values % 32) 0 k, eq-eqb first 0 f)
-
-      pub by_last : (first ≡ 0 → ⊥) → first < 2 ^ 64 → ltb (18446744073709551615 - first) (length values / 32 - 1) ≡ no_run first values
-      unfolding no_run
-      by_last f b =
-          simp (ne_eqb (length values) 0 h, eq-eqb (length values % 32) 0 k, ne_eqb first 0 f)
-          (same_test (ltb (18446744073709551615 - first) (length values / 32 - 1)) (18446744073709551615 - first) (length values / 32 - 1) (2 ^ 64)
-          (first + length values / 32 - 1) refl (λ u. omega arith) (λ u. omega arith))
+  by_last h k f b =
+      simp (ne_eqb (length values) 0 h, eq-eqb (length values % 32) 0 k, ne_eqb first 0 f)
+      (same_test (ltb (18446744073709551615 - first) (length values / 32 - 1)) (18446744073709551615 - first) (length values / 32 - 1) (2 ^ 64)
+      (first + length values / 32 - 1) refl (λ u. omega arith) (λ u. omega arith))
 
   -- the values of a run are there, one at least, and their positions fit
   pub run-reaches : no_run first values ≡ false → (0 < length values / 32) × Reaches first values (length values / 32)

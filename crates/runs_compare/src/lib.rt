@@ -19,17 +19,7 @@ fn no_run(first: u64, values: &[u8]) -> bool
     ensures { result ≡ no_run first values.now }
 {
     let n = values.len();
-    if n == 0 {
-        return true;
-    }
-    if n % 32 != 0 {
-        return true;
-    }
-    if first == 0 {
-        return true;
-    }
-    let more = (n / 32 - 1) as u64;
-    u64::MAX - first < more
+    n == 0 || n % 32 != 0 || first == 0 || u64::MAX - first < (n / 32 - 1) as u64
 }
 
 // A run by its parts, if it is one.

@@ -1,13 +1,11 @@
 -- A piece of a script read line by line, and a script read piece by piece.
-use Rattle.std.proofs.Common.{◌≡◌, ℕ, ◌+◌, ◌-◌, ◌*◌, ◌≤◌, ◌<◌, List, [], ◌∷◌, ◌++◌, length, take, drop, length-append, length-take, refl, sym, ap, ap₂, subst, ◌∙◌, add-zero, zero-add, arith}
-use Rattle.std.proofs.Math.Seq.{take_all}
+use Rattle.std.proofs.Common.{◌≡◌, ℕ, ◌+◌, ◌*◌, ◌≤◌, List, [], ◌∷◌, ◌++◌, length, length-append, refl, sym, ap, ap₂, subst, ◌∙◌, add-zero, zero-add, arith}
 use Rattle.octets.specs.Octets.{splice}
 use Rattle.octets.proofs.Parts.{splice-nil, splice-append}
 use Rattle.line.specs.Fields.{up_to}
-use Rattle.line.proofs.FieldLaws.{field-part}
 use Rattle.script.specs.Script.{answer_text, table_after}
 use Rattle.script.specs.Stream.{cut, held_after, newlines, answered, table_read, last_answer, last_table, Feeds, Finishes, After}
-use Rattle.script.proofs.StreamLaws.{answer-length, held-append, newlines-append, table-append, read-part, read-line, more-held, more-count, more-calls, more-answered, line-held, line-count, line-calls, line-answered}
+use Rattle.script.proofs.StreamLaws.{answer-length, held-append, newlines-append, table-append, more-held, more-count, more-calls, more-answered, line-held, line-count, line-calls, line-answered}
 
 -- nothing is read
 pub feeds-none : (T H : List ℕ) (n : ℕ) (out : List ℕ) → Feeds [] T H n out T H n out 0
@@ -23,20 +21,14 @@ feeds-none T H n out =
       text = sym (splice-nil out 0);
     }
 
--- the bytes up to place at were read; the next line or part of one ends at e, and is held as x
-module _ (text T H : List ℕ) (n : ℕ) (out : List ℕ) (at : ℕ) (U G : List ℕ) (m : ℕ) (out' : List ℕ) (to : ℕ) (was : Feeds (take at text) T H n out U G m out' to)
-    (small : length G ≤ 201) (e : ℕ) (ends : e ≡ at + length (up_to 10 (drop at text))) (x : List ℕ) (keeps : x ≡ cut (G ++ take (e - at) (drop at text))) where
-  line : x ≡ cut (G ++ up_to 10 (drop at text))
-  line = keeps ∙ ap (λ (y : List ℕ). cut (G ++ y)) (field-part 10 text at e ends)
-
-  -- the rest of the piece is a part of a line
-  pub feeds-part : e ≡ length text → Feeds text T H n out U x m out' to
-  feeds-part whole =
-      let c : List ℕ = take at text in
-      let l : List ℕ = drop at text in
-      let q : c ++ up_to 10 l ≡ text = sym (read-part text at e ends) ∙ take_all e text (omega arith) in
+-- the bytes c of a piece were read, and l is the rest of it; what is held of the next line, or of a part of one, is x
+module _ (T H : List ℕ) (n : ℕ) (out c : List ℕ) (U G : List ℕ) (m : ℕ) (out' : List ℕ) (to : ℕ) (was : Feeds c T H n out U G m out' to) (small : length G ≤ 201) (l x : List ℕ) where
+  -- the rest is a part of a line
+  pub feeds-part : up_to 10 l ≡ l → x ≡ cut (G ++ l) → Feeds (c ++ l) T H n out U x m out' to
+  feeds-part whole keeps =
+      let line : x ≡ cut (G ++ up_to 10 l) = keeps ∙ ap (λ (y : List ℕ). cut (G ++ y)) (sym whole) in
       let a : answered T H n c ≡ answered T H n (c ++ up_to 10 l) = sym (more-answered T U H G c l x n was.bytes was.calls small line) in
-      subst (λ (y : List ℕ). Feeds y T H n out U x m out' to) q
+      subst (λ (y : List ℕ). Feeds (c ++ y) T H n out U x m out' to) whole
       (record {
         few = omega (arith, was.few, length-append c (up_to 10 l));
         room = omega (arith, was.room, length-append c (up_to 10 l));
@@ -48,20 +40,17 @@ module _ (text T H : List ℕ) (n : ℕ) (out : List ℕ) (at : ℕ) (U G : List
       })
 
   -- a line is read, and answered
-  pub feeds-line : e < length text → 168 * length text ≤ length out → at ≤ length text → (U' out'' : List ℕ) (t : ℕ) → t ≡ to + length (answer_text U m x) → out'' ≡ splice out' to (answer_text U m x) → U' ≡ table_after U x → Feeds (take (e + 1) text) T H n out U' [] (m + 1) out'' t
-  feeds-line more free within U' out'' t place put call =
-      let c : List ℕ = take at text in
-      let l : List ℕ = drop at text in
+  pub feeds-line : x ≡ cut (G ++ up_to 10 l) → 168 * length (c ++ (up_to 10 l ++ (10 ∷ []))) ≤ length out → (U' out'' : List ℕ) (t : ℕ) → t ≡ to + length (answer_text U m x) → out'' ≡ splice out' to (answer_text U m x) → U' ≡ table_after U x → Feeds (c ++ (up_to 10 l ++ (10 ∷ []))) T H n out U' [] (m + 1) out'' t
+  feeds-line line free U' out'' t place put call =
       let a : List ℕ = answered T H n c in
       let y : List ℕ = answer_text U m x in
       let z : List ℕ = c ++ (up_to 10 l ++ (10 ∷ [])) in
       let w : length z ≡ length c + (length (up_to 10 l) + 1) = length-append c (up_to 10 l ++ (10 ∷ [])) ∙ ap (λ (k : ℕ). length c + k) (length-append (up_to 10 l) (10 ∷ [])) in
       let b : a ++ y ≡ answered T H n z = ap (λ (k : ℕ). a ++ answer_text U k x) was.count ∙ sym (line-answered T U H G c l x n was.bytes was.calls small line) in
       let f : length y ≤ 168 = answer-length U m x in
-      let g : 0 + (length a + length y) ≤ length out = omega (arith, was.place, was.room, length-take at text) in
+      let g : 0 + (length a + length y) ≤ length out = omega (arith, was.place, was.room) in
       let v : out'' ≡ splice out 0 (a ++ y) = put ∙ ap₂ (λ (o : List ℕ) (k : ℕ). splice o k y) was.text (was.place ∙ sym (zero-add (length a))) ∙ splice-append out 0 a y g in
-      subst (λ (u : List ℕ). Feeds u T H n out U' [] (m + 1) out'' t) (sym (read-line text at e ends more))
-      (record {
+      record {
         few = omega (arith, was.few);
         room = omega (arith, was.room);
         bytes = sym (line-held T U H G c l x n was.bytes was.calls small line);
@@ -69,7 +58,7 @@ module _ (text T H : List ℕ) (n : ℕ) (out : List ℕ) (at : ℕ) (U G : List
         calls = call ∙ sym (line-calls T U H G c l x n was.bytes was.calls small line);
         place = omega (arith, was.place, length-append a y, ap length b);
         text = v ∙ ap (splice out 0) b;
-      })
+      }
 
 -- ---- the end of a script
 

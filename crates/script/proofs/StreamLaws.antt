@@ -9,7 +9,7 @@ use native.Mathlib.Omega.{arith}
 use native.Mathlib.Decide.{dec_le}
 use native.Mathlib.Nat.{add-zero, zero-add}
 use lib.ListN.{length, take, drop, get_or, length-append, length-take, length-drop}
-use lib.Seq.{take_all, take-append-le, take-append-add, take-add, take-take, length-take-le, drop-cons}
+use lib.Seq.{take_all, take-append-le, take-append-add, take-take, length-take-le, drop-cons}
 use lib.Dec.{eqb}
 use borrow.Author.Tests.{eq-eqb, ne_eqb}
 use native.Mathlib.Numerals.{add-one}
@@ -20,7 +20,6 @@ use Rattle.line.specs.Command.{command_of, reserves_of}
 use Rattle.line.specs.Answer.{line_text}
 use Rattle.line.proofs.AnswerLaws.{line-length}
 use Rattle.line.specs.declared.Command.{Command}
-use Rattle.line.proofs.FieldLaws.{take-first, take-marked}
 use Rattle.line.proofs.CommandLaws.{command-long, malformed_reserves}
 use Rattle.script.specs.declared.Answer.{Answer}
 use Rattle.script.specs.declared.Answer.TheVariants.{Plain, Bounded, Attested}
@@ -238,21 +237,6 @@ unfolding answer_text
 answer-length T n l = line-length (cells_of n (command_answer T (command_of l) (reserves_of l))) (cells_eight n (command_answer T (command_of l) (reserves_of l)))
 
 -- ---- a line more is read
-
--- the bytes read up to place at, and then to the end of the line
-module _ (text : List ℕ) (at e : ℕ) (ends : e ≡ at + length (up_to 10 (drop at text))) where
-  pub read-part : take e text ≡ take at text ++ up_to 10 (drop at text)
-  read-part =
-      ap (λ (k : ℕ). take k text) ends
-      ∙ take-add at (length (up_to 10 (drop at text))) text
-      ∙ ap (λ (l : List ℕ). take at text ++ l) (take-first 10 (drop at text))
-
-  pub read-line : e < length text → take (e + 1) text ≡ take at text ++ (up_to 10 (drop at text) ++ (10 ∷ []))
-  read-line k =
-      let q : e + 1 ≡ at + (length (up_to 10 (drop at text)) + 1) = omega arith in
-      ap (λ (k : ℕ). take k text) q
-      ∙ take-add at (length (up_to 10 (drop at text)) + 1) text
-      ∙ ap (λ (l : List ℕ). take at text ++ l) (take-marked 10 (drop at text) (omega (arith, length-drop at text)))
 
 -- H is held after c and T the table, and x is the line that the next bytes end
 module _ (T₀ T H₀ H c l x : List ℕ) (n : ℕ) (held : H ≡ held_after H₀ c) (table : T ≡ table_read T₀ H₀ c) (small : length H ≤ 201) (line : x ≡ cut (H ++ up_to 10 l)) where

@@ -36,19 +36,16 @@ impl Script {
         requires room { 168 * length piece.now ≤ length out.old }
         ensures { Feeds piece.now self.old.table self.old.held self.old.number out.old self.new.table self.new.held self.new.number out.new result }
     {
-        let mut at = 0;
         let mut to = 0;
-        while at < piece.len() {
-            let e = line_fields::find(piece, at, b'\n');
-            self.held.keep(&piece[at..e]);
-            if e == piece.len() {
-                return to;
-            }
+        let mut rest = piece;
+        while let Some(e) = rest.iter().position(|b| *b == b'\n') {
+            self.held.keep(&rest[..e]);
             to = self.table.answer(out, to, self.number, self.held.line());
             self.held.forget();
             self.number += 1;
-            at = e + 1;
+            rest = &rest[e + 1..];
         }
+        self.held.keep(rest);
         to
     }
 

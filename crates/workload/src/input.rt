@@ -25,7 +25,7 @@ pub fn ask(text: &[u8]) -> Result<Script, Refusal>
     if 201 < text.len() {
         return Err(Refusal::Line);
     }
-    let e = line_fields::find(text, 0, b'\n');
+    let e = line_fields::find(text, b'\n');
     if e + 1 < text.len() || 200 < e {
         return Err(Refusal::Line);
     }

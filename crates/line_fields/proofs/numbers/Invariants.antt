@@ -1,11 +1,7 @@
-use Prim.Native.Nat.{◌+◌, ◌≤◌, ◌-◌}
-use lib.ListN.{length}
-use mathlib.Core.Path.{◌≡◌}
+use Rattle.std.proofs.Common.{◌≡◌, length, drop}
+use Rattle.line.specs.Fields.{fields_of}
 use Rattle.line.proofs.FieldLaws.{Reading}
 use Rattle.line_fields.proofs.numbers.Given as given
 
-abbrev pub invariant-loop-v : given.invariant-loop-v
-invariant-loop-v l = (l.at ≤ length l.s) × (l.n ≤ l.at) × (length l.values ≡ 19) × Reading l.s l.from l.at l.n l.values
-
-abbrev pub decreases-loop-v : given.decreases-loop-v
-decreases-loop-v l = length l.s + 1 - l.at
+abbrev pub invariant-loop-field : given.invariant-loop-field
+invariant-loop-field l = (l.n ≡ length l.yielded) × (length l.values ≡ 19) × Reading (fields_of (drop l.from l.s)) l.n l.values

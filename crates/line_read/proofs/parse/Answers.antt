@@ -1,5 +1,5 @@
 -- `line_read::parse` meets its contract.
-use Rattle.std.proofs.Common.{◌≡◌, ℕ, ◌+◌, ◌-◌, List, [], ◌∷◌, Option, Some, length, take, drop, refl, sym, ap, ◌∙◌, arith}
+use Rattle.std.proofs.Common.{◌≡◌, ℕ, ◌+◌, List, [], ◌∷◌, Option, Some, length, take, drop, refl, sym, ap, ◌∙◌, arith}
 use Rattle.octets.specs.Octets.{zeros}
 use Rattle.line.specs.Fields.{fields_of, numbers_of, up_to}
 use Rattle.line.specs.Command.{word_of}
@@ -17,16 +17,16 @@ returns-then-line-gt200 c = sym (command-long c.args.line.now (omega arith))
 
 pub returns-then-e-line : goal.returns-then-e-line
 returns-then-e-line c = let l : List ℕ = c.args.line.now in
-    sym (only-word l (up_to 44 l) (omega arith) (last-field 44 l 0 c.find-e.result c.find-e.ensures.0 c.if-e-line.true))
+    sym (only-word l (up_to 44 l) (omega arith) (last-field 44 l c.find-e.result c.find-e.ensures.0 c.if-e-line.true))
 
 -- the first field of l, which ends at e
-first-word : (l : List ℕ) (e : ℕ) → e ≡ 0 + length (up_to 44 (drop 0 l)) → word_of (take e l) ≡ word_of (up_to 44 l)
-first-word l e ends = let z : e ≡ e - 0 = omega arith in ap word_of (ap (λ (j : ℕ). take j l) z ∙ field-part 44 l 0 e ends)
+first-word : (l : List ℕ) (e : ℕ) → e ≡ length (up_to 44 l) → word_of (take e l) ≡ word_of (up_to 44 l)
+first-word l e ends = ap word_of (field-part 44 l e ends)
 
 pub returns-in_err-word : goal.returns-in_err-word
 returns-in_err-word c = let l : List ℕ = c.args.line.now in
     c.from_residual.ensures
-    ∙ sym (no-word l (up_to 44 l) (fields_of (drop (c.find-e.result + 1) l)) (omega arith) (more-fields 44 l 0 c.find-e.result c.find-e.ensures.0 (omega arith)) (sym (first-word l c.find-e.result c.find-e.ensures.0) ∙ sym c.word.ensures ∙ c.in_err-word.was))
+    ∙ sym (no-word l (up_to 44 l) (fields_of (drop (c.find-e.result + 1) l)) (omega arith) (more-fields 44 l c.find-e.result c.find-e.ensures.0 (omega arith)) (sym (first-word l c.find-e.result c.find-e.ensures.0) ∙ sym c.word.ensures ∙ c.in_err-word.was))
 
 pub numbers-requires : goal.numbers-requires
 unfolding zeros
@@ -36,11 +36,11 @@ pub returns-in_err-n : goal.returns-in_err-n
 returns-in_err-n c = let l : List ℕ = c.args.line.now in
     let o : Option (List ℕ) = numbers_of (fields_of (drop (c.find-e.result + 1) l)) in
     c.from_residual-in_err-n.ensures
-    ∙ sym (no-numbers l (up_to 44 l) (fields_of (drop (c.find-e.result + 1) l)) (omega arith) (more-fields 44 l 0 c.find-e.result c.find-e.ensures.0 (omega arith)) (counted-not o c.numbers.result c.numbers.ensures.value c.in_err-n.was))
+    ∙ sym (no-numbers l (up_to 44 l) (fields_of (drop (c.find-e.result + 1) l)) (omega arith) (more-fields 44 l c.find-e.result c.find-e.ensures.0 (omega arith)) (counted-not o c.numbers.result c.numbers.ensures.value c.in_err-n.was))
 
 pub returns : goal.returns
 returns c = let l : List ℕ = c.args.line.now in
     let o : Option (List ℕ) = numbers_of (fields_of (drop (c.find-e.result + 1) l)) in
     let k = counted o c.numbers.result c.in_ok-n.n c.numbers.ensures.value c.in_ok-n.was in
     let w : word_of (up_to 44 l) ≡ Some c.in_ok-word.word = sym (first-word l c.find-e.result c.find-e.ensures.0) ∙ sym c.word.ensures ∙ c.in_ok-word.was in
-    read-line c.command.result l (up_to 44 l) (fields_of (drop (c.find-e.result + 1) l)) k.0 _ c.in_ok-word.word c.in_ok-n.n (omega arith) (more-fields 44 l 0 c.find-e.result c.find-e.ensures.0 (omega arith)) k.1 w k.2 (c.numbers.ensures.by_index k.0 k.1) c.command.ensures
+    read-line c.command.result l (up_to 44 l) (fields_of (drop (c.find-e.result + 1) l)) k.0 _ c.in_ok-word.word c.in_ok-n.n (omega arith) (more-fields 44 l c.find-e.result c.find-e.ensures.0 (omega arith)) k.1 w k.2 (c.numbers.ensures.by_index k.0 k.1) c.command.ensures
