@@ -4,7 +4,8 @@ use Rattle.std.specs.Prelude.{ℕ, cond, List, [], ◌∷◌, eqb, get_or}
 use Rattle.std.proofs.Math.Option.{Option, none, some}
 use Rattle.a2m.specs.Call.{Reply, refused, done, found, ended, numbered}
 use Rattle.refusal.specs.Answer.{Answer}
-use Rattle.runs.specs.Compare.{Verdict, differ, agree, collision}
+use Rattle.runs.specs.Compare.{Verdict}
+use Rattle.runs.specs.Call.{verdict_code}
 
 -- ---- the calls on a table
 
@@ -75,12 +76,6 @@ abbrev pub second_after : Answer → ℕ → ℕ
 second_after a old = cond (eqb a.number 0) (get_or a.values 1 old) old
 
 -- ---- runs
-
--- the header's KEEPER_DIFFER, KEEPER_AGREE and KEEPER_COLLISION
-abbrev pub verdict_code : Verdict → ℕ
-verdict_code differ = 0
-verdict_code agree = 1
-verdict_code collision = 2
 
 -- the code of a verdict, if there is one
 abbrev pub code_after : Option Verdict → ℕ → ℕ

@@ -14,7 +14,7 @@ use a2m::Bounds;
 use equivocation::Pair;
 use quorum::Certified;
 use receipt::Accepted;
-use refusal::{Hashed, Refused};
+use refusal::{Hashed, Refused, worked_blocks, worked_number};
 use runs::Comparison;
 
 // C's keeper_result, returned by value: document 01's number, and the blocks hashed (document 02 [2]). A refusal has both,
@@ -31,15 +31,9 @@ pub fn worked<T>(answer: &Result<Hashed<T>, Refused>) -> KeeperResult
     ensures answer { result.number ≡ worked_number answer.now }
     ensures blocks { result.blocks ≡ worked_blocks answer.now }
 {
-    match answer {
-        Ok(done) => KeeperResult {
-            number: 0,
-            blocks: done.blocks,
-        },
-        Err(refused) => KeeperResult {
-            number: u64::from(u8::from(refused.why)),
-            blocks: refused.blocks,
-        },
+    KeeperResult {
+        number: u64::from(worked_number(answer)),
+        blocks: worked_blocks(answer),
     }
 }
 
@@ -143,11 +137,7 @@ pub fn compared(comparison: Result<Hashed<Comparison>, Refused>, verdict: &mut u
     ensures verdict { verdict.new ≡ code_after (comparison_answer comparison).verdict verdict.old }
 {
     if let Ok(done) = &comparison {
-        *verdict = match done.value {
-            Comparison::Differ => 0,
-            Comparison::Agree => 1,
-            Comparison::Collision => 2,
-        };
+        *verdict = u8::from(done.value);
     }
     worked(&comparison)
 }

@@ -4,5 +4,5 @@
 mod reading;
 mod slots;
 
-pub use reading::{Bytes, Field, Line};
+pub use reading::{Field, Items, Line};
 pub use slots::{SLOT, first, first_mut, slot, slot_mut, write, write_slot};

@@ -2,32 +2,35 @@ ghost use Rattle.std.specs.Prelude.{◌<◌, ◌≤◌, length, IfSome};
 
 use line_fields::find;
 
-// The bytes that a field says, 160 at most. No program of this repository uses a heap, so no Vec.
+// So many items, N at most. Not a Vec: no program here uses a heap; nor the kit's `arrayvec`: none uses a library of the kit beside std.
 #[derive(Clone, Copy)]
-pub struct Bytes {
-    bytes: [u8; 160],
-    len: usize,
+pub struct Items<T, const N: usize> {
+    items: [T; N],
+    count: usize,
 }
 
-impl Bytes {
-    pub fn as_slice(&self) -> &[u8] {
-        self.bytes.get(..self.len).unwrap_or(&[])
+impl<T: Copy, const N: usize> Items<T, N> {
+    pub fn as_slice(&self) -> &[T] {
+        self.items.get(..self.count).unwrap_or(&[])
     }
 
-    // Writes a byte so often behind the others.
-    fn push(&mut self, b: u8, count: usize) -> Option<()> {
-        let rest = self.bytes.get_mut(self.len..)?;
-        rest.get_mut(..count)?.fill(b);
-        self.len = self.len.checked_add(count)?;
+    // Writes an item so often behind the others; None where there is no room.
+    fn push(&mut self, item: T, times: usize) -> Option<()> {
+        let rest = self.items.get_mut(self.count..)?;
+        for to in rest.get_mut(..times)? {
+            *to = item;
+        }
+        self.count = self.count.checked_add(times)?;
         Some(())
     }
 }
 
-// What a field says.
+// What a field says, 160 bytes at most, or that it is not understood: no None, which would put a `Some` before each field in the lines'
+// patterns.
 #[derive(Clone, Copy)]
 pub enum Field {
     Number(u64),
-    Bytes(Bytes),
+    Bytes(Items<u8, 160>),
     Unread,
 }
 
@@ -42,7 +45,7 @@ impl Field {
     }
 }
 
-// What a hexadecimal digit stands for.
+// What a hexadecimal digit stands for. Not by `to_digit`, which reads capitals too.
 fn digit(b: u8) -> Option<u8>
     ensures { IfSome result (λ n. n < 16) }
 {
@@ -65,11 +68,12 @@ fn repetition(s: &[u8]) -> Option<(usize, &[u8])>
     Some((count as usize, s.get(e + 1..).unwrap_or(&[])))
 }
 
-// The bytes that a text says in hexadecimal, each as often as the repetition after it says.
-fn hexadecimal(s: &[u8]) -> Option<Bytes> {
-    let mut out = Bytes {
-        bytes: [0; 160],
-        len: 0,
+// The bytes that a text says in hexadecimal, each as often as the repetition after it says. What follows a pair says how far it goes, so
+// neither `chunks` nor `split` cuts the text.
+fn hexadecimal(s: &[u8]) -> Option<Items<u8, 160>> {
+    let mut out = Items {
+        items: [0; 160],
+        count: 0,
     };
     let mut rest = s;
     while let [high, low, more @ ..] = rest {
@@ -90,12 +94,11 @@ fn read(s: &[u8], turn: u64) -> Field {
     }
 }
 
-// A line's word, and its fields, of which there may be 10; no Vec, as above.
+// A line's word, and its fields, of which there may be 10.
 #[derive(Clone, Copy)]
 pub struct Line<'a> {
     pub word: &'a [u8],
-    fields: [Field; 10],
-    count: usize,
+    fields: Items<Field, 10>,
 }
 
 impl<'a> Line<'a> {
@@ -104,23 +107,18 @@ impl<'a> Line<'a> {
         let mut parts = s.strip_suffix(b" ").unwrap_or(s).split(|b| *b == b' ');
         let mut line = Line {
             word: parts.next().unwrap_or(s),
-            fields: [Field::Unread; 10],
-            count: 0,
+            fields: Items {
+                items: [Field::Unread; 10],
+                count: 0,
+            },
         };
         for part in parts {
-            line.push(read(part, turn))?;
+            line.fields.push(read(part, turn), 1)?;
         }
         Some(line)
     }
 
-    fn push(&mut self, field: Field) -> Option<()> {
-        let i = self.count;
-        *self.fields.get_mut(i)? = field;
-        self.count = i + 1;
-        Some(())
-    }
-
     pub fn fields(&self) -> &[Field] {
-        self.fields.get(..self.count).unwrap_or(&[])
+        self.fields.as_slice()
     }
 }

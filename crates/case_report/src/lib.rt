@@ -18,7 +18,8 @@ fn value(rt: &impl Print, kind: u8, n: u64) -> io::Result<()> {
     }
 }
 
-// A text with a number in the place of each `%d`, in decimal, and of each `%1` to `%8`, in so many bytes of hexadecimal.
+// A text with a number in the place of each `%d`, in decimal, and of each `%1` to `%8`, in so many bytes of hexadecimal. Not by `split` at
+// `%`: its closure would need a fact of its own that it does not divide.
 pub fn show(rt: &impl Print, t: &[u8], values: &[u64]) -> io::Result<()> {
     let mut rest = t;
     let mut values = values;

@@ -18,7 +18,7 @@ pub fn number(rt: &impl Print, n: u64) -> io::Result<()> {
     text(rt, &digits[..to])
 }
 
-// The hexadecimal digit of a number below 16.
+// The hexadecimal digit of a number below 16. Not by `from_digit`: of a number no text here is made by std.
 fn digit(n: u8) -> u8
     requires { n < 16 }
     ensures { result ≡ hex_digit n }

@@ -66,7 +66,7 @@ pub fn read_full<R: Read>(input: &mut R, buf: &mut [u8]) -> io::Result<usize>
     Ok(done)
 }
 
-// The system's words for an error. There is no heap: they stand in a buffer, up to a place.
+// The system's words for an error, in a buffer, up to a place: there is no heap, and no library of the kit beside std is used.
 #[derive(Drop)]
 struct Words {
     bytes: [u8; 256],

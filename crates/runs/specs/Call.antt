@@ -47,6 +47,12 @@ verdict_named Differ = differ
 verdict_named Agree = agree
 verdict_named Collision = collision
 
+-- its code, C's KEEPER_DIFFER, KEEPER_AGREE and KEEPER_COLLISION
+abbrev pub verdict_code : Verdict → ℕ
+verdict_code differ = 0
+verdict_code agree = 1
+verdict_code collision = 2
+
 -- the number and the verdict of the program's answer
 abbrev pub comparison_answer : Result (Hashed Comparison) Refused → Answer
 comparison_answer (Ok compared) = done (verdict_named compared.value)

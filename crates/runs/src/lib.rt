@@ -3,6 +3,7 @@
 
 ghost use Rattle.std.specs.Prelude.{◌≡◌, ◌+◌, ◌/◌, ◌<◌, length};
 ghost use Rattle.runs.specs.Run.{Reaches};
+ghost use Rattle.runs.specs.Call.{verdict_code, verdict_named};
 
 // A run as it is lent: a start digest, a first position, and values, 32 bytes each.
 #[derive(Clone, Copy)]
@@ -58,6 +59,19 @@ pub enum Comparison {
     Differ,
     Agree,
     Collision,
+}
+
+// Its code for C.
+impl From<Comparison> for u8 {
+    ghost from_gives = { λ verdict n. n ≡ verdict_code (verdict_named verdict) };
+
+    fn from(verdict: Comparison) -> u8 {
+        match verdict {
+            Comparison::Differ => 0,
+            Comparison::Agree => 1,
+            Comparison::Collision => 2,
+        }
+    }
 }
 
 // The unequal pair of blocks nearest the ends: the place of its value in each run, and the digest before it.

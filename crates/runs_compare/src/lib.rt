@@ -72,12 +72,8 @@ pub fn compare(one: Run, two: Run, out: &mut [u8]) -> Result<Hashed<Comparison>,
     ensures blocks { comparison_blocks result ≡ compare_blocks (lent one.entry) (lent two.entry) out.old }
     ensures bytes { out.new ≡ compare_bytes (lent one.entry) (lent two.entry) out.old }
 {
-    let Some(start1) = one.start.as_array::<32>() else {
-        return Err(Refusal::Length.into());
-    };
-    let Some(start2) = two.start.as_array::<32>() else {
-        return Err(Refusal::Length.into());
-    };
+    let start1 = one.start.as_array::<32>().ok_or(Refusal::Length)?;
+    let start2 = two.start.as_array::<32>().ok_or(Refusal::Length)?;
     if out.len() != 144 {
         return Err(Refusal::Length.into());
     }

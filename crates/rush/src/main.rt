@@ -12,6 +12,7 @@ use workload::Script;
 const INPUT: usize = 202;
 
 // Writes all of the bytes. Of a write that stopped, why is all that is told: how much was taken does not matter here.
+// Not by `map_err`: its closure would need a fact of its own that it does not divide.
 fn write<W: Write>(output: &mut W, bytes: &[u8]) -> io::Result<()> {
     match write_out(output, bytes) {
         Ok(()) => Ok(()),
@@ -19,7 +20,8 @@ fn write<W: Write>(output: &mut W, bytes: &[u8]) -> io::Result<()> {
     }
 }
 
-// Writes the first piece, which stands in the buffer up to a place, and then the lines of the script, a buffer full at a time.
+// Writes the first piece, which stands in the buffer up to a place, and then the lines of the script, a buffer full at a time. Not a `for` over
+// the script: `fill` takes its calls, as many as there is room for.
 fn send<W: Write>(
     output: &mut W,
     out: &mut [u8],

@@ -14,7 +14,8 @@ use script::Answer;
 use script_calls::{advance, append, end, lookup, truncate};
 use std::marker::Model;
 
-// A table of any size, at the start of room for the largest: there is no heap. Before a format it is empty, and torn.
+// A table of any size, at the start of room for the largest: there is no heap, and no library of the kit beside std is used. Before a
+// format it is empty, and torn.
 #[derive(Drop)]
 pub struct Table {
     bytes: [u8; LARGEST],

@@ -10,7 +10,7 @@ use refusal::{Refusal, outcome_number};
 use sentence::Said;
 use std::io;
 
-// The number of bytes before the first zero.
+// The number of bytes before the first zero. Not by `position`: its closure would need a fact of its own that it does not divide.
 fn size(s: &[u8]) -> usize
     ensures { result ≤ length s.now }
 {

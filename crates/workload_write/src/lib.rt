@@ -83,6 +83,7 @@ pub fn put_line(out: &mut [u8], at: usize, draw: Draw) -> usize
 }
 
 // Lines of a script at the start of a buffer, while some are left and there is room; where they end, and the script that is left.
+// Not a `for` over the script: no call is drawn that there is no room for.
 pub fn fill(out: &mut [u8], script: &mut Script) -> usize
     ensures { Fills out.old script.old.seed script.old.count out.new (course script.new result) }
 {

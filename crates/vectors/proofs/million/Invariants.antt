@@ -1,8 +1,9 @@
-use Rattle.std.proofs.Common.{◌≡◌, ◌+◌, ◌≤◌}
+use Rattle.std.proofs.Common.{◌≤◌}
 use Rattle.vectors.proofs.million.Given as given
 
-abbrev pub invariant-loop-left : given.invariant-loop-left
-invariant-loop-left l = (l.s.count + l.left ≡ 1000000) × (l.s.blocks ≤ l.s.count)
-
-abbrev pub decreases-loop-left : given.decreases-loop-left
-decreases-loop-left l = l.left
+abbrev pub invariant-loop-at : given.invariant-loop-at
+invariant-loop-at l = record {
+  within : l.s.count ≤ 1000000;
+  behind : l.s.count ≤ l.at;
+  blocks : l.s.blocks ≤ l.s.count;
+}
