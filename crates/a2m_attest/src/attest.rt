@@ -10,7 +10,7 @@ ghost use Rattle.a2m.specs.Opened.{slot_number};
 use layout::Counts;
 use layout_header::key_of;
 use layout_slots::{digest_at, value_at};
-use receipt::Facts;
+use receipt::{Attested, Facts};
 use receipt_write::put_receipt;
 
 // Writes the receipt of these facts under the table's key, with the value and digest of the slot shown; zero bytes where none is. The
@@ -19,25 +19,35 @@ pub fn attest(
     table: &[u8],
     counts: Counts,
     shown: Option<usize>,
-    f: Facts,
+    facts: Facts,
     nonce: &[u8; 32],
     receipt: &mut [u8; 160],
 ) -> u64
     requires counted { Counted table.now counts.logs counts.slots }
     requires shown_slot { IfSome shown (λ s. (1 ≤ s) × (s ≤ counts.slots)) }
     ensures blocks { result ≡ 6 }
-    ensures bytes { receipt.new ≡ receipt_bytes (read_table table.now).key (attestation_of f nonce.now (slot_at (read_table table.now).slots (slot_number shown)).value (slot_at (read_table table.now).slots (slot_number shown)).digest) }
+    ensures bytes { receipt.new ≡ receipt_bytes (read_table table.now).key (attestation_of facts nonce.now (slot_at (read_table table.now).slots (slot_number shown)).value (slot_at (read_table table.now).slots (slot_number shown)).digest) }
 {
     let key = key_of(table);
     match shown {
         None => {
             let none = [0; 32];
-            put_receipt(receipt, key, f, nonce, &none, &none)
+            let blank = Attested {
+                facts,
+                nonce,
+                value: &none,
+                digest: &none,
+            };
+            put_receipt(receipt, key, blank)
         }
         Some(s) => {
-            let value = value_at(table, counts, s);
-            let digest = digest_at(table, counts, s);
-            put_receipt(receipt, key, f, nonce, value, digest)
+            let attested = Attested {
+                facts,
+                nonce,
+                value: value_at(table, counts, s),
+                digest: digest_at(table, counts, s),
+            };
+            put_receipt(receipt, key, attested)
         }
     }
 }

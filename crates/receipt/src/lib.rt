@@ -63,6 +63,15 @@ pub struct Facts {
     pub reference: u64,
 }
 
+// All that a receipt says before its tag, the nonce, value and digest lent.
+#[derive(Clone, Copy)]
+pub struct Attested<'a> {
+    pub facts: Facts,
+    pub nonce: &'a [u8; 32],
+    pub value: &'a [u8; 32],
+    pub digest: &'a [u8; 32],
+}
+
 // A question's LOOKUP of a position, or END.
 #[derive(Clone, Copy)]
 pub enum Ask {
@@ -70,7 +79,7 @@ pub enum Ask {
     End,
 }
 
-// A question; its nonce stands beside it.
+// A question. Its nonce stands beside it: the verifier is lent one of any length, and looks at the question once that is an array.
 #[derive(Clone, Copy)]
 pub struct Question {
     pub keeper: u64,
