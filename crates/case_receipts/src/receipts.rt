@@ -154,7 +154,7 @@ fn verified(
                     said.keeper,
                     u64::from(said.log),
                     said.position,
-                    u64::from(said.kind),
+                    u64::from(u8::from(said.kind)),
                     said.reference,
                     done.blocks,
                 ],

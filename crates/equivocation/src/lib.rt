@@ -34,12 +34,8 @@ pub fn find(
     if !roster::is_permitted(members, needed) {
         return Err(Refusal::Profile.into());
     }
-    let Some(roster) = roster::items(members, roster) else {
-        return Err(Refusal::Roster.into());
-    };
-    let Some(receipts) = receipts_in(pile) else {
-        return Err(Refusal::NoReceipt.into());
-    };
+    let roster = roster::items(members, roster).ok_or(Refusal::Roster)?;
+    let receipts = receipts_in(pile).ok_or(Refusal::NoReceipt)?;
     let marks = marks_of(roster, receipts);
     Ok(Hashed {
         value: first_pair(&marks.value, receipts),

@@ -31,12 +31,8 @@ pub fn certify(
     if !is_permitted(members, needed) {
         return Err(Refusal::Profile.into());
     }
-    let Some(items) = items(members, roster) else {
-        return Err(Refusal::Roster.into());
-    };
-    let Some(receipts) = receipts_in(cert) else {
-        return Err(Refusal::NoReceipt.into());
-    };
+    let items = items(members, roster).ok_or(Refusal::Roster)?;
+    let receipts = receipts_in(cert).ok_or(Refusal::NoReceipt)?;
     let tally = tally_of(items, nonce, log, position, receipts);
     let blocks = tally.blocks;
     let read = Certificate {

@@ -41,7 +41,7 @@ fn member_of(
     };
     match verify(&roster[i][8..], r, nonce, q) {
         Ok(done) => {
-            let assigned = done.value.kind == u8::from(Kind::Assigned);
+            let assigned = done.value.kind == Kind::Assigned;
             Hashed {
                 value: assigned.then_some(i as u8),
                 blocks: done.blocks,

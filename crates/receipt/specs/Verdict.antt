@@ -9,6 +9,7 @@ use Rattle.refusal.specs.Order.{Fault, fault, first_fault, afterwards}
 use Rattle.hmac.specs.Hmac.{hmac}
 use Rattle.refusal.specs.Answer.{Answer, answer, answer_with}
 use Rattle.receipt.specs.Attestation.{receipt_size, Attestation, LOOKUP, END, read_attestation, attested_in, tag_in, receipt_bytes, Sized}
+use Rattle.receipt.specs.Kind.{kind_number}
 use Rattle.receipt.specs.Possible.{Admissible, possible}
 use Rattle.receipt.specs.declared.Ask.{Ask}
 use Rattle.receipt.specs.declared.Ask.TheVariants.{Lookup, End}
@@ -21,7 +22,7 @@ Verdict = Result (Hashed Accepted) Refused
 
 -- what is carried: keeper, log, position, kind and reference
 abbrev pub accepted_values : Accepted → List ℕ
-accepted_values a = a.keeper ∷ a.log ∷ a.position ∷ a.kind ∷ a.reference ∷ []
+accepted_values a = a.keeper ∷ a.log ∷ a.position ∷ kind_number a.kind ∷ a.reference ∷ []
 
 -- number and values of each verdict
 abbrev pub verdict_answer : Verdict → Answer

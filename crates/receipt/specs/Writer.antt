@@ -7,6 +7,7 @@ use Rattle.receipt.specs.Attestation.{receipt_size, Attestation, LOOKUP, END}
 use Rattle.receipt.specs.declared.Name.{Name}
 use Rattle.receipt.specs.declared.Name.TheVariants.{Lookup, End}
 use Rattle.receipt.specs.declared.Facts.{Facts}
+use Rattle.receipt.specs.declared.Attested.{Attested}
 
 -- "bytes 0–5 the ASCII name LOOKUP, or END and three zero bytes"
 unfoldable pub name_bytes : Name → List ℕ
@@ -26,6 +27,10 @@ attestation_of f nonce value digest = record {
   value = value;
   digest = digest;
 }
+
+-- the same of the struct that lends them
+abbrev pub attested_said : Attested → Attestation
+attested_said a = attestation_of a.facts a.nonce.now a.value.now a.digest.now
 
 -- bytes 0–31
 unfoldable pub fact_bytes : Facts → List ℕ

@@ -52,7 +52,8 @@ impl TryFrom<u8> for Kind {
     }
 }
 
-// What a receipt says in numbers; nonce, value and digest stand beside it. The kind is a number, since a caller in C may have any written.
+// What a receipt says in numbers. The kind is a number, since `receipt_write: write` takes any: the cases write receipts of kinds that there
+// are not, to see them refused.
 #[derive(Clone, Copy)]
 pub struct Facts {
     pub name: Name,
@@ -63,6 +64,15 @@ pub struct Facts {
     pub reference: u64,
 }
 
+// All that a receipt says before its tag, the nonce, value and digest lent.
+#[derive(Clone, Copy)]
+pub struct Attested<'a> {
+    pub facts: Facts,
+    pub nonce: &'a [u8; 32],
+    pub value: &'a [u8; 32],
+    pub digest: &'a [u8; 32],
+}
+
 // A question's LOOKUP of a position, or END.
 #[derive(Clone, Copy)]
 pub enum Ask {
@@ -70,7 +80,7 @@ pub enum Ask {
     End,
 }
 
-// A question; its nonce stands beside it.
+// A question. Its nonce stands beside it: the verifier is lent one of any length, and looks at the question once that is an array.
 #[derive(Clone, Copy)]
 pub struct Question {
     pub keeper: u64,
@@ -78,12 +88,12 @@ pub struct Question {
     pub ask: Ask,
 }
 
-// What an accepted receipt carries. The kind is a number here too: a sentence can be had for any.
+// What an accepted receipt carries.
 #[derive(Clone, Copy)]
 pub struct Accepted {
     pub keeper: u64,
     pub log: u8,
     pub position: u64,
-    pub kind: u8,
+    pub kind: Kind,
     pub reference: u64,
 }

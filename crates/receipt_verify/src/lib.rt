@@ -6,13 +6,14 @@ mod possible;
 
 ghost use Rattle.std.specs.Prelude.{◌≡◌, length};
 ghost use Rattle.receipt.specs.Attestation.{read_attestation};
+ghost use Rattle.receipt.specs.Kind.{kind_number};
 ghost use Rattle.receipt.specs.Verdict.{accepted_values, carried, is_tagged, verdict, verdict_answer, verify_blocks, verdict_blocks, AcceptsExactly};
 
 use crate::answers::is_answer;
-use crate::possible::is_possible;
+use crate::possible::possible_kind;
 use octets::equal;
-use receipt::{Accepted, Question};
-use receipt_fields::{attested_of, keeper_of, kind_of, log_of, position_of, reference_of};
+use receipt::{Accepted, Kind, Question};
+use receipt_fields::{attested_of, keeper_of, log_of, position_of, reference_of};
 use refusal::{Hashed, Refusal, Refused};
 
 // Whether the tag is that of the bytes before it.
@@ -27,16 +28,17 @@ fn is_tagged(key: &[u8; 32], r: &[u8; 160]) -> Hashed<bool>
     }
 }
 
-// What an accepted receipt says.
+// What an accepted receipt says, which is of a kind.
 #[tactic(auto, unfolding(receipt::specs::Verdict::carried))]
-fn accepted(r: &[u8; 160]) -> Accepted
+fn accepted(r: &[u8; 160], kind: Kind) -> Accepted
+    requires { kind_number kind ≡ (read_attestation r.now).kind }
     ensures { accepted_values result ≡ carried (read_attestation r.now) }
 {
     Accepted {
         keeper: keeper_of(r),
         log: log_of(r),
         position: position_of(r),
-        kind: kind_of(r),
+        kind,
         reference: reference_of(r),
     }
 }
@@ -56,9 +58,7 @@ pub fn verify(
     let key = key.as_array::<32>().ok_or(Refusal::Length)?;
     let nonce = nonce.as_array::<32>().ok_or(Refusal::Length)?;
     let receipt = receipt.as_array::<160>().ok_or(Refusal::NoReceipt)?;
-    if !is_possible(receipt) {
-        return Err(Refusal::NoReceipt.into());
-    }
+    let kind = possible_kind(receipt).ok_or(Refusal::NoReceipt)?;
     let tag = is_tagged(key, receipt);
     if !tag.value {
         return Err(Refused {
@@ -73,7 +73,7 @@ pub fn verify(
         });
     }
     Ok(Hashed {
-        value: accepted(receipt),
+        value: accepted(receipt, kind),
         blocks: tag.blocks,
     })
 }

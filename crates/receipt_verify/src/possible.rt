@@ -1,5 +1,5 @@
-// Whether bytes are those of a possible entry.
-ghost use Rattle.std.specs.Prelude.{◌≡◌};
+// Whether bytes are those of a possible entry, and its kind.
+ghost use Rattle.std.specs.Prelude.{◌≡◌, true, false, MatchOption};
 ghost use Rattle.receipt.specs.Attestation.{read_attestation};
 ghost use Rattle.receipt.specs.Kind.{kind_number};
 ghost use Rattle.receipt.specs.Possible.{is_name, reference_fits, is_blank, blank_fits, fresh_end, possible};
@@ -63,20 +63,20 @@ fn is_fresh_end(r: &[u8; 160]) -> bool
         && is_blank(r)
 }
 
-// The end of a fresh log is the one possible entry with position 0.
+// The kind of a possible entry. The end of a fresh log is the one with position 0.
 #[tactic(auto, unfolding(receipt::specs::Possible::possible, receipt::specs::Possible::fresh_end, receipt::specs::Possible::reference_fits))]
-pub fn is_possible(r: &[u8; 160]) -> bool
-    ensures { result ≡ possible (read_attestation r.now) }
+pub fn possible_kind(r: &[u8; 160]) -> Option<Kind>
+    ensures { MatchOption result (possible (read_attestation r.now) ≡ false) (λ kind. (possible (read_attestation r.now) ≡ true) × (kind_number kind ≡ (read_attestation r.now).kind)) }
 {
+    let kind = Kind::try_from(kind_of(r)).ok()?;
     let position = position_of(r);
-    if position == 0 {
-        return is_fresh_end(r);
-    }
-    let Ok(kind) = Kind::try_from(kind_of(r)) else {
-        return false;
+    let possible = if position == 0 {
+        is_fresh_end(r)
+    } else {
+        is_name(r)
+            && log_of(r) <= 15
+            && reference_fits(kind, position, reference_of(r))
+            && blank_fits(kind, r)
     };
-    is_name(r)
-        && log_of(r) <= 15
-        && reference_fits(kind, position, reference_of(r))
-        && blank_fits(kind, r)
+    possible.then_some(kind)
 }

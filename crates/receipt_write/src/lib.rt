@@ -1,18 +1,18 @@
 // The writer of receipts: each part into its place, the tag last.
 #![tactic(auto)]
 
-ghost use Rattle.std.specs.Prelude.{◌≡◌, ◌++◌, ◌∷◌, [], length};
+ghost use Rattle.std.specs.Prelude.{◌≡◌, ◌≤◌, length};
 ghost use Rattle.refusal.specs.Order.{answer_of, afterwards};
 ghost use Rattle.refusal.specs.Work.{worked_number, worked_blocks};
 ghost use Rattle.hmac.specs.Hmac.{hmac};
 ghost use Rattle.octets.specs.Octets.{part, splice};
 ghost use Rattle.receipt.specs.Attestation.{attested_bytes, receipt_bytes};
-ghost use Rattle.receipt.specs.Writer.{name_bytes, fact_bytes, attestation_of, write_refusal};
+ghost use Rattle.receipt.specs.Writer.{name_bytes, fact_bytes, attestation_of, attested_said, write_refusal};
 
 use bigendian::put_number;
 use hmac::tag;
 use octets::put;
-use receipt::{Facts, Name};
+use receipt::{Attested, Facts, Name};
 use refusal::{Hashed, Refusal, Refused, worked_blocks};
 
 // Stores the name in bytes 0 to 5.
@@ -37,23 +37,25 @@ fn put_facts(out: &mut [u8; 160], f: Facts)
     put_number::<8>(out, 24, f.reference);
 }
 
-// Writes bytes 0 to 127. Each part is first a local, which the compiler knows to overlap nothing: so it is a few moves.
-fn put_attested(
-    out: &mut [u8; 160],
-    f: Facts,
-    nonce: &[u8; 32],
-    value: &[u8; 32],
-    digest: &[u8; 32],
-)
-    ensures { out.new ≡ splice out.old 0 (attested_bytes (attestation_of f nonce.now value.now digest.now)) }
+// Writes 32 bytes at a place. Copied first: a local overlaps nothing, so that they are put as a few moves.
+fn put_array(out: &mut [u8; 160], at: usize, bytes: &[u8; 32])
+    requires { at ≤ 128 }
+    ensures put { out.new ≡ splice out.old at bytes.now }
+    ensures array { length bytes.now ≡ 32 }
 {
-    put_facts(out, f);
-    let nonce = *nonce;
-    put(out, 32, &nonce);
-    let value = *value;
-    put(out, 64, &value);
-    let digest = *digest;
-    put(out, 96, &digest);
+    let local = *bytes;
+    put(out, at, &local);
+}
+
+// Writes bytes 0 to 127.
+fn put_attested(out: &mut [u8; 160], a: Attested)
+    ensures bytes { out.new ≡ splice out.old 0 (attested_bytes (attested_said a.entry)) }
+    ensures size { length (attested_bytes (attested_said a.entry)) ≡ 128 }
+{
+    put_facts(out, a.facts);
+    put_array(out, 32, a.nonce);
+    put_array(out, 64, a.value);
+    put_array(out, 96, a.digest);
 }
 
 // Writes the tag of bytes 0 to 127, the tag writer being lent bytes 128 to 159, and hands on the blocks that it hashed.
@@ -67,18 +69,11 @@ fn put_tag(out: &mut [u8; 160], key: &[u8; 32]) -> u64
 }
 
 // Writes a receipt's 160 bytes, and hands on the blocks hashed for its tag; the caller has seen to the lengths.
-pub fn put_receipt(
-    out: &mut [u8; 160],
-    key: &[u8; 32],
-    f: Facts,
-    nonce: &[u8; 32],
-    value: &[u8; 32],
-    digest: &[u8; 32],
-) -> u64
+pub fn put_receipt(out: &mut [u8; 160], key: &[u8; 32], a: Attested) -> u64
     ensures blocks { result ≡ 6 }
-    ensures bytes { out.new ≡ receipt_bytes key.now (attestation_of f nonce.now value.now digest.now) }
+    ensures bytes { out.new ≡ receipt_bytes key.now (attested_said a.entry) }
 {
-    put_attested(out, f, nonce, value, digest);
+    put_attested(out, a);
     put_tag(out, key)
 }
 
@@ -87,20 +82,26 @@ pub fn put_receipt(
 pub fn write(
     out: &mut [u8],
     key: &[u8],
-    f: Facts,
+    facts: Facts,
     nonce: &[u8],
     value: &[u8],
     digest: &[u8],
 ) -> Result<Hashed<()>, Refused>
     ensures answer { worked_number result ≡ answer_of (write_refusal key.now nonce.now value.now digest.now out.old) }
     ensures blocks { worked_blocks result ≡ afterwards (write_refusal key.now nonce.now value.now digest.now out.old) 6 0 }
-    ensures bytes { out.new ≡ afterwards (write_refusal key.now nonce.now value.now digest.now out.old) (receipt_bytes key.now (attestation_of f nonce.now value.now digest.now)) out.old }
+    ensures bytes { out.new ≡ afterwards (write_refusal key.now nonce.now value.now digest.now out.old) (receipt_bytes key.now (attestation_of facts nonce.now value.now digest.now)) out.old }
 {
     let key = key.as_array::<32>().ok_or(Refusal::Length)?;
     let nonce = nonce.as_array::<32>().ok_or(Refusal::Length)?;
     let value = value.as_array::<32>().ok_or(Refusal::Length)?;
     let digest = digest.as_array::<32>().ok_or(Refusal::Length)?;
     let out = out.as_mut_array::<160>().ok_or(Refusal::Length)?;
-    let blocks = put_receipt(out, key, f, nonce, value, digest);
+    let attested = Attested {
+        facts,
+        nonce,
+        value,
+        digest,
+    };
+    let blocks = put_receipt(out, key, attested);
     Ok(Hashed { value: (), blocks })
 }

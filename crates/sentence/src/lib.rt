@@ -86,7 +86,7 @@ impl From<Result<Hashed<Accepted>, Refused>> for Said {
                 keeper: value.keeper,
                 log: u64::from(value.log),
                 position: value.position,
-                kind: u64::from(value.kind),
+                kind: u64::from(u8::from(value.kind)),
                 reference: value.reference,
             },
             Err(refused) => Said::Refused {

@@ -9,6 +9,7 @@ use Rattle.std.specs.Prelude.{Ok, Err}
 use Rattle.refusal.specs.Unwritten.{unwritten, counts}
 use Rattle.refusal.specs.Work.{unhashed}
 use Rattle.refusal.specs.declared.Refusal.TheVariants.{Profile, Roster, NoReceipt}
+use Rattle.receipt.proofs.Parsed.{there, missing}
 use Rattle.roster.specs.Profile.{permitted}
 use Rattle.roster.specs.Roster.{size, is_roster}
 use Rattle.roster.proofs.Profiles.{permitted-exactly}
@@ -30,14 +31,17 @@ returns-then-not-is_permitted c =
     let d = judged_exactly (Err (unhashed Profile)) (ap Err c.into.ensures) (no-profile c.args.members c.args.needed c.args.roster.now c.args.pile.now (sym c.is_permitted.ensures ∙ c.if-not-is_permitted.true)) in
     record { answer = d.0; exactly = d.1.0; blocks = d.1.1 }
 
-pub returns-in_default : goal.returns-in_default
-returns-in_default c =
-    let d = judged_exactly (Err (unhashed Roster)) (ap Err c.into-in_default.ensures) (no-roster c.args.members c.args.needed c.args.roster.now c.args.pile.now (sym c.is_permitted.ensures ∙ c.if-not-is_permitted.false) c.in_default.ensures) in
+pub returns-in_err-roster : goal.returns-in_err-roster
+returns-in_err-roster c =
+    let u = missing _ _ Roster c.items.result c.in_err-roster.field-0.0 c.from_residual.result c.items.ensures c.ok_or.ensures.value c.in_err-roster.was c.from_residual.ensures.1 in
+    let d = judged_exactly (Err (unhashed Roster)) u.0 (no-roster c.args.members c.args.needed c.args.roster.now c.args.pile.now (sym c.is_permitted.ensures ∙ c.if-not-is_permitted.false) u.1) in
     record { answer = d.0; exactly = d.1.0; blocks = d.1.1 }
 
-pub returns-in_default-receipts_in : goal.returns-in_default-receipts_in
-returns-in_default-receipts_in c =
-    let d = judged_exactly (Err (unhashed NoReceipt)) (ap Err c.into-in_default-receipts_in.ensures) (not-receipts c.args.members c.args.needed c.args.roster.now c.args.pile.now (sym c.is_permitted.ensures ∙ c.if-not-is_permitted.false) c.in-Some.ensures.0 c.in_default-receipts_in.ensures) in
+pub returns-in_err-receipts : goal.returns-in_err-receipts
+returns-in_err-receipts c =
+    let r = there _ _ Roster c.items.result c.in_ok-roster.roster c.items.ensures c.ok_or.ensures.value c.in_ok-roster.was in
+    let u = missing _ _ NoReceipt c.receipts_in.result c.in_err-receipts.field-0.0 c.from_residual-in_err-receipts.result c.receipts_in.ensures c.ok_or-2.ensures.value c.in_err-receipts.was c.from_residual-in_err-receipts.ensures.1 in
+    let d = judged_exactly (Err (unhashed NoReceipt)) u.0 (not-receipts c.args.members c.args.needed c.args.roster.now c.args.pile.now (sym c.is_permitted.ensures ∙ c.if-not-is_permitted.false) r.0 u.1) in
     record { answer = d.0; exactly = d.1.0; blocks = d.1.1 }
 
 -- a roster of a permitted profile has at most 32 items, and a pile of receipts at most 32 of these
@@ -48,17 +52,22 @@ short : {pile receipts : List ℕ} → (is_certificate pile ≡ true) × (receip
 short {pile = pile} q = let e = ap receipt_count q.1 in let w = (receipts-exactly pile).0 q.0 in omega (arith, w.most)
 
 pub marks_of-marks-requires : goal.marks_of-marks-requires
-marks_of-marks-requires c = (few c.args.members c.args.needed (sym c.is_permitted.ensures ∙ c.if-not-is_permitted.false) (c.in-Some.ensures.0, c.in-Some.ensures.1.0), short (c.in-Some-receipts_in.ensures.0, c.in-Some-receipts_in.ensures.1.0))
+marks_of-marks-requires c =
+    let r = there _ _ Roster c.items.result c.in_ok-roster.roster c.items.ensures c.ok_or.ensures.value c.in_ok-roster.was in
+    let q = there _ _ NoReceipt c.receipts_in.result c.in_ok-receipts.receipts c.receipts_in.ensures c.ok_or-2.ensures.value c.in_ok-receipts.was in
+    (few c.args.members c.args.needed (sym c.is_permitted.ensures ∙ c.if-not-is_permitted.false) (r.0, r.1.0), short (q.0, q.1.0))
 
 pub first_pair-requires : goal.first_pair-requires
-first_pair-requires c = short (c.in-Some-receipts_in.ensures.0, c.in-Some-receipts_in.ensures.1.0)
+first_pair-requires c =
+    let q = there _ _ NoReceipt c.receipts_in.result c.in_ok-receipts.receipts c.receipts_in.ensures c.ok_or-2.ensures.value c.in_ok-receipts.was in
+    short (q.0, q.1.0)
 
 pub returns : goal.returns
 unfolding pile_blocks
 returns c =
-    let r = c.in-Some.ensures in
-    let q = c.in-Some-receipts_in.ensures in
-    let w = by-marks c.args.members c.args.needed (concat c.in-Some.roster.now) (concat c.in-Some-receipts_in.receipts.now) (sym c.is_permitted.ensures ∙ c.if-not-is_permitted.false)
+    let r = there _ _ Roster c.items.result c.in_ok-roster.roster c.items.ensures c.ok_or.ensures.value c.in_ok-roster.was in
+    let q = there _ _ NoReceipt c.receipts_in.result c.in_ok-receipts.receipts c.receipts_in.ensures c.ok_or-2.ensures.value c.in_ok-receipts.was in
+    let w = by-marks c.args.members c.args.needed (concat c.in_ok-roster.roster.now) (concat c.in_ok-receipts.receipts.now) (sym c.is_permitted.ensures ∙ c.if-not-is_permitted.false)
     (ap (is_roster c.args.members) r.1.0 ∙ r.0) (ap is_certificate q.1.0 ∙ q.0) c.marks_of-marks.result.value c.marks_of-marks.ensures.marks in
     let d = judged_exactly (Ok (record { value = c.first_pair.result; blocks = c.marks_of-marks.result.blocks })) refl
     (c.first_pair.ensures ∙ w.0 ∙ ap₂ (contradiction c.args.members c.args.needed) r.1.0 q.1.0, c.marks_of-marks.ensures.blocks ∙ w.1 ∙ ap₂ (contradiction_blocks_of c.args.members c.args.needed) r.1.0 q.1.0) in

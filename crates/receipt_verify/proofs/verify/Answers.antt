@@ -7,7 +7,7 @@ use Rattle.receipt.specs.Attestation.{read_attestation}
 use Rattle.receipt.specs.Possible.{possible}
 use Rattle.receipt.specs.Verdict.{answers, carried, is_tagged}
 use Rattle.receipt.proofs.Cases.{key-length, nonce-length, receipt-length, impossible, wrong-tag, other-question, accepts}
-use Rattle.receipt.proofs.Parsed.{parsed, unparsed}
+use Rattle.receipt.proofs.Parsed.{parsed, unparsed, there, missing}
 use Rattle.receipt.proofs.Verifier.{verdict_exactly}
 use borrow.Author.Tests.{not-true, not-false}
 use Rattle.receipt_verify.proofs.verify.Code.Mir.{function}
@@ -38,21 +38,25 @@ returns-in_err-receipt c =
     let d = verdict_exactly _ (λ i. omega (arith, c.type_inv.receipt i)) u.0 (receipt-length c.args.key.now c.args.receipt.now c.args.nonce.now c.args.q k.1 n.1 u.1) in
     record { answer = d.0; exactly = d.1.0; blocks = d.1.1 }
 
-pub returns-then-not-is_possible : goal.returns-then-not-is_possible
-returns-then-not-is_possible c =
+pub returns-in_err-kind : goal.returns-in_err-kind
+returns-in_err-kind c =
     let k = parsed c.args.key.now 32 Length c.as_array.result c.in_ok-key.key c.as_array.ensures.cases c.ok_or.ensures.value c.in_ok-key.was in
     let n = parsed c.args.nonce.now 32 Length c.as_array-2.result c.in_ok-nonce.nonce c.as_array-2.ensures.cases c.ok_or-2.ensures.value c.in_ok-nonce.was in
     let r = parsed c.args.receipt.now 160 NoReceipt c.as_array-3.result c.in_ok-receipt.receipt c.as_array-3.ensures.cases c.ok_or-3.ensures.value c.in_ok-receipt.was in
-    let p = ap (λ (x : List ℕ). possible (read_attestation x)) (sym r.0) ∙ sym c.is_possible.ensures ∙ c.if-not-is_possible.true in
-    let d = verdict_exactly _ (λ i. omega (arith, c.type_inv.receipt i)) (ap Err c.into.ensures) (impossible c.args.key.now c.args.receipt.now c.args.nonce.now c.args.q k.1 n.1 r.1 p) in
+    let u = missing _ _ NoReceipt c.possible_kind.result c.in_err-kind.field-0.0 c.from_residual-in_err-kind.result c.possible_kind.ensures c.ok_or-4.ensures.value c.in_err-kind.was c.from_residual-in_err-kind.ensures.1 in
+    let p = ap (λ (x : List ℕ). possible (read_attestation x)) (sym r.0) ∙ u.1 in
+    let d = verdict_exactly _ (λ i. omega (arith, c.type_inv.receipt i)) u.0 (impossible c.args.key.now c.args.receipt.now c.args.nonce.now c.args.q k.1 n.1 r.1 p) in
     record { answer = d.0; exactly = d.1.0; blocks = d.1.1 }
+
+pub accepted-requires : goal.accepted-requires
+accepted-requires c = (there _ _ NoReceipt c.possible_kind.result c.in_ok-kind.kind c.possible_kind.ensures c.ok_or-4.ensures.value c.in_ok-kind.was).1
 
 pub returns-then-not-tag : goal.returns-then-not-tag
 returns-then-not-tag c =
     let k = parsed c.args.key.now 32 Length c.as_array.result c.in_ok-key.key c.as_array.ensures.cases c.ok_or.ensures.value c.in_ok-key.was in
     let n = parsed c.args.nonce.now 32 Length c.as_array-2.result c.in_ok-nonce.nonce c.as_array-2.ensures.cases c.ok_or-2.ensures.value c.in_ok-nonce.was in
     let r = parsed c.args.receipt.now 160 NoReceipt c.as_array-3.result c.in_ok-receipt.receipt c.as_array-3.ensures.cases c.ok_or-3.ensures.value c.in_ok-receipt.was in
-    let p = ap (λ (x : List ℕ). possible (read_attestation x)) (sym r.0) ∙ sym c.is_possible.ensures ∙ c.if-not-is_possible.false in
+    let p = ap (λ (x : List ℕ). possible (read_attestation x)) (sym r.0) ∙ (there _ _ NoReceipt c.possible_kind.result c.in_ok-kind.kind c.possible_kind.ensures c.ok_or-4.ensures.value c.in_ok-kind.was).0 in
     let t = ap₂ is_tagged (sym k.0) (sym r.0) ∙ sym c.is_tagged-tag.ensures.0 ∙ not-true _ c.if-not-tag.true in
     let w = wrong-tag c.args.key.now c.args.receipt.now c.args.nonce.now c.args.q k.1 n.1 r.1 p t in
     let d = verdict_exactly (Err (record { why = Tag; blocks = c.is_tagged-tag.result.blocks })) (λ i. omega (arith, c.type_inv.receipt i)) refl (w.0, c.is_tagged-tag.ensures.1 ∙ w.1) in
@@ -63,7 +67,7 @@ returns-then-not-is_answer c =
     let k = parsed c.args.key.now 32 Length c.as_array.result c.in_ok-key.key c.as_array.ensures.cases c.ok_or.ensures.value c.in_ok-key.was in
     let n = parsed c.args.nonce.now 32 Length c.as_array-2.result c.in_ok-nonce.nonce c.as_array-2.ensures.cases c.ok_or-2.ensures.value c.in_ok-nonce.was in
     let r = parsed c.args.receipt.now 160 NoReceipt c.as_array-3.result c.in_ok-receipt.receipt c.as_array-3.ensures.cases c.ok_or-3.ensures.value c.in_ok-receipt.was in
-    let p = ap (λ (x : List ℕ). possible (read_attestation x)) (sym r.0) ∙ sym c.is_possible.ensures ∙ c.if-not-is_possible.false in
+    let p = ap (λ (x : List ℕ). possible (read_attestation x)) (sym r.0) ∙ (there _ _ NoReceipt c.possible_kind.result c.in_ok-kind.kind c.possible_kind.ensures c.ok_or-4.ensures.value c.in_ok-kind.was).0 in
     let t = ap₂ is_tagged (sym k.0) (sym r.0) ∙ sym c.is_tagged-tag.ensures.0 ∙ not-false _ c.if-not-tag.false in
     let a = ap₂ (λ (x y : List ℕ). answers (read_attestation x) c.args.q y) (sym r.0) (sym n.0) ∙ sym c.is_answer.ensures ∙ c.if-not-is_answer.true in
     let w = other-question c.args.key.now c.args.receipt.now c.args.nonce.now c.args.q k.1 n.1 r.1 p t a in
@@ -75,7 +79,7 @@ returns c =
     let k = parsed c.args.key.now 32 Length c.as_array.result c.in_ok-key.key c.as_array.ensures.cases c.ok_or.ensures.value c.in_ok-key.was in
     let n = parsed c.args.nonce.now 32 Length c.as_array-2.result c.in_ok-nonce.nonce c.as_array-2.ensures.cases c.ok_or-2.ensures.value c.in_ok-nonce.was in
     let r = parsed c.args.receipt.now 160 NoReceipt c.as_array-3.result c.in_ok-receipt.receipt c.as_array-3.ensures.cases c.ok_or-3.ensures.value c.in_ok-receipt.was in
-    let p = ap (λ (x : List ℕ). possible (read_attestation x)) (sym r.0) ∙ sym c.is_possible.ensures ∙ c.if-not-is_possible.false in
+    let p = ap (λ (x : List ℕ). possible (read_attestation x)) (sym r.0) ∙ (there _ _ NoReceipt c.possible_kind.result c.in_ok-kind.kind c.possible_kind.ensures c.ok_or-4.ensures.value c.in_ok-kind.was).0 in
     let t = ap₂ is_tagged (sym k.0) (sym r.0) ∙ sym c.is_tagged-tag.ensures.0 ∙ not-false _ c.if-not-tag.false in
     let a = ap₂ (λ (x y : List ℕ). answers (read_attestation x) c.args.q y) (sym r.0) (sym n.0) ∙ sym c.is_answer.ensures ∙ c.if-not-is_answer.false in
     let w = accepts c.args.key.now c.args.receipt.now c.args.nonce.now c.args.q k.1 n.1 r.1 p t a in

@@ -62,5 +62,5 @@ returns c =
     let p2 = parsed c.args.value.now 32 Length c.as_array-3.result c.in_ok-value.value c.as_array-3.ensures.cases c.ok_or-3.ensures.value c.in_ok-value.was in
     let p3 = parsed c.args.digest.now 32 Length c.as_array-4.result c.in_ok-digest.digest c.as_array-4.ensures.cases c.ok_or-4.ensures.value c.in_ok-digest.was in
     let p4 = parsed_mut c.args.out.now 160 Length c.as_mut_array.result c.in_ok-out.out c.as_mut_array.ensures.cases c.ok_or-5.ensures.value c.in_ok-out.was in
-    let d = done-works 6 (receipt_bytes c.args.key.now (attestation_of c.args.f c.args.nonce.now c.args.value.now c.args.digest.now)) c.args.out.now (writes c.args.key.now c.args.nonce.now c.args.value.now c.args.digest.now c.args.out.now p0.1 p1.1 p2.1 p3.1 p4.1) in
-    record { answer = d.0; blocks = c.put_receipt-blocks.ensures.blocks ∙ d.1.0; bytes = c.put_receipt-blocks.ensures.bytes ∙ same_receipt c.args.f p0.0 p1.0 p2.0 p3.0 ∙ d.1.1 }
+    let d = done-works 6 (receipt_bytes c.args.key.now (attestation_of c.args.facts c.args.nonce.now c.args.value.now c.args.digest.now)) c.args.out.now (writes c.args.key.now c.args.nonce.now c.args.value.now c.args.digest.now c.args.out.now p0.1 p1.1 p2.1 p3.1 p4.1) in
+    record { answer = d.0; blocks = c.put_receipt-blocks.ensures.blocks ∙ d.1.0; bytes = c.put_receipt-blocks.ensures.bytes ∙ same_receipt c.args.facts p0.0 p1.0 p2.0 p3.0 ∙ d.1.1 }

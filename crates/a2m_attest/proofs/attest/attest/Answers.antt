@@ -16,12 +16,12 @@ unfolding zeros
 returns-in-None c =
     record {
       blocks = c.put_receipt.ensures.blocks;
-      bytes = attest-none c.args.lent.table.now c.args.f c.args.nonce.now c.key_of-key.result.now _ _ c.put_receipt.new.out c.key_of-key.ensures c.put_receipt.ensures.bytes c.args.shown c.in-None.is refl refl;
+      bytes = attest-none c.args.lent.table.now c.args.facts c.args.nonce.now c.key_of-key.result.now _ _ c.put_receipt.new.out c.key_of-key.ensures c.put_receipt.ensures.bytes c.args.shown c.in-None.is refl refl;
     }
 
 pub returns-in-Some : goal.returns-in-Some
 returns-in-Some c =
     record {
       blocks = c.put_receipt-in-Some.ensures.blocks;
-      bytes = attest-shown c.args.lent.table.now c.args.f c.args.nonce.now c.key_of-key.result.now c.value_at-value.result.now c.digest_at-digest.result.now c.put_receipt-in-Some.new.out c.key_of-key.ensures c.put_receipt-in-Some.ensures.bytes c.args.shown c.in-Some.s c.in-Some.is c.value_at-value.ensures c.digest_at-digest.ensures;
+      bytes = attest-shown c.args.lent.table.now c.args.facts c.args.nonce.now c.key_of-key.result.now c.value_at.result.now c.digest_at.result.now c.put_receipt-in-Some.new.out c.key_of-key.ensures c.put_receipt-in-Some.ensures.bytes c.args.shown c.in-Some.s c.in-Some.is c.value_at.ensures c.digest_at.ensures;
     }
