@@ -1,6 +1,5 @@
 // Where the parts of a table start. The sizes and offsets of `Layout`, for the code.
-ghost use Rattle.std.specs.Prelude.{◌≡◌, ◌+◌, ◌≤◌, length};
-ghost use Rattle.octets.specs.Octets.{splice};
+ghost use Rattle.std.specs.Prelude.{◌≡◌, ◌≤◌};
 ghost use Rattle.layout.specs.Layout.{row_offset, slot_offset, table_size};
 
 use crate::Counts;
@@ -41,14 +40,4 @@ impl Counts {
     {
         HEADER + ROW * self.logs + SLOT * self.slots
     }
-}
-
-// Puts 32 bytes at a place. Copied first: a local overlaps nothing, so that they are put as a few moves.
-pub fn put_array(out: &mut [u8], at: usize, bytes: &[u8; 32])
-    requires { at + 32 ≤ length out.old }
-    ensures put { out.new ≡ splice out.old at bytes.now }
-    ensures array { length bytes.now ≡ 32 }
-{
-    let local = *bytes;
-    octets::put(out, at, &local);
 }

@@ -8,9 +8,9 @@ ghost use Rattle.layout.specs.Tests.{in_range, marked, constants_fit};
 ghost use Rattle.octets.specs.Octets.{splice};
 
 use bigendian::{number_at, put_number};
-use layout::places::{MARK, put_array};
+use layout::places::MARK;
 use layout::{Counts, Free};
-use octets::array_at;
+use octets::{array_at, put_array};
 
 // The number of logs, and that of slots.
 pub fn counts_of(table: &[u8]) -> Counts

@@ -11,9 +11,9 @@ ghost use Rattle.layout.specs.Lent.{Becomes};
 
 use bigendian::{number_at, put_number};
 pub use cells::Cells;
-use layout::places::{SLOT, put_array, slot_offset};
+use layout::places::{SLOT, slot_offset};
 use layout::{Link, Slot, TableMut, TableRef};
-use octets::array_at;
+use octets::{array_at, put_array};
 
 // The owner, next slot and position in a slot's part of a table.
 fn read_link(part: &[u8; SLOT]) -> Link

@@ -11,7 +11,7 @@ ghost use Rattle.receipt.specs.Writer.{name_bytes, fact_bytes, attestation_of, a
 
 use bigendian::put_number;
 use hmac::tag;
-use octets::put;
+use octets::{put, put_array};
 use receipt::{Attested, Facts, Name};
 use refusal::{Hashed, Refusal, Refused, worked_blocks};
 
@@ -35,16 +35,6 @@ fn put_facts(out: &mut [u8; 160], f: Facts)
     put_number::<8>(out, 8, f.keeper);
     put_number::<8>(out, 16, f.position);
     put_number::<8>(out, 24, f.reference);
-}
-
-// Writes 32 bytes at a place. Copied first: a local overlaps nothing, so that they are put as a few moves.
-fn put_array(out: &mut [u8; 160], at: usize, bytes: &[u8; 32])
-    requires { at ≤ 128 }
-    ensures put { out.new ≡ splice out.old at bytes.now }
-    ensures array { length bytes.now ≡ 32 }
-{
-    let local = *bytes;
-    put(out, at, &local);
 }
 
 // Writes bytes 0 to 127.
