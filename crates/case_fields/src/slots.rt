@@ -22,7 +22,8 @@ fn lent<'a>(rt: &impl Print, part: Option<&'a [u8]>) -> io::Result<&'a [u8]> {
     }
 }
 
-// The same, lent for writing: two functions, as std has get and get_mut.
+// The same, lent for writing. Each reader here has such a writer beside it, as std has get and get_mut: no function is generic over
+// & and &mut.
 fn lent_mut<'a>(rt: &impl Print, part: Option<&'a mut [u8]>) -> io::Result<&'a mut [u8]> {
     match part {
         Some(part) => Ok(part),

@@ -33,7 +33,8 @@ impl Free {
     }
 }
 
-// A log's row: low and high position, first and last slot of its chain, and the slots promised to it.
+// A log's row: low and high position, first and last slot of its chain, and the slots promised to it. Slots stand as the table's bytes
+// name them, here and in a link: 0 for none.
 #[derive(Clone, Copy, PartialEq, Eq)]
 pub struct Row {
     pub low: u64,

@@ -7,7 +7,8 @@ ghost use Rattle.line.specs.Command.{word_of, made, command_of};
 use line::{Command, Word};
 use line_fields::{find, numbers};
 
-// The word that begins a line. A match on the texts leaves a goal for each byte at which it can end, more than 40.
+// The word that begins a line. A match on the texts was tried: it leaves a goal for each byte at which it can end, more than 40 in
+// place of seven.
 fn word(w: &[u8]) -> Option<Word>
     ensures { result ≡ word_of w.now }
 {

@@ -7,7 +7,8 @@ ghost use Rattle.line.specs.Answer.{cell_text, line_text};
 
 use line::Cell;
 
-// A cell and its mark, and the place after them.
+// A cell and its mark, and the place after them. Buffer and place are handed on side by side, as everywhere that text is written into a
+// lent buffer: in a struct of the two, each contract would say the same of its two fields.
 fn put_cell(out: &mut [u8], at: usize, cell: Cell, mark: u8) -> usize
     requires { at + length (cell_text cell ++ (mark ∷ [])) ≤ length out.old }
     ensures value { result ≡ at + length (cell_text cell ++ (mark ∷ [])) }

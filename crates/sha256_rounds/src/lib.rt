@@ -52,7 +52,7 @@ fn turn(s: Window, k: u32) -> Window
     Window { v: after, w: next }
 }
 
-// Two turns, the first with the constant at t.
+// Two turns, the first with the constant at t: a step of the unrolled sixteen, whose proof is by pairs.
 fn turns2(s: Window, k: &Constants, t: usize) -> Window
     requires { t + 2 ≤ 64 }
     ensures { result ≡ turns 2 s t }
@@ -60,7 +60,7 @@ fn turns2(s: Window, k: &Constants, t: usize) -> Window
     turn(turn(s, k.at(t)), k.at(t + 1))
 }
 
-// Sixteen turns, unrolled: after them each word of the window stands where it stood, so that nothing is moved.
+// Sixteen turns, unrolled and not in a loop, which took 4% more instructions (docs/PERFORMANCE.md): after them each word of the window stands where it stood, so that nothing is moved.
 fn turns16(s: Window, k: &Constants, t: usize) -> Window
     requires { t + 16 ≤ 64 }
     ensures { result ≡ turns 16 s t }
@@ -95,7 +95,7 @@ fn rounds2(v: [u32; 8], w: &[u32; 16], k: &Constants, t: usize) -> [u32; 8]
     round(round(v, k.at(48 + t), w[t]), k.at(49 + t), w[t + 1])
 }
 
-// The last 16 rounds, unrolled.
+// The last 16 rounds, unrolled as the turns are.
 pub fn rounds16(v: [u32; 8], w: &[u32; 16], k: &Constants) -> [u32; 8]
     ensures { result ≡ last_rounds 16 v w.now 0 }
 {

@@ -14,7 +14,7 @@ use sha256_digest::{digest, digest_from, initial};
 use sha256_rounds::constants::Constants;
 
 // A running digest: the hash value after the whole blocks, the block being filled, the number of bytes absorbed, and the
-// number of blocks compressed.
+// number of blocks compressed. There is no heap: the block is filled as far as the number of bytes says.
 #[derive(Clone, Copy)]
 pub struct Running {
     pub chain: [u32; 8],

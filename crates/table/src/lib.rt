@@ -2,8 +2,9 @@
 // screen reads. No code.
 #![tactic(auto)]
 
-// What the check finds of a whole table: how many slots are free, the last of the free chain (0 if none), and what the logs lack
-// of their reserves, but for the log that is called.
+// What the check finds of a whole table: how many slots are free, the last of the free chain, and what the logs lack of their
+// reserves, but for the log that is called. A last slot stands here and below as the table's bytes name it, with which it is compared:
+// 0 for none.
 #[derive(Clone, Copy, PartialEq, Eq)]
 pub struct Whole {
     pub free: usize,
@@ -11,7 +12,7 @@ pub struct Whole {
     pub others: usize,
 }
 
-// What a walk along a chain finds: how many slots it met, and the last (0 if none).
+// What a walk along a chain finds: how many slots it met, and the last.
 #[derive(Clone, Copy, PartialEq, Eq)]
 pub struct Met {
     pub count: usize,

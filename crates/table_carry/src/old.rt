@@ -19,7 +19,7 @@ const HEADER01: usize = 52;
 
 const ROW01: usize = 20;
 
-// Whether the header has its constants: other fields than the present header's, so it shares no test but the reads with that one's.
+// Whether the header has its constants: another mark than the present one, and zeros where that has the number of free slots.
 fn constants01_fit(old: &[u8]) -> bool
     requires { header_size ≤ length old.now }
     ensures { result ≡ constants_fit01 old.now }

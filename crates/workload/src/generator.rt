@@ -30,7 +30,7 @@ impl Generator {
         self.next() % 64 + 1
     }
 
-    // The next call.
+    // The next call. Its word is drawn as a number of eight, four of which are appends, so the match is on the draw.
     pub fn pick(&mut self) -> Draw
         ensures draw { result ≡ (drawn self.old.state).draw }
         ensures state { self.new.state ≡ (drawn self.old.state).state }
