@@ -100,7 +100,9 @@ fn unless_own(g: usize, log: u64, lack: usize) -> usize
 }
 
 // The chains of all logs of a table, with what they lack of their reserves, and what all but the given log lack. Kept out of the
-// check, so that a turn of `log_walk` has its registers to itself: put there, it would take 26 instructions and not 21.
+// check, so that a turn of `log_walk` has its registers to itself: put there, it would take 26 instructions and not 21. Table and
+// counts stay two here and in `Form`: a struct for any layout would have the layout as a parameter, a field that only names it, and a
+// trait for the places beside `Form`.
 #[inline(never)]
 pub fn held_walk<F: Form>(table: &[u8], counts: Counts, log: u64) -> Option<Holding>
     requires { CountedIn F.places table.now counts.logs counts.slots }
