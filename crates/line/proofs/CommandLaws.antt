@@ -120,19 +120,19 @@ module _ (logs slots keeper : ℕ) (first : List ℕ) where
   abbrev Given : List ℕ → Type 0
   Given rs = (length rs ≡ logs) × (first ≡ padded 16 rs)
 
-  made-given : (w : Word) (ns : List ℕ) → made w (length ns) ns ≡ format → Given (drop 3 ns)
-  made-given word.Format ns h = go (eqb (length ns) (3 + get_or ns 0 0)) refl h
+  made-count : (w : Word) (ns : List ℕ) → made w (length ns) ns ≡ format → Given (drop 3 ns)
+  made-count word.Format ns h = go (eqb (length ns) (3 + get_or ns 0 0)) refl h
     where
       go : (t : Bool) → eqb (length ns) (3 + get_or ns 0 0) ≡ t → cond t (Some (Format (get_or ns 0 0) (get_or ns 1 0) (get_or ns 2 0) (padded 16 (drop 3 ns)))) None ≡ format → Given (drop 3 ns)
       go true e q =
           let z : get_or ns 0 0 ≡ logs = cc in
           (omega (arith, length-drop 3 ns, eqb-true (length ns) (3 + get_or ns 0 0) e), cc)
       go false e q = absurd (not-format false None refl q)
-  made-given word.Append ns h = absurd (not-format (eqb (length ns) 2) (Some (Append (get_or ns 0 0) (get_or ns 1 0))) refl h)
-  made-given word.Advance ns h = absurd (not-format (eqb (length ns) 4) (Some (Advance _ _ _ _)) refl h)
-  made-given word.Truncate ns h = absurd (not-format (eqb (length ns) 2) (Some (Truncate (get_or ns 0 0) (get_or ns 1 0))) refl h)
-  made-given word.Lookup ns h = absurd (not-format (eqb (length ns) 2) (Some (Lookup (get_or ns 0 0) (get_or ns 1 0))) refl h)
-  made-given word.End ns h = absurd (not-format (eqb (length ns) 1) (Some (End (get_or ns 0 0))) refl h)
+  made-count word.Append ns h = absurd (not-format (eqb (length ns) 2) (Some (Append (get_or ns 0 0) (get_or ns 1 0))) refl h)
+  made-count word.Advance ns h = absurd (not-format (eqb (length ns) 4) (Some (Advance _ _ _ _)) refl h)
+  made-count word.Truncate ns h = absurd (not-format (eqb (length ns) 2) (Some (Truncate (get_or ns 0 0) (get_or ns 1 0))) refl h)
+  made-count word.Lookup ns h = absurd (not-format (eqb (length ns) 2) (Some (Lookup (get_or ns 0 0) (get_or ns 1 0))) refl h)
+  made-count word.End ns h = absurd (not-format (eqb (length ns) 1) (Some (End (get_or ns 0 0))) refl h)
 
   fields-given : (fs : List (List ℕ)) → of_fields fs ≡ format → Given (drop 3 (numbers_in fs))
   fields-given [] h = absurd cc
@@ -141,7 +141,7 @@ module _ (logs slots keeper : ℕ) (first : List ℕ) where
       go : (x : Option Word) (o : Option (List ℕ)) → of_numbers x o ≡ format → Given (drop 3 (elim o [ None ↦ [] | Some ns ↦ ns ]))
       go x None q = absurd cc
       go None (Some ns) q = absurd cc
-      go (Some x) (Some ns) q = made-given x ns q
+      go (Some x) (Some ns) q = made-count x ns q
 
   given : (l : List ℕ) → command_of l ≡ format → Given (reserves_of l)
   unfolding command_of reserves_of

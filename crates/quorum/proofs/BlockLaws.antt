@@ -28,20 +28,20 @@ receipt-few roster r = go (possible (read_attestation r) && is_member roster (re
 
 module _ (roster r : List ℕ) (n : ℕ) (e : size roster ≡ n) (k : ℕ) (q : k ≡ (read_attestation r).keeper) where
   -- what the search finds tells whether a member has the keeper number
-  known : is_some (member roster k n) ≡ is_member roster (read_attestation r).keeper
+  is_member_lem : (f : Option ℕ) → member roster k n ≡ f → is_member roster (read_attestation r).keeper ≡ is_some f
   unfolding is_member
-  known = ap₂ (λ (x m : ℕ). is_some (member roster x m)) q (sym e) ∙ is_some-member roster (read_attestation r).keeper (size roster)
+  is_member_lem f h = sym (ap₂ (λ (x m : ℕ). is_some (member roster x m)) q (sym e) ∙ is_some-member roster (read_attestation r).keeper (size roster)) ∙ ap is_some h
 
   -- a stranger's receipt adds none
   pub stranger-blocks : member roster k n ≡ None → 0 ≡ receipt_blocks roster r
   unfolding receipt_blocks
-  stranger-blocks h = simp (sym known ∙ ap is_some h, and-false (possible (read_attestation r)))
+  stranger-blocks h = simp (is_member_lem None h, and-false (possible (read_attestation r)))
 
   -- a member's adds what its verification reports
   pub member-blocks : (key nonce : List ℕ) (i : ℕ) {b : ℕ} → member roster k n ≡ Some i → length key ≡ 32 → length nonce ≡ 32 → length r ≡ 160
       → b ≡ verify_blocks key r nonce → b ≡ receipt_blocks roster r
   unfolding receipt_blocks
-  member-blocks key nonce i h s m l v = v ∙ blocks-by key r nonce s m l ∙ simp (sym known ∙ ap is_some h, and-true (possible (read_attestation r)))
+  member-blocks key nonce i h s m l v = v ∙ blocks-by key r nonce s m l ∙ simp (is_member_lem (Some i) h, and-true (possible (read_attestation r)))
 
 module _ (roster cert : List ℕ) where
   pub blocks_start : 0 ≡ blocks_below roster cert 0
