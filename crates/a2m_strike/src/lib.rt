@@ -29,6 +29,7 @@ fn join(lent: &mut TableMut, last: usize, t: usize)
 // Frees the log's slots below position n. The log's chain joins the free chain whole, its slots become free one by one,
 // each keeping its next, and the free chain is cut behind the last of them. The header's number of free slots
 // counts them, and its last is the last of them. The walk is no iterator: it writes each slot that it has met.
+// Table and view are two for the reason that stands at `a2m_enter: enter`.
 pub fn strike(table: &mut [u8], view: View, n: u64) -> Bounds
     requires opened { Opened table.old view }
     requires le_n { (1 ≤ n) × (n ≤ view.row.high) }

@@ -59,7 +59,8 @@ fn fill_rows(part: &mut [u8], old: &[u8], counts: Counts)
     }
 }
 
-// The table that says what a whole old one says, over the whole buffer. The slots keep their places, so they go over at once.
+// The table that says what a whole old one says, over the whole buffer. The slots keep their places, so they go over at once. That the counts are the
+// old table's is asked here and of its rows alone, so a struct for these two would be longer.
 fn fill(table: &mut [u8], old: &[u8], counts: Counts, free: Met)
     requires counted01 { Counted01 old.now counts.logs counts.slots }
     requires value { whole01 old.now ≡ true }

@@ -96,7 +96,8 @@ fn unless_own(g: usize, log: u64, lack: usize) -> usize
     if g as u64 == log { 0 } else { lack }
 }
 
-// The chains of all logs of a table, with what they lack of their reserves, and what all but the given log lack.
+// The chains of all logs of a table, with what they lack of their reserves, and what all but the given log lack. Table and counts stay two here and
+// in `Form::row_at`: a struct for any layout would have the layout as a parameter, a field that only names it, and a trait for the places beside `Form`.
 pub fn held_walk<F: Form>(table: &[u8], counts: Counts, log: u64) -> Option<Holding>
     requires { CountedIn F.places table.now counts.logs counts.slots }
     ensures { result ≡ held_walk (F.image table.now) log }
