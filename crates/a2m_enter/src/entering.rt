@@ -34,7 +34,7 @@ fn last_after(n: usize, last: usize) -> usize
 
 // The entry goes into the first free slot, that behind the log's last, and the row becomes `after`; one slot less is
 // free. The blocks are those hashed for the digest.
-// Table and view stay two: tried as a struct with the ghost field `Opened`, what is left to show is `Opened` of the new table and the old view, which is untrue.
+// Table and view stay two: tried as a struct with a ghost field, left to show was `Opened` of the new table and the old view, which is untrue.
 pub fn enter(
     table: &mut [u8],
     view: View,
