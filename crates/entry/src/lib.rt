@@ -21,7 +21,8 @@ fn feed(state: &mut Running, part: &[u8])
 // The digest of an entry. Document 01: "The running digest is fed position, value and previous digest in turn." The state is lent three
 // times; the contract speaks of a number and arrays alone, so no caller's proof is a walk. The parts have 32 bytes by their type: the
 // compiler knows their lengths, and what each feeding copies comes down to a few moves. The blocks are those that `finish` reports: of
-// 72 bytes they are 2.
+// 72 bytes they are 2. Kept out of append and advance: put there, a refused call would make room for the state too.
+#[inline(never)]
 pub fn entry_digest(position: u64, value: &[u8; 32], previous: &[u8; 32]) -> Hashed<[u8; 32]>
     ensures { (result.value ≡ entry_digest position value.now previous.now) × (result.blocks ≡ 2) }
 {

@@ -48,15 +48,16 @@ fn compress(h: [u32; 8], block: &[u8; 64], k: &Constants) -> [u32; 8]
 }
 
 // The hash value after the whole blocks of s, each counted as it is compressed.
-pub fn compress_blocks(before: Hashed<[u32; 8]>, s: &[u8], k: &Constants) -> Hashed<[u32; 8]>
+pub fn compress_blocks(before: Hashed<[u32; 8]>, s: &[u8]) -> Hashed<[u32; 8]>
     requires { before.blocks + length s.now / 64 < 2 ^ 64 }
     ensures { (result.value ≡ blocks_after (length s.now / 64) before.value s.now) × (result.blocks ≡ before.blocks + length s.now / 64) }
 {
+    let k = Constants::new();
     let mut h = before.value;
     let mut blocks = before.blocks;
     let (whole, _) = s.as_chunks::<64>();
     for block in whole {
-        let next = compress(h, block, k);
+        let next = compress(h, block, &k);
         h = next;
         blocks += 1;
     }

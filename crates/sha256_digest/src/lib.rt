@@ -12,7 +12,6 @@ use bigendian::put_number;
 use octets::put;
 use refusal::{Hashed, Refusal, Refused};
 use sha256_blocks::compress_blocks;
-use sha256_rounds::constants::Constants;
 
 // The initial hash value, no block compressed.
 pub fn initial() -> Hashed<[u32; 8]>
@@ -35,11 +34,11 @@ pub fn initial() -> Hashed<[u32; 8]>
 
 // The digest of a message of which whole blocks, before bytes of them, made the hash value h, and part is the rest. Its last
 // bytes and the padding make one block more, or two.
-pub fn digest_from(h: Hashed<[u32; 8]>, before: u64, part: &[u8], k: &Constants) -> Hashed<[u8; 32]>
+pub fn digest_from(h: Hashed<[u32; 8]>, before: u64, part: &[u8]) -> Hashed<[u8; 32]>
     requires { (before % 64 ≡ 0) × ((before + length part.now < 2 ^ 61) × (h.blocks < 2 ^ 61)) }
     ensures { (result.value ≡ finished (absorbed (after h before) part.now)) × (result.blocks ≡ finished_blocks (absorbed (after h before) part.now)) }
 {
-    let value = compress_blocks(h, part, k);
+    let value = compress_blocks(h, part);
     let (_, rest) = part.as_chunks::<64>();
     let fill = rest.len();
     let mut tail = [0u8; 128];
@@ -47,7 +46,7 @@ pub fn digest_from(h: Hashed<[u32; 8]>, before: u64, part: &[u8], k: &Constants)
     tail[fill] = 128;
     let end = (fill + 72) / 64 * 64;
     put_number::<8>(&mut tail, end - 8, (before + part.len() as u64) * 8);
-    let last = compress_blocks(value, &tail[..end], k);
+    let last = compress_blocks(value, &tail[..end]);
     Hashed {
         value: digest(last.value),
         blocks: last.blocks,
@@ -70,7 +69,7 @@ pub fn digest_of(message: &[u8]) -> Hashed<[u8; 32]>
     requires { length message.now < 2 ^ 61 }
     ensures { (result.value ≡ sha256 message.now) × (result.blocks ≡ block_count message.now) }
 {
-    digest_from(initial(), 0, message, &Constants::new())
+    digest_from(initial(), 0, message)
 }
 
 // The digest of a block and a text after it, of which nothing is copied but the last bytes.
@@ -78,8 +77,7 @@ pub fn prefixed_digest(block: &[u8; 64], text: &[u8]) -> Hashed<[u8; 32]>
     requires { 64 + length text.now < 2 ^ 61 }
     ensures { (result.value ≡ sha256 (block.now ++ text.now)) × (result.blocks ≡ block_count (block.now ++ text.now)) }
 {
-    let k = Constants::new();
-    digest_from(compress_blocks(initial(), block, &k), 64, text, &k)
+    digest_from(compress_blocks(initial(), block), 64, text)
 }
 
 // A message of so many bytes has 2^64 bits, more than FIPS 180-4 allows.

@@ -2,8 +2,8 @@
 ghost use Rattle.std.specs.Prelude.{◌≡◌, ◌<◌, slice_index};
 ghost use Rattle.sha256.specs.Sha256.{K as Ks};
 
-// They are lent from an array of the caller's. A const that is indexed is stored anew at each use; of a static table the compiler loads the
-// address anew for a round's constant, 3 % of the instructions of 64 KB.
+// They are made where blocks are compressed, and every round there names its own: so the compiler writes each into the sum that takes it,
+// and stores none of them.
 #[derive(Drop)]
 pub struct Constants {
     words: [u32; 64],
@@ -21,14 +21,6 @@ impl Constants {
         ensures { result ≡ slice_index Ks t }
     {
         self.words[t]
-    }
-
-    // 16, read off the 48th constant, 0x106a_a070, so that the compiler does not know it: the place of the constants then takes one
-    // register in the loop over the rounds. Were it known, the compiler would take two, an address and a count.
-    pub fn sixteen(&self) -> usize
-        ensures { result ≡ 16 }
-    {
-        (self.words[47] / 16777216) as usize
     }
 }
 

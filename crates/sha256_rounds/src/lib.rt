@@ -60,31 +60,30 @@ fn turns2(s: Window, k: &Constants, t: usize) -> Window
     turn(turn(s, k.at(t)), k.at(t + 1))
 }
 
-// Sixteen turns, unrolled and not in a loop, which took 4% more instructions (docs/PERFORMANCE.md): after them each word of the window stands where it stood, so that nothing is moved.
-fn turns16(s: Window, k: &Constants, t: usize) -> Window
-    requires { t + 16 ≤ 64 }
-    ensures { result ≡ turns 16 s t }
+// Sixteen turns, the first with the constant at T, unrolled: after them each word of the window stands where it stood, so that nothing
+// is moved. T is a const parameter, so that each sixteen are a function of their own with one caller, which the compiler puts there.
+fn turns16<const T: usize>(s: Window, k: &Constants) -> Window
+    requires { T + 16 ≤ 64 }
+    ensures { result ≡ turns 16 s T }
 {
-    let s = turns2(s, k, t);
-    let s = turns2(s, k, t + 2);
-    let s = turns2(s, k, t + 4);
-    let s = turns2(s, k, t + 6);
-    let s = turns2(s, k, t + 8);
-    let s = turns2(s, k, t + 10);
-    let s = turns2(s, k, t + 12);
-    turns2(s, k, t + 14)
+    let s = turns2(s, k, T);
+    let s = turns2(s, k, T + 2);
+    let s = turns2(s, k, T + 4);
+    let s = turns2(s, k, T + 6);
+    let s = turns2(s, k, T + 8);
+    let s = turns2(s, k, T + 10);
+    let s = turns2(s, k, T + 12);
+    turns2(s, k, T + 14)
 }
 
-// The first 48 rounds.
+// The first 48 rounds, with no loop: at the end of one, the compiler moves words and working variables back to where they stood at its
+// start.
 pub fn turns48(s0: Window, k: &Constants) -> Window
     ensures { result ≡ turns 48 s0 0 }
 {
-    let mut s = s0;
-    let step = k.sixteen();
-    for i in 0..3 {
-        s = turns16(s, k, i * step);
-    }
-    s
+    let s = turns16::<0>(s0, k);
+    let s = turns16::<16>(s, k);
+    turns16::<32>(s, k)
 }
 
 // Two of the last rounds, which take the words that are left, the first with the word at t.

@@ -11,7 +11,6 @@ use octets::put;
 use refusal::Hashed;
 use sha256_blocks::compress_blocks;
 use sha256_digest::{digest, digest_from, initial};
-use sha256_rounds::constants::Constants;
 
 // A running digest: the hash value after the whole blocks, the block being filled, the number of bytes absorbed, and the
 // number of blocks compressed. There is no heap: the block is filled as far as the number of bytes says.
@@ -98,8 +97,7 @@ impl Running {
                 blocks: last.blocks,
             };
         }
-        let k = Constants::new();
-        digest_from(before, self.count - fill as u64, &block[..fill], &k)
+        digest_from(before, self.count - fill as u64, &block[..fill])
     }
 }
 
@@ -108,10 +106,9 @@ fn pressed(before: Hashed<[u32; 8]>, block: &[u8; 64], rest: &[u8]) -> Hashed<[u
     requires { before.blocks + length rest.now + 1 < 2 ^ 64 }
     ensures { (result.value ≡ blocks_after (length rest.now / 64) (blocks_after 1 before.value block.now) rest.now) × (result.blocks ≡ before.blocks + 1 + length rest.now / 64) }
 {
-    let k = Constants::new();
-    let first = compress_blocks(before, block, &k);
+    let first = compress_blocks(before, block);
     if rest.len() < 64 {
         return first;
     }
-    compress_blocks(first, rest, &k)
+    compress_blocks(first, rest)
 }
