@@ -60,8 +60,8 @@ pub fn marks_of(roster: &[[u8; 40]], receipts: &[[u8; 160]]) -> Hashed<[bool; 32
 {
     let mut marks = [false; 32];
     let mut blocks = 0;
-    for p in 0..receipts.len() {
-        let one = check(roster, &receipts[p]);
+    for (p, r) in receipts.iter().enumerate() {
+        let one = check(roster, r);
         marks[p] = one.value;
         blocks += one.blocks;
     }
