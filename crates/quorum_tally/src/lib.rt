@@ -12,7 +12,8 @@ use receipt_verify::verify;
 use refusal::Hashed;
 use roster::find;
 
-// Roster, nonce, log and position stay apart: in a struct the proof would not know of the arrays' lengths, which the types of parameters say.
+// Roster, nonce, log and position stay apart. A struct of them was tried: both clauses of `member_of` were stuck at the lengths of the items and
+// of the nonce, which the proof knows of parameters alone.
 
 // The member by which a receipt is good. A member's receipt is verified, and the blocks hashed for that are counted whatever the
 // answer; a stranger's is not verified.

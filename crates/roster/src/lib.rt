@@ -52,7 +52,8 @@ pub fn items(members: u64, roster: &[u8]) -> Option<&[[u8; 40]]>
     }
 }
 
-// Whether a station of so many members may ask for the agreement of so many. What is needed is compared with the members first, so that its
+// Whether a station of so many members may ask for the agreement of so many. Two numbers and no struct: a call tests them together once, here,
+// and then wants `members` for the roster alone and `needed` for the search alone. What is needed is compared with the members first, so that its
 // double does not wrap.
 #[tactic(auto, unfolding(crate::specs::Profile::permitted))]
 pub fn is_permitted(members: u64, needed: u64) -> bool
