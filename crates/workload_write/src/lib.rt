@@ -97,7 +97,8 @@ pub fn fill(out: &mut [u8], script: &mut Script) -> usize
     to
 }
 
-// What is written first for an input, the format line or a refusal: the script that follows it, and where it ends.
+// What is written first for an input, the format line or a refusal: the script that follows it, and where it ends. After a refusal the
+// script is an empty one, so that the caller's one loop serves both.
 pub fn begin(text: &[u8], out: &mut [u8]) -> (Script, usize)
     requires { 22 ≤ length out.old }
     ensures value { course result.0 result.1 ≡ course_of (asked_of text.now) }
