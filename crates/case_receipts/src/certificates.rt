@@ -7,68 +7,77 @@ use quorum_certify::certify;
 use std::io;
 
 pub fn certificate_line(rt: &impl Print, line: &Line, pile: &[[u8; SLOT]]) -> io::Result<bool> {
-    match (line.word, line.fields()) {
-        (
-            b"certify",
-            [
-                Number(members),
-                Number(needed),
-                Number(i),
-                Number(n),
-                Bytes(nonce),
-                Number(log),
-                Number(position),
-                Bytes(places),
-                Number(size),
+    Ok(certify_line(rt, line, pile)? || contradict_line(rt, line, pile)?)
+}
+
+fn certify_line(rt: &impl Print, line: &Line, pile: &[[u8; SLOT]]) -> io::Result<bool> {
+    let (
+        b"certify",
+        [
+            Number(members),
+            Number(needed),
+            Number(i),
+            Number(n),
+            Bytes(nonce),
+            Number(log),
+            Number(position),
+            Bytes(places),
+            Number(size),
+        ],
+    ) = (line.word, line.fields())
+    else {
+        return Ok(false);
+    };
+    let certificate = gather(rt, pile, places.as_slice())?;
+    let answer = certify(
+        *members,
+        *needed,
+        slot(rt, pile, *i, *n)?,
+        nonce.as_slice(),
+        *log,
+        *position,
+        slot(rt, &certificate, 0, *size)?,
+    );
+    match answer {
+        Ok(done) => show(
+            rt,
+            b"certified: place %d, members %4, %d blocks\n",
+            &[
+                done.value.place as u64,
+                u64::from(done.value.mask),
+                done.blocks,
             ],
-        ) => {
-            let certificate = gather(rt, pile, places.as_slice())?;
-            let answer = certify(
-                *members,
-                *needed,
-                slot(rt, pile, *i, *n)?,
-                nonce.as_slice(),
-                *log,
-                *position,
-                slot(rt, &certificate, 0, *size)?,
-            );
-            match answer {
-                Ok(done) => show(
-                    rt,
-                    b"certified: place %d, members %4, %d blocks\n",
-                    &[
-                        done.value.place as u64,
-                        u64::from(done.value.mask),
-                        done.blocks,
-                    ],
-                )?,
-                Err(why) => refused(rt, b"refused: %d, %d blocks\n", why)?,
-            }
-        }
-        (
-            b"contradict",
-            [
-                Number(members),
-                Number(needed),
-                Number(i),
-                Number(n),
-                Bytes(places),
-                Number(size),
-            ],
-        ) => {
-            let receipts = gather(rt, pile, places.as_slice())?;
-            let answer = find(
-                *members,
-                *needed,
-                slot(rt, pile, *i, *n)?,
-                slot(rt, &receipts, 0, *size)?,
-            );
-            match answer {
-                Ok(done) => pair_said(rt, done.value, done.blocks)?,
-                Err(why) => refused(rt, b"refused: %d, %d blocks\n", why)?,
-            }
-        }
-        _ => return Ok(false),
+        )?,
+        Err(why) => refused(rt, b"refused: %d, %d blocks\n", why)?,
+    }
+    Ok(true)
+}
+
+fn contradict_line(rt: &impl Print, line: &Line, pile: &[[u8; SLOT]]) -> io::Result<bool> {
+    let (
+        b"contradict",
+        [
+            Number(members),
+            Number(needed),
+            Number(i),
+            Number(n),
+            Bytes(places),
+            Number(size),
+        ],
+    ) = (line.word, line.fields())
+    else {
+        return Ok(false);
+    };
+    let receipts = gather(rt, pile, places.as_slice())?;
+    let answer = find(
+        *members,
+        *needed,
+        slot(rt, pile, *i, *n)?,
+        slot(rt, &receipts, 0, *size)?,
+    );
+    match answer {
+        Ok(done) => pair_said(rt, done.value, done.blocks)?,
+        Err(why) => refused(rt, b"refused: %d, %d blocks\n", why)?,
     }
     Ok(true)
 }

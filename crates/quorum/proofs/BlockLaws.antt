@@ -15,7 +15,7 @@ use Rattle.quorum.specs.Bits.{sum_below}
 use Rattle.roster.specs.Roster.{size, is_member, member}
 use Rattle.quorum.specs.Certificate.{receipt_at, receipt_blocks}
 use Rattle.quorum.specs.Tally.{blocks_below}
-use Rattle.std.specs.Prelude.{Some, None, is_some}
+use Rattle.std.specs.Prelude.{Option, Some, None, is_some}
 use Rattle.roster.proofs.RosterLaws.{is_some-member}
 
 pub receipt-few : (roster r : List ℕ) → receipt_blocks roster r ≤ 6

@@ -3,9 +3,10 @@
 
 mod ending;
 
-ghost use Rattle.std.specs.Prelude.{◌≡◌, [], ◌+◌, ◌≤◌, ◌<◌, ◌^◌, length};
-ghost use Rattle.script.specs.Stream.{newlines, After};
-ghost use Rattle.script_run.specs.Steps.{Ready, Answers, Steps, Ended, AfterSome};
+ghost use Rattle.std.specs.Prelude.{◌≡◌, ℕ, [], ◌+◌, ◌≤◌, ◌<◌, ◌^◌, length, take};
+ghost use Rattle.std.specs.Io.KnownBytes.{Appends};
+ghost use Rattle.script.specs.Stream.{newlines, answered, last_answer, After};
+ghost use Rattle.script_run.specs.Steps.{Ready, Answers, Writes, Steps, Ended, AfterSome, Ran};
 
 use crate::ending::Ending;
 use program::{Cut, buffer, fail, write_out};
@@ -45,7 +46,8 @@ fn answer<W: Write>(
     out: &mut [u8],
 ) -> Result<(), Ending>
     requires { Ready script.old out.old × (length piece.now ≤ 8192) }
-    ensures { Answers result piece.now script.old out.old script.new out.new }
+    ensures answers { Answers result piece.now script.old out.old script.new out.new }
+    ensures written { Writes result (answered script.old.table script.old.held script.old.number piece.now) (W.contents output.old) (W.contents output.new) }
 {
     let first = script.number;
     let to = script.feed(piece, out);
@@ -63,7 +65,7 @@ fn turn<R: Read, W: Write>(
     out: &mut [u8],
 ) -> Result<bool, Ending>
     requires { Ready script.old out.old }
-    ensures { Steps result script.old script.new out.new }
+    ensures { Steps result script.old script.new out.new (R.remaining input.old) (R.remaining input.new) (W.contents output.old) (W.contents output.new) }
 {
     let mut piece = [0; PIECE];
     let n = input.read(&mut piece)?;
@@ -82,7 +84,7 @@ fn read_all<R: Read, W: Write>(
     out: &mut [u8],
 ) -> Result<(), Ending>
     requires { After [] script.old.table script.old.held script.old.number × (length out.old ≡ 1376256) }
-    ensures { Ended result script.new }
+    ensures { Ended result script.new (R.remaining input.old) (R.remaining input.new) (W.contents output.old) (W.contents output.new) }
 {
     for _ in 0..READS {
         if !turn(input, output, script, out)? {
@@ -109,6 +111,7 @@ fn answer_last<W: Write, E: Write>(
     out: &mut [u8],
 )
     requires { AfterSome script.old × (168 ≤ length out.old) }
+    ensures { (k : ℕ) × Appends (W.contents output.old) (W.contents output.new) (take k (last_answer script.old.table script.old.held script.old.number)) }
 {
     let to = script.finish(out);
     if let Err(cut) = write_out(output, &out[..to]) {
@@ -116,8 +119,10 @@ fn answer_last<W: Write, E: Write>(
     }
 }
 
-// Answers the script on standard input. Nothing is left of it that is neither answered nor said to be missing.
-pub fn run<R: Read, W: Write, E: Write>(input: &mut R, output: &mut W, errors: &mut E) {
+// Answers the script on standard input: what is written is the heading and the answers to the lines read, or a front of them. Nothing is left of it that is neither answered nor said to be missing.
+pub fn run<R: Read, W: Write, E: Write>(input: &mut R, output: &mut W, errors: &mut E)
+    ensures { Ran (R.remaining input.old) (R.remaining input.new) (W.contents output.old) (W.contents output.new) }
+{
     let heading = b"line,answer,kind,position,reference,value,low,high\n";
     if let Err(cut) = write_out(output, heading) {
         gap(errors, 1, cut.why);
