@@ -9,6 +9,7 @@ ghost use Rattle.capi_results.specs.Results.{reply_number, low_after, high_after
 use capi_results::{KeeperResult, changed, looked_up};
 use survey::{Packed, Reading, Survey};
 
+// The match is that of `keeper_free`, over another type: a function for both would need a contract as long as either.
 #[unsafe(no_mangle)]
 pub extern "C" fn keeper_pack(survey: u64, reading: u64, position: &mut u64) -> u8
     ensures answer { result ≡ (packing survey reading).number }

@@ -1,5 +1,5 @@
 // The five calls on a table, and those of them that go by survey and reading.
-use crate::report::{changed, ended, found, table_after};
+use crate::report::{answered, table_after};
 use a2m_put::advance::advance;
 use a2m_put::append::append;
 use a2m_read::end::end;
@@ -7,6 +7,7 @@ use a2m_read::lookup::lookup;
 use a2m_truncate::truncate;
 use case_fields::Field::{Bytes, Number};
 use case_fields::{Line, SLOT, slot, slot_mut};
+use case_report::show;
 use printing::text;
 use std::io;
 use survey::{Reading, Survey};
@@ -42,7 +43,14 @@ pub fn change_line(rt: &impl Print, line: &Line, table: &mut [u8]) -> io::Result
         }
         _ => return Ok(false),
     };
-    changed(rt, line.word, answer, table)?;
+    answered(
+        rt,
+        line.word,
+        answer,
+        |bounds| show(rt, b" %8 %8", &[bounds.low, bounds.high]),
+        None,
+    )?;
+    table_after(rt, table)?;
     Ok(true)
 }
 
@@ -66,7 +74,15 @@ pub fn receipt_line(
         ) => {
             let receipt = slot_mut(rt, pile, *i, *n)?;
             let answer = lookup(table, *log, *position, nonce.as_slice(), receipt);
-            found(rt, answer, slot(rt, pile, *i, *n)?, table)?;
+            let receipt = slot(rt, pile, *i, *n)?;
+            answered(
+                rt,
+                b"lookup",
+                answer,
+                |n| show(rt, b" %8", &[n]),
+                Some(receipt),
+            )?;
+            table_after(rt, table)?;
         }
         (
             b"lookup",
@@ -88,18 +104,26 @@ pub fn receipt_line(
                 nonce.as_slice(),
                 receipt,
             );
-            found(rt, answer, slot(rt, pile, *i, *n)?, table)?;
+            let receipt = slot(rt, pile, *i, *n)?;
+            answered(
+                rt,
+                b"lookup",
+                answer,
+                |n| show(rt, b" %8", &[n]),
+                Some(receipt),
+            )?;
+            table_after(rt, table)?;
         }
         (b"answer", [Number(log), Bytes(nonce), Number(i), Number(n)]) => {
             let receipt = slot_mut(rt, pile, *i, *n)?;
             let answer = end(table, *log, nonce.as_slice(), receipt);
-            ended(rt, answer, receipt)?;
+            answered(rt, b"", answer, |()| Ok(()), Some(receipt))?;
         }
         (b"end", [Number(log), Bytes(nonce), Number(i), Number(n)]) => {
             text(rt, b"end")?;
             let receipt = slot_mut(rt, pile, *i, *n)?;
             let answer = end(table, *log, nonce.as_slice(), receipt);
-            ended(rt, answer, receipt)?;
+            answered(rt, b"", answer, |()| Ok(()), Some(receipt))?;
             table_after(rt, table)?;
         }
         _ => return Ok(false),

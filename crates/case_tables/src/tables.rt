@@ -1,5 +1,5 @@
 // The check, format, the carry, and the status screen.
-use crate::report::{table_after, worked};
+use crate::report::{answered, table_after};
 use case_fields::Field::{Bytes, Number};
 use case_fields::{Line, SLOT, first, slot, write};
 use case_report::show;
@@ -28,7 +28,8 @@ pub fn table_line(
         // An old table, of document 01's layout, into the table.
         (b"carry", [Number(i), Number(n)]) => {
             let answer = carry(slot(rt, pile, *i, *n)?, table);
-            worked(rt, b"carry", answer, table)?;
+            answered(rt, b"carry", answer, |()| Ok(()), None)?;
+            table_after(rt, table)?;
         }
         // `formatted` prints nothing.
         (
@@ -50,7 +51,8 @@ pub fn table_line(
                 reserves.as_slice(),
             );
             if let b"format" = line.word {
-                worked(rt, b"format", answer, table)?;
+                answered(rt, b"format", answer, |()| Ok(()), None)?;
+                table_after(rt, table)?;
             }
         }
         _ => return Ok(false),

@@ -1,4 +1,5 @@
 // A script read from standard input and answered on standard output: the loop of reads and writes.
+// Input, output, script and buffer are given one by one, not as a struct: the contracts speak of the script and the buffer alone.
 #![tactic(auto)]
 
 mod ending;
