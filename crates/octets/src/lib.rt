@@ -37,6 +37,16 @@ pub fn put(out: &mut [u8], at: usize, part: &[u8])
     }
 }
 
+// Puts an array at a place. Copied first: a local overlaps nothing, so that it is put as a few moves.
+pub fn put_array<const N: usize>(out: &mut [u8], at: usize, bytes: &[u8; N])
+    requires { at + N ≤ length out.old }
+    ensures put { out.new ≡ splice out.old at bytes.now }
+    ensures array { length bytes.now ≡ N }
+{
+    let local = *bytes;
+    put(out, at, &local);
+}
+
 // Whether every byte is zero. All bytes are joined, with no branch in the loop.
 pub fn is_zero(s: &[u8]) -> bool
     ensures { result ≡ same s.now (zeros (length s.now)) }

@@ -1,7 +1,7 @@
 // The writer of receipts: each part into its place, the tag last.
 #![tactic(auto)]
 
-ghost use Rattle.std.specs.Prelude.{◌≡◌, ◌≤◌, length};
+ghost use Rattle.std.specs.Prelude.{◌≡◌, length};
 ghost use Rattle.refusal.specs.Order.{answer_of, afterwards};
 ghost use Rattle.refusal.specs.Work.{worked_number, worked_blocks};
 ghost use Rattle.hmac.specs.Hmac.{hmac};
@@ -11,7 +11,7 @@ ghost use Rattle.receipt.specs.Writer.{name_bytes, fact_bytes, attestation_of, a
 
 use bigendian::put_number;
 use hmac::tag;
-use octets::put;
+use octets::{put, put_array};
 use receipt::{Attested, Facts, Name};
 use refusal::{Hashed, Refusal, Refused, worked_blocks};
 
@@ -37,25 +37,15 @@ fn put_facts(out: &mut [u8; 160], f: Facts)
     put_number::<8>(out, 24, f.reference);
 }
 
-// Writes 32 bytes at a place. Copied first: a local overlaps nothing, so that they are put as a few moves.
-fn put_array(out: &mut [u8; 160], at: usize, bytes: &[u8; 32])
-    requires { at ≤ 128 }
-    ensures put { out.new ≡ splice out.old at bytes.now }
-    ensures array { length bytes.now ≡ 32 }
-{
-    let local = *bytes;
-    put(out, at, &local);
-}
-
 // Writes bytes 0 to 127.
 fn put_attested(out: &mut [u8; 160], a: Attested)
     ensures bytes { out.new ≡ splice out.old 0 (attested_bytes (attested_said a.entry)) }
     ensures size { length (attested_bytes (attested_said a.entry)) ≡ 128 }
 {
     put_facts(out, a.facts);
-    put_array(out, 32, a.nonce);
-    put_array(out, 64, a.value);
-    put_array(out, 96, a.digest);
+    put_array::<32>(out, 32, a.nonce);
+    put_array::<32>(out, 64, a.value);
+    put_array::<32>(out, 96, a.digest);
 }
 
 // Writes the tag of bytes 0 to 127, the tag writer being lent bytes 128 to 159, and hands on the blocks that it hashed.
