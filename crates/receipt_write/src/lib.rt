@@ -1,7 +1,7 @@
 // The writer of receipts: each part into its place, the tag last.
 #![tactic(auto)]
 
-ghost use Rattle.std.specs.Prelude.{◌≡◌, ◌≤◌, length};
+ghost use Rattle.std.specs.Prelude.{◌≡◌, length};
 ghost use Rattle.refusal.specs.Order.{answer_of, afterwards};
 ghost use Rattle.refusal.specs.Work.{worked_number, worked_blocks};
 ghost use Rattle.hmac.specs.Hmac.{hmac};
@@ -43,9 +43,9 @@ fn put_attested(out: &mut [u8; 160], a: Attested)
     ensures size { length (attested_bytes (attested_said a.entry)) ≡ 128 }
 {
     put_facts(out, a.facts);
-    put_array(out, 32, a.nonce);
-    put_array(out, 64, a.value);
-    put_array(out, 96, a.digest);
+    put_array::<32>(out, 32, a.nonce);
+    put_array::<32>(out, 64, a.value);
+    put_array::<32>(out, 96, a.digest);
 }
 
 // Writes the tag of bytes 0 to 127, the tag writer being lent bytes 128 to 159, and hands on the blocks that it hashed.
