@@ -1,7 +1,6 @@
 // Tables of document 01's layout, read: the header's tests, a row, and the logs' chains. Their counts, first free slot, keeper
 // number and key stand where the present header has them.
-ghost use Rattle.std.specs.Prelude.{◌≡◌, ◌≤◌, length};
-ghost use Rattle.layout.specs.Layout.{plan01, header_size};
+ghost use Rattle.layout.specs.Layout.{plan01};
 ghost use Rattle.layout.specs.Strict.{strict01};
 ghost use Rattle.table.specs.Whole01.{constants_fit01};
 ghost use Rattle.table.proofs.ModestLaws.{old-laws};
@@ -19,17 +18,6 @@ const HEADER01: usize = 52;
 
 const ROW01: usize = 20;
 
-// Whether the header has its constants: another mark than the present one, and zeros where that has the number of free slots.
-fn constants01_fit(old: &[u8]) -> bool
-    requires { header_size ≤ length old.now }
-    ensures { result ≡ constants_fit01 old.now }
-{
-    if number_at::<4>(old, 0) != MARK01 || number_at::<1>(old, 5) != 0 {
-        return false;
-    }
-    number_at::<2>(old, 18) == 0
-}
-
 // Document 01's layout.
 pub struct Old;
 
@@ -40,8 +28,12 @@ impl Form for Old {
 
     ghost constants = { constants_fit01 };
 
+    // Another mark than the present one, and zeros where that layout has the number of free slots.
     fn constants_fit(table: &[u8]) -> bool {
-        constants01_fit(table)
+        if number_at::<4>(table, 0) != MARK01 || number_at::<1>(table, 5) != 0 {
+            return false;
+        }
+        number_at::<2>(table, 18) == 0
     }
 
     ghost laws = { old-laws };
