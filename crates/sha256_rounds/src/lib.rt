@@ -12,7 +12,7 @@ use sha256_words::{big0, big1, choice, majority, small0, small1};
 
 pub mod constants;
 
-// One round. Ch is computed before Σ1: so the compiler moves less.
+// One round. Ch is computed before Σ1, and T2's terms are added to T1 one by one, Maj first: so the compiler moves less.
 fn round(v: [u32; 8], k: u32, w: u32) -> [u32; 8]
     ensures { result ≡ round_of v k w }
 {
@@ -23,8 +23,8 @@ fn round(v: [u32; 8], k: u32, w: u32) -> [u32; 8]
         .wrapping_add(ch)
         .wrapping_add(k)
         .wrapping_add(w);
-    let t2 = big0(a).wrapping_add(majority(a, b, c));
-    [t1.wrapping_add(t2), a, b, c, d.wrapping_add(t1), e, f, g]
+    let first = t1.wrapping_add(majority(a, b, c)).wrapping_add(big0(a));
+    [first, a, b, c, d.wrapping_add(t1), e, f, g]
 }
 
 // The working variables and the next 16 words of the schedule.
@@ -34,16 +34,17 @@ pub struct Window {
     pub v: [u32; 8],
 }
 
-// One round with the window's first word; the window moves on by one word.
+// One round with the window's first word; the window moves on by one word. The new word's terms are added in another order than the
+// standard's: so the compiler moves less.
 fn turn(s: Window, k: u32) -> Window
     ensures { result ≡ turned s k }
 {
     let v = s.v;
     let w = s.w;
-    let x = small1(w[14])
-        .wrapping_add(w[9])
+    let x = w[0]
         .wrapping_add(small0(w[1]))
-        .wrapping_add(w[0]);
+        .wrapping_add(w[9])
+        .wrapping_add(small1(w[14]));
     let next = [
         w[1], w[2], w[3], w[4], w[5], w[6], w[7], w[8], w[9], w[10], w[11], w[12], w[13], w[14],
         w[15], x,
