@@ -5,8 +5,8 @@ use mathlib.Core.Logic.{◌≢◌, ◌⊎◌, inl, inr, ◌↔◌}
 use mathlib.Core.List.{List, [], ◌∷◌}
 use mathlib.Core.Bool.{Bool, true, false, not}
 use mathlib.Core.Option.{Option, none, some}
-use native.Mathlib.Omega.{arith}
-use borrow.Author.Tests.{eq-eqb, ne_eqb, lt-leb, le-ltb, le-leb, leb-true, leb-false, ltb-true, ltb-false}
+use native.Mathlib.Omega.{arith, by_contra}
+use borrow.Author.Tests.{eq-eqb, ne_eqb, lt-leb, le-ltb, le-leb, ltb-true, ltb-false}
 use lib.Dec.{eqb, leb, ltb}
 use lib.ListN.{length}
 use Rattle.layout.specs.Image.{Image}
@@ -88,17 +88,10 @@ module _ (b : List ℕ) (c : Call) (p : Puts c) (h : Passes b c) where
   is-16 : free_chain (read_table b) ≢ [] → (MayTake b (log_of c) → ⊥) → table_refusal b c ≡ some 16
   unfolding withheld
   is-16 e n =
-      let k : reserve b (log_of c) ≤ held b (log_of c) = not-below (held b (log_of c)) (reserve b (log_of c)) (λ x. n (inl x)) in
-      let j : length (free_chain (read_table b)) ≤ lack_but (read_table b) (log_of c) = not-below (lack_but (read_table b) (log_of c)) (length (free_chain (read_table b))) (λ x. n (inr x)) in
+      let k : reserve b (log_of c) ≤ held b (log_of c) = by_contra (reserve b (log_of c)) (held b (log_of c)) (λ x. n (inl x)) in
+      let j : length (free_chain (read_table b)) ≤ lack_but (read_table b) (log_of c) = by_contra (length (free_chain (read_table b))) (lack_but (read_table b) (log_of c)) (λ x. n (inr x)) in
       is-promised b c h.sized h.whole known h.position h.room (puts-full (read_table b) c p ∙ ne_eqb (read_table b).free 0 (λ z. e (free-none z)))
       (puts-promised (read_table b) c p ∙ and_yes _ (ap not (le-ltb (held b (log_of c)) (reserve b (log_of c)) k)) ∙ le-leb (length (free_chain (read_table b))) (lack_but (read_table b) (log_of c)) j)
-    where
-      not-below : (x y : ℕ) → (x < y → ⊥) → y ≤ x
-      not-below x y q = go (leb y x) refl
-        where
-          go : (t : Bool) → leb y x ≡ t → y ≤ x
-          go true r = leb-true y x r
-          go false r = absurd (q (leb-false y x r))
 
   -- it is one of three
   abbrev Ways : Type 0

@@ -8,7 +8,8 @@ use borrow.Author.Tests.{ne_eqb, eqb-true, eqb-false}
 use lib.Dec.{eqb}
 use lib.ListN.{length, replicate-append-replicate}
 use Rattle.octets.specs.Octets.{Bytes, part, same, zeros}
-use Rattle.octets.proofs.Tests.{and_left, and_right, and-false}
+use Rattle.octets.proofs.Tests.{and-false, and_assoc}
+pub use Rattle.std.proofs.lemmas.Bool.{and_parts as and_split}
 use Rattle.octets.proofs.Same.{same-eq, eq-same}
 use Rattle.bigendian.specs.BigEndian.{be, unbe}
 use Rattle.bigendian.proofs.Laws.{base-pos, unbe-be, be-unbe-part}
@@ -23,9 +24,6 @@ and_no b e = ap (λ (x : Bool). x && b) e
 
 pub and-not : (a : Bool) {b : Bool} → b ≡ false → a && b ≡ false
 and-not a e = ap (λ (x : Bool). a && x) e ∙ and-false a
-
-pub and_split : (a b : Bool) → a && b ≡ true → (a ≡ true) × (b ≡ true)
-and_split a b e = (and_left a b e, and_right a b e)
 
 -- lists that differ
 pub ne_same : (a b : List ℕ) → (a ≡ b → ⊥) → same a b ≡ false
@@ -54,11 +52,7 @@ unfolding same
 same-append [] q [] y h = refl
 same-append [] q (z ∷ x) y h = absurd (omega arith)
 same-append (z ∷ p) q [] y h = absurd (omega arith)
-same-append (z ∷ p) q (w ∷ x) y h = ap (λ (t : Bool). eqb z w && t) (same-append p q x y (omega arith)) ∙ assoc (eqb z w) (same p x) (same q y)
-  where
-    assoc : (a b c : Bool) → a && (b && c) ≡ a && b && c
-    assoc true b c = refl
-    assoc false b c = refl
+same-append (z ∷ p) q (w ∷ x) y h = ap (λ (t : Bool). eqb z w && t) (same-append p q x y (omega arith)) ∙ and_assoc (eqb z w) (same p x) (same q y)
 
 -- a number is zero when its bytes are
 pub zero-bytes : (l : List ℕ) → eqb (unbe l) 0 ≡ same l (zeros (length l))

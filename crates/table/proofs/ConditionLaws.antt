@@ -5,6 +5,7 @@ use mathlib.Core.Logic.{◌⊎◌, inl, inr}
 use mathlib.Core.List.{List, [], ◌∷◌}
 use mathlib.Core.Bool.{Bool, true, false, ◌&&◌, ◌||◌}
 use native.Mathlib.Omega.{arith}
+use Rattle.std.proofs.lemmas.Bool.{or_right}
 use borrow.Author.Tests.{eq-eqb, le-leb, eqb-true, eqb-false, leb-true}
 use lib.Dec.{eqb, leb}
 use lib.ListN.{length, length-append}
@@ -126,11 +127,7 @@ module _ (slots : List Slot) (g : ℕ) (r : Row) where
   )
   row-test c l (inr h) =
       let k = links-reach slots (suc g) r.first c h.own l in
-      (either (fresh r) _ (and_yes _ k.0 ∙ ap (λ (d : List ℕ). started r d (positions_of slots d)) k.1 ∙ started-test c h), k.1)
-    where
-      either : (a b : Bool) → b ≡ true → a || b ≡ true
-      either true b e = refl
-      either false b e = e
+      (or_right (fresh r) _ (and_yes _ k.0 ∙ ap (λ (d : List ℕ). started r d (positions_of slots d)) k.1 ∙ started-test c h), k.1)
 
 -- all rows
 

@@ -1,8 +1,9 @@
 -- Facts on lists: members, no element twice, the last element; distinct numbers below n are no more than n.
 use Prim.Native.Nat.{ℕ, zero, suc, ◌≤◌, ◌<◌, zero-le}
-use mathlib.Core.Path.{◌≡◌, refl, sym, ap, ◌∙◌}
+use mathlib.Core.Path.{◌≡◌, refl, sym, ◌∙◌}
 use mathlib.Core.Logic.{◌⊎◌, inl, inr, ◌≢◌}
-use mathlib.Core.List.{List, [], ◌∷◌, ◌++◌, map}
+use mathlib.Core.List.{List, [], ◌∷◌, ◌++◌}
+pub use mathlib.Core.List.{map-append}
 use mathlib.Core.Bool.{Bool, true, false, cond}
 use native.Mathlib.Omega.{arith}
 use lib.ListN.{length}
@@ -65,10 +66,6 @@ unfolding last_of
 last_of_snoc [] z = refl
 last_of_snoc (x ∷ []) z = refl
 last_of_snoc (x ∷ y ∷ c) z = last_of_snoc (y ∷ c) z
-
-pub map-append : {A B : Type 0} (f : A → B) (c d : List A) → map f (c ++ d) ≡ map f c ++ map f d
-map-append f [] d = refl
-map-append f (x ∷ c) d = ap {B = List _} (λ l. f x ∷ l) (map-append f c d)
 
 pub in-last : (c : List ℕ) → (last_of c ≡ 0) ⊎ In (last_of c) c
 unfolding last_of
