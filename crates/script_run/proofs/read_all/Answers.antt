@@ -1,6 +1,5 @@
 -- `script_run::read_all` meets its contract.
-use Rattle.std.proofs.Common.{[], ◌∷◌, ◌++◌, Ok, Err, Bool, length-append, refl, subst, ◌∙◌, arith, rules}
-use Rattle.script_run.specs.Steps.{Ends, Stepped}
+use Rattle.std.proofs.Common.{[], ◌∷◌, refl}
 use Rattle.script_run.proofs.StepLaws.{ready}
 use Rattle.octets.specs.Undivided.{Undivided}
 use Rattle.script_run.proofs.read_all.Code.Mir.{function}
@@ -11,14 +10,3 @@ undivided = refl
 
 pub turn-requires : goal.turn-requires
 turn-requires g c = ready c.loop.counter c.loop-test.true c.loop.invariant.1.1 c.loop.invariant.1.2 c.loop.invariant.0
-
-pub returns-in_err-turn : goal.returns-in_err-turn
-returns-in_err-turn g c = (c.loop.invariant.1.0, let a : Ends (Err c.in_err-turn.field-0.0) c.loop.invariant.1.0 c.turn.new.script = c.in_err-turn.ensures c.loop.invariant.1.0 c.loop.invariant.1.1 in search rules)
-
-pub returns-then-not-branch : goal.returns-then-not-branch
-returns-then-not-branch g c = (c.loop.invariant.1.0, subst (λ (b : Bool). Stepped (Ok b) c.loop.invariant.1.0 c.turn.new.script c.turn.new.out) c.if-not-branch.true (c.in_ok-turn.ensures c.loop.invariant.1.0 c.loop.invariant.1.1))
-
-pub loop-preserved : goal.loop-preserved
-loop-preserved g c =
-    let s = subst (λ (b : Bool). Stepped (Ok b) c.loop.invariant.1.0 c.turn.new.script c.turn.new.out) c.if-not-branch.false (c.in_ok-turn.ensures c.loop.invariant.1.0 c.loop.invariant.1.1) in
-    (c.turn.auto.out ∙ c.loop.invariant.0, (c.loop.invariant.1.0 ++ s.0, s.2, omega (arith, s.1, length-append c.loop.invariant.1.0 s.0, c.loop.invariant.1.2)))

@@ -10,23 +10,11 @@ first-size n h = simp (length-take, length-replicate) (omega arith)
 pub loop-left-init : goal.loop-left-init
 loop-left-init c = let h = holds-new _ c.new-s.ensures in (omega (arith, holds-count _ _ h), holds-within _ _ h)
 
-pub slice_bounds-absorb-end : goal.slice_bounds-absorb-end
-slice_bounds-absorb-end c = simp (length-take, length-replicate) (omega arith)
-
-pub absorb-s-requires : goal.absorb-s-requires
-absorb-s-requires c = (simp (length-take, length-replicate) (omega arith), omega arith)
-
 pub loop-left-preserved : goal.loop-left-preserved
 loop-left-preserved c = (
   omega (arith, absorb-counts _ _ _ c.absorb-s.ensures, first-size c.args.n (omega arith)),
   absorb-within _ _ _ c.absorb-s.ensures (omega arith),
 )
-
-pub slice_bounds-absorb-end-2 : goal.slice_bounds-absorb-end-2
-slice_bounds-absorb-end-2 c = simp (length-take, length-replicate) (omega arith)
-
-pub absorb-requires : goal.absorb-requires
-absorb-requires c = (simp (length-take, length-replicate) (omega arith), omega arith)
 
 pub finish-requires : goal.finish-requires
 finish-requires c = (

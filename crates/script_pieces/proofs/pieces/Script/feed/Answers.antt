@@ -1,6 +1,5 @@
 -- `script_pieces::pieces::Script::feed` meets its contract.
 use Rattle.std.proofs.Common.{◌≡◌, ℕ, ◌+◌, ◌<◌, ◌≢◌, List, [], ◌∷◌, length, take, refl, sym, ap, subst, ◌∙◌, arith}
-use Rattle.std.proofs.Math.Seq.{take_all}
 use Rattle.octets.specs.Octets.{splice}
 use Rattle.script.specs.Script.{answer_text, table_after}
 use Rattle.script.specs.Stream.{Feeds}
@@ -34,6 +33,3 @@ loop-at-preserved c =
           (c.answer-to.ensures.line ∙ ap (λ (l : List ℕ). splice c.loop-at.out c.loop-at.to (answer_text T c.loop-at.self.number l)) x)
           (c.answer-to.ensures.table ∙ ap (table_after T) x)),
     )
-
-pub returns : goal.returns
-returns c = subst (λ (x : List ℕ). Feeds x c.args.self.now.table c.args.self.now.held c.args.self.now.number c.args.out.now c.loop-at.self.table c.loop-at.self.held c.loop-at.self.number c.loop-at.out c.loop-at.to) (take_all c.loop-at.at c.args.piece.now (omega arith)) c.loop-at.invariant.1
