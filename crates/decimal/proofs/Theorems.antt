@@ -13,6 +13,7 @@ use borrow.Author.Tests.{lt-ltb, ltb-true, leb-true, eq-eqb}
 use Rattle.octets.specs.Octets.{splice}
 use Rattle.octets.proofs.Parts.{length-splice}
 use Rattle.std.specs.Prelude.{Some, None}
+use Rattle.std.proofs.lemmas.Bool.{and_parts}
 use Rattle.decimal.specs.Decimal.{digits_of, decimal_from, decimal_of, is_digit, all_digits, value_after, value_of, starts_well, is_number, number_of}
 use Rattle.decimal.proofs.Laws.{pow_pos, length-digits_of, digits_of-digits, value-digits_of, of_width, starts, quotient, remainder, below}
 
@@ -89,16 +90,12 @@ value-split v (b ∷ l) =
     let e₅ : v * 10 * p ≡ v * 10 ^ suc (length l) = mul_assoc v 10 p ∙ ap (λ (m : ℕ). v * m) (mul_comm 10 p ∙ sym (pow-suc 10 (length l))) in
     omega arith
 
-pub both_true : (a b : Bool) → (a && b) ≡ true → (a ≡ true) × (b ≡ true)
-both_true true b e = (refl, e)
-both_true false b e = let z : ◌≡◌ {A = ℕ} 0 1 = cc in absurd (omega arith)
-
 value-lt : (l : List ℕ) → all_digits l ≡ true → value_of l < 10 ^ length l
 unfolding all_digits value_after
 value-lt [] h = omega (arith, pow-zero 10)
 value-lt (b ∷ l) h =
-    let t = both_true (is_digit b) (all_digits l) h in
-    let u = both_true (leb 48 b) (leb b 57) t.0 in
+    let t = and_parts (is_digit b) (all_digits l) h in
+    let u = and_parts (leb 48 b) (leb b 57) t.0 in
     let i : value_of l < 10 ^ length l = value-lt l t.1 in
     let m : (0 * 10 + (b - 48)) * 10 ^ length l ≤ 9 * 10 ^ length l = mul-le-mul_right (10 ^ length l) (omega (arith, leb-true b 57 u.1)) in
     omega (arith, value-split (0 * 10 + (b - 48)) l, pow-suc 10 (length l))
@@ -107,8 +104,8 @@ digits_value : (l : List ℕ) → all_digits l ≡ true → digits_of (length l)
 unfolding digits_of all_digits value_after
 digits_value [] h = refl
 digits_value (b ∷ l) h =
-    let t = both_true (is_digit b) (all_digits l) h in
-    let u = both_true (leb 48 b) (leb b 57) t.0 in
+    let t = and_parts (is_digit b) (all_digits l) h in
+    let u = and_parts (leb 48 b) (leb b 57) t.0 in
     let v : ℕ = value_after (0 * 10 + (b - 48)) l in
     let i : value_of l < 10 ^ length l = value-lt l t.1 in
     let e : value_of l + (0 * 10 + (b - 48)) * 10 ^ length l ≡ v = omega (arith, value-split (0 * 10 + (b - 48)) l) in
@@ -123,8 +120,8 @@ unfolding all_digits value_after
 head-least [] h s z = absurd (omega arith)
 head-least (b ∷ []) h s z = absurd (omega arith)
 head-least (b ∷ c ∷ l) h s z =
-    let t = both_true (is_digit b) (all_digits (c ∷ l)) h in
-    let u = both_true (leb 48 b) (leb b 57) t.0 in
+    let t = and_parts (is_digit b) (all_digits (c ∷ l)) h in
+    let u = and_parts (leb 48 b) (leb b 57) t.0 in
     let n : b ≡ 48 → ⊥ = λ e. let q : ◌≡◌ {A = ℕ} 0 1 = zero-first (eqb b 48) (eq-eqb b 48 e) s in omega arith in
     let m : 1 * 10 ^ length (c ∷ l) ≤ (0 * 10 + (b - 48)) * 10 ^ length (c ∷ l) = mul-le-mul_right (10 ^ length (c ∷ l)) (one_more b (leb-true 48 b u.0) n) in
     let e : length (b ∷ c ∷ l) - 1 ≡ length (c ∷ l) = omega arith in
@@ -175,8 +172,8 @@ parsed l v e = go (is_number l) refl e
     go false p q = let z : ◌≡◌ {A = ℕ} 0 1 = cc in absurd (omega arith)
     go true p q =
         let x : value_of l ≡ v = cc in
-        let t = both_true (starts_well l) (all_digits l && ltb (value_of l) (2 ^ 64)) p in
-        let u = both_true (all_digits l) (ltb (value_of l) (2 ^ 64)) t.1 in
+        let t = and_parts (starts_well l) (all_digits l && ltb (value_of l) (2 ^ 64)) p in
+        let u = and_parts (all_digits l) (ltb (value_of l) (2 ^ 64)) t.1 in
         let b : value_of l < 2 ^ 64 = ltb-true (value_of l) (2 ^ 64) u.1 in
         (omega arith, only-decimal l t.0 u.0 b ∙ ap decimal_of x)
 

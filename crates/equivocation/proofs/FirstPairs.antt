@@ -6,7 +6,7 @@ use native.Mathlib.Omega.{arith}
 use mathlib.Core.Bool.{Bool, true, false, not, cond}
 use mathlib.Core.List.{List, [], ◌∷◌}
 use mathlib.Core.Option.{Option, none, some, none-ne-some, some-ne-none, some-injective}
-use borrow.Author.Tests.{not-false}
+use borrow.Author.Tests.{both_ways, not-false}
 use Rattle.octets.proofs.Tests.{equal_or_not}
 use Rattle.refusal.specs.Answer.{Answer, answer}
 use Rattle.refusal.proofs.AnswerLaws.{no-fault}
@@ -19,9 +19,6 @@ use Rattle.quorum.proofs.Tallies.{receipts-exactly}
 use Rattle.equivocation.specs.Pairs.{Contradiction, contradiction_answer, contradiction_blocks, is_pair, second_of, or_later, first_of, first_pair, places_of, contradiction_refusal, contradiction, contradiction_blocks_of, Admitted, IsPair, FirstPair, FindsExactly}
 use Rattle.equivocation.proofs.Answers.{looked-at}
 use Rattle.equivocation.proofs.PairLaws.{is-pair}
-
-clash : {A : Type 0} (b : Bool) → b ≡ true → b ≡ false → A
-clash b h k = let z : ◌≡◌ {A = ℕ} 0 1 = cc in absurd (omega arith)
 
 apart : (m n : ℕ) → (m ≡ n → ⊥) → (m < n) ⊎ (n < m)
 apart zero zero h = absurd (h refl)
@@ -128,7 +125,7 @@ module _ (roster pile : List ℕ) where
 
   -- what the test refuses is no pair
   not-pair : (p q : ℕ) → pair p q ≡ false → IsPair roster pile p q → ⊥
-  not-pair p q h i = clash (pair p q) ((is-pair roster pile p q i.order i.within).1 i) h
+  not-pair p q h i = both_ways (pair p q) h ((is-pair roster pile p q i.order i.within).1 i)
 
   pair_found : (p q : ℕ) → first_pair roster pile ≡ some (p, q) → FirstPair roster pile p q
   unfolding first_pair
@@ -154,7 +151,7 @@ module _ (roster pile : List ℕ) where
       go (some x) e h =
           let w = from (receipt_count pile) 0 x.0 x.1 e in
           let high = w.high in
-          clash (pair x.0 x.1) w.found (h x.0 x.1 w.order (omega arith))
+          absurd (both_ways (pair x.0 x.1) (h x.0 x.1 w.order (omega arith)) w.found)
 
   no-pair : first_pair roster pile ≡ none → (p q : ℕ) → IsPair roster pile p q → ⊥
   no-pair h p q i = not-pair p q (none-exactly.0 h p q i.order i.within) i

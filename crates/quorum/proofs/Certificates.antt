@@ -5,13 +5,13 @@ use mathlib.Core.Logic.{◌≢◌, ⊎_elim, ◌↔◌}
 use Prim.Native.Nat.{ℕ, zero, suc, ◌+◌, ◌*◌, ◌/◌, ◌%◌, ◌^◌, ◌≤◌, ◌<◌}
 use native.Mathlib.Nat.{not-suc-le-zero}
 use native.Mathlib.Omega.{arith}
-use mathlib.Core.Bool.{Bool, true, false, not, ◌&&◌, ◌||◌, cond}
+use mathlib.Core.Bool.{Bool, true, false, not, ◌&&◌, ◌||◌, cond, or-false}
 use mathlib.Core.List.{List, [], ◌∷◌}
 use mathlib.Core.Option.{Option, none, some}
 use lib.Count.{ones}
 use lib.Dec.{eqb}
 use lib.ListN.{length}
-use borrow.Author.Tests.{eqb-true, leb-true, le-leb, not-false}
+use borrow.Author.Tests.{both_ways, eqb-true, leb-true, le-leb, not-false}
 use Rattle.octets.specs.Octets.{Bytes, same}
 use Rattle.octets.proofs.Tests.{and_left, and_right, and_both, or_left, or_right, or_cases, equal_or_not}
 use Rattle.octets.proofs.Parts.{bytes-part}
@@ -43,10 +43,6 @@ some-member (suc n) f h = by (f n) refl h (λ k. some-member n f k)
 pub of-bit : (b : Bool) (m : ℕ) → m < 2 → m ≡ 1 ↔ (b ≡ true) → m ≡ cond b 1 0
 of-bit true m l h = h.1 refl
 of-bit false m l h = ⊎_elim (λ (e : m ≡ 1). let f = h.0 e in let z : ◌≡◌ {A = ℕ} 0 1 = cc in absurd (omega arith)) (λ (e : m ≡ 1 → ⊥). let n : m ≢ 1 = e in omega arith) (equal_or_not m 1)
-
--- no test holds and fails
-clash : (b : Bool) → b ≡ true → b ≡ false → ⊥
-clash b t f = let z : ◌≡◌ {A = ℕ} 0 1 = cc in omega arith
 
 bit-true : (b : Bool) (m : ℕ) → m ≡ cond b 1 0 → m ≡ 1 ↔ (b ≡ true)
 bit-true true m h = (λ e. refl, λ e. h)
@@ -120,11 +116,7 @@ module _ (roster nonce : List ℕ) (log position : ℕ) (cert : List ℕ) where
   -- a receipt that is not good by a member does not add it
   pub adds_none : (k : ℕ) (v : List ℕ) (i : ℕ) → good k i ≡ false → shown (suc k) v i ≡ shown k v i
   unfolding shows_in
-  adds_none k v i e = ap (λ (b : Bool). shown k v i || (b && same (pair_at cert k) v)) e ∙ or-none (shown k v i)
-    where
-      or-none : (a : Bool) → a || false ≡ a
-      or-none true = refl
-      or-none false = refl
+  adds_none k v i e = ap (λ (b : Bool). shown k v i || (b && same (pair_at cert k) v)) e ∙ or-false (shown k v i)
 
   -- a second receipt of a member that is counted already adds nothing to the count
   pub counted-once : distinct roster (size roster) ≡ true → (k : ℕ) (v : List ℕ) (j : ℕ) → j < size roster → good k j ≡ true → shown k v j ≡ true
@@ -152,7 +144,7 @@ module _ (roster nonce : List ℕ) (log position : ℕ) (cert : List ℕ) where
         by : (x : Bool) → test p ≡ x → ((q ≡ p → ⊥) → is_none (first_of roster nonce log position cert k j (suc p)) ≡ false)
             → is_none (cond x (some p) (first_of roster nonce log position cert k j (suc p))) ≡ false
         by true e r = refl
-        by false e r = r (λ z. clash (test p) (ap test (sym z) ∙ t) e)
+        by false e r = r (λ z. both_ways (test p) e (ap test (sym z) ∙ t))
 
     record From (j p place : ℕ) : Type 0 where
       low : p ≤ place
@@ -188,9 +180,9 @@ module _ (roster nonce : List ℕ) (log position : ℕ) (cert : List ℕ) where
       where
         by : (x : Bool) → test p ≡ x → (From j (suc p) place → first_of roster nonce log position cert k j (suc p) ≡ some place)
             → cond x (some p) (first_of roster nonce log position cert k j (suc p)) ≡ some place
-        by true e r = ⊎_elim (λ (z : p ≡ place). ap some z) (λ z. absurd (clash (test p) e (f.first p (omega arith) (omega (arith, f.low))))) (equal_or_not p place)
+        by true e r = ⊎_elim (λ (z : p ≡ place). ap some z) (λ z. absurd (both_ways (test p) (f.first p (omega arith) (omega (arith, f.low))) e)) (equal_or_not p place)
         by false e r =
-            ⊎_elim (λ (z : p ≡ place). absurd (clash (test p) (ap test z ∙ f.passes) e))
+            ⊎_elim (λ (z : p ≡ place). absurd (both_ways (test p) e (ap test z ∙ f.passes)))
             (λ z. r (record { low = omega (arith, f.low); high = omega (arith, f.high); passes = f.passes; first = λ q a b. f.first q (omega arith) b })) (equal_or_not p place)
 
     enough-of : (v : List ℕ) → certified roster nonce log position cert k v ≡ true → k ≤ count_below (size roster) (showing v)
@@ -283,7 +275,7 @@ module _ (roster nonce : List ℕ) (log position : ℕ) (cert : List ℕ) where
           good = g.0;
           members = subst (Members roster cert Good (pair_at cert place)) u (members-in (pair_at cert place));
           enough = subst (λ (x : ℕ). k ≤ x) (sym (counted k (pair_at cert place)) ∙ ap ones u) c;
-          first = λ q l a b. clash (test k q) ((test-exactly k q).1 (a, b)) (f.first q (omega arith) l);
+          first = λ q l a b. both_ways (test k q) (f.first q (omega arith) l) ((test-exactly k q).1 (a, b));
         }
 
     first-from : (place mask : ℕ) → Named roster cert Good k place mask → first ≡ some place

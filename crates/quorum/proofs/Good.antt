@@ -22,11 +22,8 @@ use Rattle.roster.specs.Roster.{size, keeper_at, key_at, distinct, member}
 use Rattle.quorum.specs.Certificate.{asked_of, good_by, GoodBy, GenuineBy}
 use Rattle.quorum.specs.Tally.{if_good, good_member, is_member_i}
 use Rattle.std.specs.Prelude.{Option, Some, None, Result, Ok, Err}
+use Rattle.std.proofs.lemmas.Bool.{false_from_ne_true}
 use Rattle.roster.proofs.RosterLaws.{member_below, member_is, distinct-sound}
-
-not-good : (b : Bool) {c : Bool} → c ≡ b → (c ≡ true → ⊥) → c ≡ false
-not-good true e h = absurd (h e)
-not-good false e h = e
 
 -- no refusal has number 0
 refused-some : (w : Refusal) → number_of w ≡ 0 → ⊥
@@ -144,8 +141,8 @@ module _ (roster nonce : List ℕ) (log position : ℕ) (r : List ℕ) where
       by (Some j) e =
           let g = (member-good j e).1 in
           ⊎_elim (λ (z : j ≡ i). eq-eqb j i z ∙ sym (ap (good_by roster nonce log position r) (sym z) ∙ g))
-          (λ z. ne_eqb j i z ∙ sym (not-good (good_by roster nonce log position r i) refl (λ t. z (good-once d j i (member-good j e).0 h g t)))) (equal_or_not j i)
-      by None e = sym (not-good (good_by roster nonce log position r i) refl (λ t. let a = good-member d i h t in let z : ◌≡◌ {A = ℕ} 0 1 = cc in omega arith))
+          (λ z. ne_eqb j i z ∙ sym (false_from_ne_true (good_by roster nonce log position r i) (λ t. z (good-once d j i (member-good j e).0 h g t)))) (equal_or_not j i)
+      by None e = sym (false_from_ne_true (good_by roster nonce log position r i) (λ t. let a = good-member d i h t in let z : ◌≡◌ {A = ℕ} 0 1 = cc in omega arith))
 
   -- what the program notes for a receipt: no member, refused, of another kind, or good
 

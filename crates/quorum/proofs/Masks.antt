@@ -4,7 +4,7 @@ use mathlib.Core.Logic.{⊎_elim}
 use Prim.Native.Nat.{ℕ, zero, suc, ◌+◌, ◌-◌, ◌*◌, ◌/◌, ◌%◌, ◌^◌, ◌≤◌, ◌<◌}
 use native.Mathlib.Nat.{not-suc-le-zero, pow-suc, zero-mul, one-mul, add-zero, add-suc, mul_assoc, mul-add-div_right, mul-add-mod_self_right, div-lt_iff_lt-mul, div-add-mod', mod-lt, mod-eq_of_lt}
 use native.Mathlib.Omega.{arith}
-use mathlib.Core.Bool.{Bool, true, false, ◌&&◌, ◌||◌, cond}
+use mathlib.Core.Bool.{Bool, true, false, ◌&&◌, ◌||◌, cond, or-true}
 use lib.Bits.{bit_or, or_block, or_zero_r}
 use lib.Count.{ones, ones_in, ones_cat}
 use lib.Dec.{eqb}
@@ -47,10 +47,6 @@ count-eq n f g h = sym (ones-mask n f) ∙ ap ones (mask-eq n f g h) ∙ ones-ma
 pub or-false : (a : Bool) → a || false ≡ a
 or-false true = refl
 or-false false = refl
-
-or-true : (a : Bool) → a || true ≡ true
-or-true true = refl
-or-true false = refl
 
 bit-set : (b : Bool) → bit_or (cond b 1 0) 1 ≡ 1
 bit-set true = refl

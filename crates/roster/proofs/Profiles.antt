@@ -1,11 +1,12 @@
 -- Profiles: the test and the conditions agree, the ways out of the test, and the sizes that are permitted.
-use mathlib.Core.Path.{◌≡◌, refl}
+use mathlib.Core.Path.{◌≡◌, sym}
 use mathlib.Core.Logic.{◌↔◌}
 use Prim.Native.Nat.{ℕ, ◌+◌, ◌*◌, ◌/◌, ◌%◌, ◌≤◌}
 use native.Mathlib.Omega.{arith}
-use mathlib.Core.Bool.{Bool, true, false, ◌&&◌}
+use mathlib.Core.Bool.{true, false, ◌&&◌}
 use lib.Dec.{leb, ltb}
 use borrow.Author.Tests.{le-leb, lt-ltb, leb-true, ltb-true}
+use Rattle.std.proofs.lemmas.Bool.{false_from_ne_true}
 use Rattle.octets.proofs.Tests.{and_left, and_right, and_both, and-true}
 use Rattle.roster.specs.Profile.{permitted, Permitted}
 
@@ -28,11 +29,7 @@ module _ (n k : ℕ) where
 
   -- the ways out of the test
   pub refused-by : (Permitted n k → ⊥) → false ≡ permitted n k
-  refused-by h = by (permitted n k) (λ e. h (permitted-exactly.0 e))
-    where
-      by : (b : Bool) → (b ≡ true → ⊥) → false ≡ b
-      by true e = absurd (e refl)
-      by false e = refl
+  refused-by h = sym (false_from_ne_true (permitted n k) (λ e. h (permitted-exactly.0 e)))
 
   pub by-half : 1 ≤ n → n ≤ 32 → k ≤ n → ltb n (2 * k) ≡ permitted n k
   unfolding permitted

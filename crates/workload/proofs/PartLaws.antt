@@ -1,7 +1,7 @@
 -- Laws of the parts between marks, where the parts are known.
 use Prim.Native.Nat.{ℕ, ◌≤◌, ◌<◌, ◌^◌}
 use mathlib.Core.Path.{◌≡◌, refl, sym, ap, ap₂, ◌∙◌}
-use mathlib.Core.Bool.{Bool, true, false, cond}
+use mathlib.Core.Bool.{Bool, true, false, cond, false≢true}
 use mathlib.Core.List.{List, [], ◌∷◌, ◌++◌, append_assoc, append-nil, map}
 use Rattle.std.specs.Prelude.{Some}
 use native.Mathlib.Omega.{arith}
@@ -20,9 +20,6 @@ unfoldable pub lacks : ℕ → List ℕ → Bool
 lacks mark [] = true
 lacks mark (b ∷ l) = cond (eqb b mark) false (lacks mark l)
 
-false-true : false ≡ true → ⊥
-false-true e = let z : ◌≡◌ {A = ℕ} 0 1 = cc in omega arith
-
 module _ (mark : ℕ) where
   -- the first part ends at the mark
   pub parts-after : (f t : List ℕ) → lacks mark f ≡ true → parts_of mark (f ++ (mark ∷ t)) ≡ f ∷ parts_of mark t
@@ -32,7 +29,7 @@ module _ (mark : ℕ) where
     where
       go : (e : Bool) → (lacks mark f ≡ true → parts_of mark (f ++ (mark ∷ t)) ≡ f ∷ parts_of mark t) → cond e false (lacks mark f) ≡ true
           → cond e ([] ∷ parts_of mark (f ++ (mark ∷ t))) (on_first b (parts_of mark (f ++ (mark ∷ t)))) ≡ (b ∷ f) ∷ parts_of mark t
-      go true ih q = absurd (false-true q)
+      go true ih q = absurd (false≢true q)
       go false ih q = ap (on_first b) (ih q)
 
   -- it is the only one
@@ -42,7 +39,7 @@ module _ (mark : ℕ) where
   parts-alone (b ∷ f) h = go (eqb b mark) (parts-alone f) h
     where
       go : (e : Bool) → (lacks mark f ≡ true → parts_of mark f ≡ f ∷ []) → cond e false (lacks mark f) ≡ true → cond e ([] ∷ parts_of mark f) (on_first b (parts_of mark f)) ≡ (b ∷ f) ∷ []
-      go true ih q = absurd (false-true q)
+      go true ih q = absurd (false≢true q)
       go false ih q = ap (on_first b) (ih q)
 
   pub lacks-append : (f g : List ℕ) → lacks mark f ≡ true → lacks mark g ≡ true → lacks mark (f ++ g) ≡ true

@@ -5,7 +5,7 @@ use native.Mathlib.Omega.{arith}
 use mathlib.Core.Path.{◌≡◌, refl, ap, ◌∙◌}
 use Prim.Native.Nat.{ℕ, ◌+◌}
 use mathlib.Core.List.{List, ◌++◌, append_assoc}
-use lib.Seq.{paste, paste-zero, paste-suc, take-length}
+use lib.Seq.{paste, paste-suc, take-length}
 use lib.ListN.{length, drop, take, set, get_or, length-set}
 use Rattle.octets.specs.Undivided.{Undivided}
 use Rattle.octets.proofs.put.Code.Mir.{function}
@@ -13,9 +13,6 @@ use Rattle.octets.proofs.put.Goals as goal
 
 pub undivided : Undivided [] function
 undivided = refl
-
-pub loop-i-init : goal.loop-i-init
-loop-i-init c = (refl, paste-zero c.args.out.now c.args.at c.args.part.now)
 
 pub loop-i-preserved : goal.loop-i-preserved
 loop-i-preserved c = (

@@ -29,6 +29,3 @@ returns-then-is_some c =
 pub loop-i-preserved : goal.loop-i-preserved
 loop-i-preserved c =
     let a = looked c.args.roster.now c.loop-i.i _ _ c.told-roster (omega arith) c.keeper_of.ensures (c.is_some.ensures ∙ ap is_some c.find.ensures) in rw add-one (distinct-suc (concat c.args.roster.now) c.loop-i.i (not-false _ (sym a ∙ c.if-is_some.false)) c.loop-i.invariant)
-
-pub returns : goal.returns
-returns c = let all : c.loop-i.i ≡ length c.args.roster.now = omega arith in sym (ap (distinct (concat c.args.roster.now)) (sym all) ∙ c.loop-i.invariant)

@@ -1,5 +1,5 @@
 -- `sha256_blocks::load` meets its contract.
-use Rattle.std.proofs.Common.{◌≡◌, ℕ, List, [], ◌∷◌, ◌++◌, sym, refl, ap₂, ◌∙◌, ap, add-one, arith, length-set, take_all, take-suc-set}
+use Rattle.std.proofs.Common.{ℕ, List, [], ◌∷◌, ◌++◌, refl, ap₂, ◌∙◌, add-one, arith, length-set, take-suc-set}
 use Rattle.sha256.specs.Sha256.{words}
 use Rattle.sha256_blocks.proofs.load.Goals as goal
 
@@ -13,7 +13,3 @@ loop-t-preserved c = (
   length-set c.loop-t.w c.loop-t.t c.number_at.result ∙ c.loop-t.invariant.0,
   rw add-one (take-suc-set c.loop-t.w c.loop-t.t c.number_at.result (omega arith) ∙ ap₂ (λ (a : List ℕ) (x : ℕ). a ++ (x ∷ [])) c.loop-t.invariant.1 c.number_at.ensures.0),
 )
-
-pub returns : goal.returns
-returns c = let e : c.loop-t.t ≡ 16 = omega arith in
-    sym (take_all c.loop-t.t c.loop-t.w (omega arith)) ∙ c.loop-t.invariant.1 ∙ ap (λ (t : ℕ). words t c.args.block.now) e

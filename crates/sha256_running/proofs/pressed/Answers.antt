@@ -13,7 +13,3 @@ first c = let one : length c.args.block.now / 64 ≡ 1 = omega arith in
 pub returns-then-rest-lt64 : goal.returns-then-rest-lt64
 returns-then-rest-lt64 c = let p : List ℕ = c.args.rest.now in
     (first (goal.at.returns-then-rest-lt64 c).After-compress_blocks-first ∙ no_block p _ (omega arith), omega arith)
-
-pub returns : goal.returns
-returns c = let p : List ℕ = c.args.rest.now in
-    (c.compress_blocks.ensures.0 ∙ ap (λ (h : List ℕ). blocks (length p / 64) h p) (first (goal.at.returns c).After-compress_blocks-first), omega arith)

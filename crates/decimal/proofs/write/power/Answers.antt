@@ -2,7 +2,7 @@
 use Rattle.std.proofs.Common.{◌≡◌, ℕ, zero, suc, ◌+◌, ◌<◌, ◌^◌, Bool, true, ◌&&◌, nat_eq, List, [], ◌∷◌, length, get_or, refl, ap, ◌∙◌, arith}
 use borrow.Author.Tests.{eqb-true}
 use Rattle.decimal.specs.declared.write.TheConstants.{POWERS}
-use Rattle.decimal.proofs.Theorems.{both_true}
+use Rattle.std.proofs.lemmas.Bool.{and_parts}
 use Rattle.octets.specs.Undivided.{Undivided}
 use Rattle.decimal.proofs.write.power.Code.Mir.{function}
 use Rattle.decimal.proofs.write.power.Goals as goal
@@ -17,8 +17,8 @@ ten j = 10 ^ j
 
 power-at : (xs : List ℕ) (j k : ℕ) → powers j xs ≡ true → k < length xs → get_or xs k 0 ≡ 10 ^ (j + k)
 power-at [] j k h l = absurd (omega arith)
-power-at (x ∷ xs) j zero h l = eqb-true x (10 ^ j) ((both_true (nat_eq x (10 ^ j)) (powers (suc j) xs) h).0) ∙ ap ten (omega arith)
-power-at (x ∷ xs) j (suc k) h l = power-at xs (suc j) k ((both_true (nat_eq x (10 ^ j)) (powers (suc j) xs) h).1) (omega arith) ∙ ap ten (omega arith)
+power-at (x ∷ xs) j zero h l = eqb-true x (10 ^ j) ((and_parts (nat_eq x (10 ^ j)) (powers (suc j) xs) h).0) ∙ ap ten (omega arith)
+power-at (x ∷ xs) j (suc k) h l = power-at xs (suc j) k ((and_parts (nat_eq x (10 ^ j)) (powers (suc j) xs) h).1) (omega arith) ∙ ap ten (omega arith)
 
 pub undivided : Undivided [] function
 undivided = refl

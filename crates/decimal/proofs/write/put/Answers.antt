@@ -1,5 +1,5 @@
 -- `decimal::write::put` meets its contract.
-use Rattle.std.proofs.Common.{◌≡◌, ℕ, ◌+◌, ◌-◌, ◌^◌, ◌≤◌, [], ◌∷◌, set, length-set, refl, sym, ap, subst, ◌∙◌, arith}
+use Rattle.std.proofs.Common.{◌≡◌, ℕ, ◌+◌, ◌-◌, ◌^◌, [], ◌∷◌, set, length-set, refl, sym, ap, ◌∙◌, arith}
 use Rattle.decimal.proofs.Laws.{length-digits_of, wide-as, twenty}
 use Rattle.decimal.specs.Decimal.{digits_of, decimal_of}
 use Rattle.octets.specs.Octets.{splice}
@@ -14,12 +14,6 @@ undivided = refl
 
 pub bounds-out-at : goal.bounds-out-at
 bounds-out-at c = omega (arith, wide-as c.width-k.result c.args.n c.width-k.ensures.3)
-
-pub overflow_sub-n : goal.overflow_sub-n
-overflow_sub-n c =
-    let l : 10 ^ (c.width-k.result - 1) ≤ c.args.n = c.width-k.ensures.4 (omega arith) in
-    let z : 10 ^ 19 ≤ c.args.n = subst (λ (j : ℕ). 10 ^ (j - 1) ≤ c.args.n) c.if-k-eq20.true l in
-    omega arith
 
 pub put_digits-requires : goal.put_digits-requires
 put_digits-requires c = (omega arith, omega arith, omega (arith, length-set c.args.out.now c.args.at 49, wide-as c.width-k.result c.args.n c.width-k.ensures.3))
