@@ -1,4 +1,6 @@
 // The cases' lines on receipts, certificates and runs: each carries out a call, and prints its answer.
+// What prints, the line and the pile are parameters, and no struct: it would have a lifetime and a type parameter for what
+// prints, and no head would be shorter.
 #![tactic(auto)]
 
 mod certificates;
