@@ -8,7 +8,7 @@ use mathlib.Core.Bool.{Bool, true, false}
 use mathlib.Core.List.{List, [], ◌∷◌}
 use mathlib.Core.Option.{Option, none, some, none-ne-some, some-ne-none}
 use lib.Dec.{eqb}
-use borrow.Author.Tests.{eqb-true}
+use borrow.Author.Tests.{both_ways, eqb-true}
 use Rattle.octets.proofs.Tests.{and_left}
 use Rattle.refusal.specs.Answer.{Answer, answer}
 use Rattle.receipt.specs.Attestation.{read_attestation}
@@ -99,9 +99,6 @@ module _ (b : Model) (ts : List Turn) (rs : List Reply) (ks : List ℕ) (m : Ima
 
 -- ---- a pile
 
-not-both : (t : Bool) → t ≡ true → t ≡ false → ⊥
-not-both t h k = let z : ◌≡◌ {A = ℕ} 0 1 = cc in omega arith
-
 module _ (roster pile : List ℕ) where
   -- if one list wrote each accepted receipt of a keeper's, no pair is that keeper's
   pub honest-keeper : (keeper : ℕ) → OneList roster pile keeper → (p q : ℕ) → IsPair roster pile p q → (read_attestation (receipt_at pile p)).keeper ≡ keeper → ⊥
@@ -111,8 +108,8 @@ module _ (roster pile : List ℕ) where
       let c = i.conflict in
       let u = h.wrote p (omega arith) ((accepted-at roster pile p).1 i.first) e in
       let w = h.wrote q within ((accepted-at roster pile q).1 i.second) (sym c.keeper ∙ e) in
-      not-both _ ((conflicting-exactly (read_attestation (receipt_at pile p)) (read_attestation (receipt_at pile q))).1 c)
-      (never-conflicting h.start h.turns h.answers h.blocks h.table h.claim (receipt_at pile p) (receipt_at pile q) u w)
+      both_ways _ (never-conflicting h.start h.turns h.answers h.blocks h.table h.claim (receipt_at pile p) (receipt_at pile q) u w)
+      ((conflicting-exactly (read_attestation (receipt_at pile p)) (read_attestation (receipt_at pile q))).1 c)
 
   -- if so of every keeper of the roster's, there is no pair
   pub honest-pile : ((i : ℕ) → i < size roster → OneList roster pile (keeper_at roster i)) → first_pair roster pile ≡ none
@@ -139,5 +136,5 @@ module _ (n k : ℕ) (roster pile : List ℕ) where
       → (b : Model) (ts : List Turn) (rs : List Reply) (ks : List ℕ) (m : Image) → ListClaim b ts rs ks m → Wrote rs (receipt_at pile p) → Wrote rs (receipt_at pile q) → ⊥
   answered-unwritten p q h b ts rs ks m claim u w =
       let f = ((pair-exactly n k roster pile p q).0 h).1 in
-      not-both _ ((conflicting-exactly (read_attestation (receipt_at pile p)) (read_attestation (receipt_at pile q))).1 f.pair.conflict)
-      (never-conflicting b ts rs ks m claim (receipt_at pile p) (receipt_at pile q) u w)
+      both_ways _ (never-conflicting b ts rs ks m claim (receipt_at pile p) (receipt_at pile q) u w)
+      ((conflicting-exactly (read_attestation (receipt_at pile p)) (read_attestation (receipt_at pile q))).1 f.pair.conflict)

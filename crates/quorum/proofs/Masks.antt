@@ -5,6 +5,7 @@ use Prim.Native.Nat.{ℕ, zero, suc, ◌+◌, ◌-◌, ◌*◌, ◌/◌, ◌%◌
 use native.Mathlib.Nat.{not-suc-le-zero, pow-suc, zero-mul, one-mul, add-zero, add-suc, mul_assoc, mul-add-div_right, mul-add-mod_self_right, div-lt_iff_lt-mul, div-add-mod', mod-lt, mod-eq_of_lt}
 use native.Mathlib.Omega.{arith}
 use mathlib.Core.Bool.{Bool, true, false, ◌&&◌, ◌||◌, cond, or-true}
+pub use mathlib.Core.Bool.{or-false}
 use lib.Bits.{bit_or, or_block, or_zero_r}
 use lib.Count.{ones, ones_in, ones_cat}
 use lib.Dec.{eqb}
@@ -43,10 +44,6 @@ mask-eq (suc n) f g h = ap₂ (λ (b : Bool) (m : ℕ). cond b 1 0 * 2 ^ n + m) 
 
 pub count-eq : (n : ℕ) (f g : ℕ → Bool) → ((i : ℕ) → i < n → f i ≡ g i) → count_below n f ≡ count_below n g
 count-eq n f g h = sym (ones-mask n f) ∙ ap ones (mask-eq n f g h) ∙ ones-mask n g
-
-pub or-false : (a : Bool) → a || false ≡ a
-or-false true = refl
-or-false false = refl
 
 bit-set : (b : Bool) → bit_or (cond b 1 0) 1 ≡ 1
 bit-set true = refl

@@ -4,8 +4,8 @@ use lib.ListN.{length}
 use Rattle.a2m.specs.Call.{lookup}
 use Rattle.a2m.specs.TableCalls.{table_step}
 use Rattle.refusal.specs.declared.Refusal.TheVariants as why
-use Rattle.receipt.proofs.Parsed.{parsed, unparsed, parsed_mut, unparsed_mut}
-use Rattle.a2m.proofs.Answered.{looked_not, same-look}
+use Rattle.receipt.proofs.Parsed.{parsed, unparsed, unparsed_mut}
+use Rattle.a2m.proofs.Answered.{looked_not}
 use Rattle.a2m.proofs.ReadLaws.{lookup-nonce, lookup-receipt}
 use mathlib.Core.Bool.{true}
 use Rattle.refusal.specs.Unwritten.{unwritten, counts}
@@ -26,9 +26,3 @@ returns-in_err-receipt c =
     let p = parsed c.args.nonce.now 32 why.Length c.as_array.result _ c.as_array.ensures.cases c.ok_or.ensures.value c.in_ok-nonce.was in
     let u = unparsed_mut c.args.receipt.now 160 why.Length c.as_mut_array.result _ c.from_residual-in_err-receipt.result c.as_mut_array.ensures.cases c.ok_or-2.ensures.value c.in_err-receipt.was c.from_residual-in_err-receipt.ensures.1 in
     looked_not (table_step c.args.table.now (lookup c.args.log c.args.position c.args.nonce.now (length c.args.receipt.now))) _ u.0 (lookup-receipt c.args.table.now c.args.nonce.now c.args.receipt.now c.args.position c.args.log p.1 u.1)
-
-pub returns : goal.returns
-returns c =
-    let p = parsed c.args.nonce.now 32 why.Length c.as_array.result _ c.as_array.ensures.cases c.ok_or.ensures.value c.in_ok-nonce.was in
-    let q = parsed_mut c.args.receipt.now 160 why.Length c.as_mut_array.result _ c.as_mut_array.ensures.cases c.ok_or-2.ensures.value c.in_ok-receipt.was in
-    same-look c.args.table.now (λ i. lookup c.args.log c.args.position (p.0 i) (length (q.0 i))) q.0 c.lookup_sized.ensures
