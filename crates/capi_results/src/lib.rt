@@ -81,7 +81,13 @@ pub fn judged(judgement: Result<Hashed<Accepted>, Refused>, verdict: &mut [u64; 
             kind,
             reference,
         } = done.value;
-        *verdict = [keeper, u64::from(log), position, u64::from(u8::from(kind)), reference];
+        *verdict = [
+            keeper,
+            u64::from(log),
+            position,
+            u64::from(u8::from(kind)),
+            reference,
+        ];
     }
     worked(&judgement)
 }

@@ -4,7 +4,6 @@ use lib.ListN.{length}
 use mathlib.Core.Logic.{◌≢◌}
 use mathlib.Core.Path.{◌≡◌, refl, ap, ap₂, ◌∙◌}
 use Prim.Native.Nat.{ℕ}
-use mathlib.Core.List.{List}
 use Rattle.std.specs.Prelude.{Ok, Err}
 use Rattle.layout.specs.Image.{slot_at}
 use Rattle.layout.specs.Layout.{read_table}
