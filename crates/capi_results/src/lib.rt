@@ -1,4 +1,5 @@
-// What C gets of an answer: its number and the blocks hashed, and the results of an accepted call.
+// What C gets of an answer: its number and the blocks hashed, and the results of an accepted call. What is lent for results stands one
+// by one, as C passes it.
 #![tactic(auto, using(crate::proofs::Done::not_done))]
 
 ghost use Rattle.std.specs.Prelude.{◌≡◌, []};

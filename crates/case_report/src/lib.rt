@@ -7,7 +7,7 @@ use printing::{hex, number, text};
 use refusal::Refused;
 use std::io;
 
-// A number in decimal, or so many of its last bytes in hexadecimal.
+// A number in decimal, or so many of its last bytes in hexadecimal. The kind is the letter behind `%`, read once.
 fn value(rt: &impl Print, kind: u8, n: u64) -> io::Result<()> {
     let mut bytes = [0u8; 8];
     put_number::<8>(&mut bytes, 0, n);
@@ -18,8 +18,8 @@ fn value(rt: &impl Print, kind: u8, n: u64) -> io::Result<()> {
     }
 }
 
-// A text with a number in the place of each `%d`, in decimal, and of each `%1` to `%8`, in so many bytes of hexadecimal. Not by `split` at
-// `%`: its closure would need a fact of its own that it does not divide.
+// A text with a number in the place of each `%d`, in decimal, and of each `%1` to `%8`, in so many bytes of hexadecimal. A loop:
+// what follows a mark says how far it goes, so a split at `%` would leave its letter before each part.
 pub fn show(rt: &impl Print, t: &[u8], values: &[u64]) -> io::Result<()> {
     let mut rest = t;
     let mut values = values;

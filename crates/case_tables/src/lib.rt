@@ -1,6 +1,6 @@
 // The cases' lines on tables: each carries out a call, and prints its answer.
-// What prints, the line, the table and the pile are parameters, and no struct: it would have a lifetime and a type parameter for what
-// prints, and no head would be shorter.
+// What prints, the line, the table and the pile are parameters, and no struct: each is lent for another
+// time, a slot of the pile while the fields of the line are used, and a struct lent as a whole would lend all at once.
 #![tactic(auto)]
 
 mod calls;

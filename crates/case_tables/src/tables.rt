@@ -85,7 +85,7 @@ fn spoiled(rt: &impl Print, table: &mut [u8], place: u64, b: u64, n: u64) -> io:
     Ok(())
 }
 
-// So many bytes from a place on, if there are so many.
+// So many bytes from a place on, if there are so many. As case_fields' `room`, which lends them to be written: std has two such, too.
 fn part(bytes: &[u8], at: u64, n: u64) -> Option<&[u8]> {
     bytes.get(at as usize..)?.get(..n as usize)
 }

@@ -1,6 +1,7 @@
 // The lines of a text, some of them again for each turn.
 use line_fields::find;
 
+// No `Iterator`: `each` and `again` go back, so no law says how many lines are left. Not `Copy`: a copy would read on from its own place.
 #[derive(Drop)]
 pub struct Reader<'a> {
     rest: &'a [u8],
@@ -8,7 +9,7 @@ pub struct Reader<'a> {
     back: &'a [u8],
     turn: u64,
     turns: u64,
-    // The table's.
+    // The table's, which a case sets apart from its bytes.
     pub size: u64,
 }
 

@@ -27,7 +27,7 @@ fn own_ask(r: &[u8; 160]) -> Ask
 }
 
 // Whether a receipt counts. A member's is verified, and the blocks hashed for that are counted whatever the answer; a stranger's is not
-// verified.
+// verified. As quorum_tally's `member_of`, but asked the receipt's own question, so that a clause on either would hold what the other has not.
 fn check(roster: &[[u8; 40]], r: &[u8; 160]) -> Hashed<bool>
     requires { size (concat roster.now) ≤ 32 }
     ensures counts { result.value ≡ checked (concat roster.now) r.now }

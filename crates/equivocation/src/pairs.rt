@@ -42,7 +42,8 @@ fn conflict(r: &[u8; 160], s: &[u8; 160]) -> bool
         && stories_differ(r, s)
 }
 
-// The first place after p that makes a pair with it: both are marked, and they contradict each other.
+// The first place after p that makes a pair with it: both are marked, and they contradict each other. Marks and receipts stay two: of a
+// struct's field the proof does not know that each has 160 bytes (quorum_certify/src/places).
 fn second_of(marks: &[bool; 32], receipts: &[[u8; 160]], p: usize) -> Option<usize>
     requires { (receipt_count (concat receipts.now) ≤ 32) × (p < receipt_count (concat receipts.now)) }
     ensures { result ≡ second_for marks.now (concat receipts.now) p (receipt_count (concat receipts.now) - (p + 1)) }

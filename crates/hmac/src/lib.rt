@@ -8,7 +8,7 @@ ghost use Rattle.hmac.specs.Hmac.{short_key, padded, masked, hmac, key_blocks, t
 
 use octets::put;
 use refusal::{Hashed, Refusal, Refused};
-use sha256_digest::{digest_of, prefixed_digest};
+use sha256_digest::{TOO_LONG, digest_of, prefixed_digest};
 
 // The key as a block, hashed if it is longer than a block, and zero bytes after it; and the blocks that were hashed to make it.
 fn key_block(key: &[u8]) -> Hashed<[u8; 64]>
@@ -55,9 +55,6 @@ pub fn tag_of(key: &[u8], text: &[u8]) -> Hashed<[u8; 32]>
         blocks: key.blocks + inner.blocks + outer.blocks,
     }
 }
-
-// A message of so many bytes has 2^64 bits, more than FIPS 180-4 allows.
-const TOO_LONG: usize = 1 << 61;
 
 // Writes the tag of a text into a buffer of 32 bytes. Refused with 7, the buffer as it was: a buffer of another length, or
 // a key or a text that is too long to hash, the pad block before the text counted.

@@ -4,6 +4,7 @@
 use program::{has_arguments, write_out};
 use std::io::Write;
 
+// As rush's but for the text: one for both would be this one call.
 fn usage<W: Write>(output: &mut W) {
     let _ = write_out(
         output,

@@ -6,7 +6,8 @@ mod tables;
 
 pub use tables::{TableMut, TableRef};
 
-// How many logs and slots a table has.
+// How many logs and slots a table has. No bound stands in the type: a torn table's header says any counts, which are read before they
+// are tested.
 #[derive(Clone, Copy, PartialEq, Eq)]
 pub struct Counts {
     pub logs: usize,
@@ -103,7 +104,8 @@ pub struct Link {
     pub position: u64,
 }
 
-// A slot to be written, its value and digest lent.
+// A slot to be written, its value and digest lent. Numbers are `usize`, with bounds in the contracts: in narrower types each would be
+// converted wherever it is compared or is an index.
 #[derive(Clone, Copy)]
 pub struct Slot<'a> {
     pub owner: usize,

@@ -12,6 +12,7 @@ pub struct TableRef<'a> {
 }
 
 // A table of so many logs and slots, lent to be written.
+// Not `Copy`: it lends to be written.
 #[derive(Drop)]
 pub struct TableMut<'a> {
     pub table: &'a mut [u8],

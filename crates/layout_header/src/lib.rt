@@ -12,7 +12,8 @@ use layout::places::MARK;
 use layout::{Counts, Free};
 use octets::{array_at, put_array};
 
-// The number of logs, and that of slots.
+// The number of logs, and that of slots. That a header is there is asked here and of each reader: callers have it from the length of
+// the table, and would cut an array at each call.
 pub fn counts_of(table: &[u8]) -> Counts
     requires { header_size ≤ length table.now }
     ensures are { (result.logs ≡ logs_of table.now) × (result.slots ≡ slots_of table.now) }
@@ -57,7 +58,7 @@ pub fn put_free(table: &mut [u8], part: Free, n: usize)
     put_number::<2>(table, part.place(), n as u64);
 }
 
-// What a header says.
+// What a header says. What it says of the free slots are fields, and no struct of three: `Free` names each, and calls write them singly.
 #[derive(Clone, Copy)]
 pub struct Header<'a> {
     pub counts: Counts,
@@ -68,7 +69,8 @@ pub struct Header<'a> {
     pub key: &'a [u8; 32],
 }
 
-// The mark and the counts into the front of a table.
+// The mark and the counts into the front of a table. A part of a table that is lent to be written is a slice with its length required,
+// here and of rows and slots: an array lent out of a table was tried, and no clause could hand its writes back.
 fn write_counts(part: &mut [u8], counts: Counts)
     requires part_len { length part.old ≡ header_size }
     requires counts_bound { (counts.logs < 256) × (counts.slots < 65536) }

@@ -35,7 +35,8 @@ pub fn link_at(lent: TableRef, s: usize) -> Link
     read_link(array_at(lent.table, slot_offset(lent.counts.logs, s)))
 }
 
-// The value of slot s, as a part of the table.
+// The value of slot s, as a part of the table. Value and digest have a function each, since a contract names the field. A slot's
+// bounds stand in each contract and in no type: it would hold its table's counts, to be compared at each use.
 pub fn value_at(lent: TableRef, s: usize) -> &[u8; 32]
     requires { (1 ≤ s) × (s ≤ lent.counts.slots) }
     ensures { result.now ≡ (slot_at (read_table lent.entry.table.now).slots s).value }

@@ -33,7 +33,7 @@ pub enum Command {
     },
 }
 
-// The first field of a script line.
+// The first field of a script line. Apart from `Command`, whose cases hold numbers that are not read yet.
 #[derive(Clone, Copy)]
 pub enum Word {
     Format,

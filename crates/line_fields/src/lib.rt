@@ -16,7 +16,8 @@ pub fn find(s: &[u8], mark: u8) -> usize
     s.iter().position(|b| *b == mark).unwrap_or(s.len())
 }
 
-// The numbers of the fields from a place on: how many, and the first 19 of them.
+// The numbers of the fields from a place on: how many, and the first 19 of them. The count is by hand, since it goes on behind the last
+// number that is kept; the array is lent, and no Vec: there is no heap.
 pub fn numbers(s: &[u8], from: usize, values: &mut [u64]) -> Option<usize>
     requires { (from ≤ length s.now) × (values.old ≡ zeros 19) }
     ensures value { result ≡ count_of (numbers_of (fields_of (drop from s.now))) }

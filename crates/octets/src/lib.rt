@@ -26,8 +26,8 @@ pub fn array_at<const N: usize>(bytes: &[u8], at: usize) -> &[u8; N]
     bytes[at..at + N].as_array().unwrap()
 }
 
-// Writes the bytes of part from at on. Not by copy_from_slice: where out and part are both lent and the length is not known, the
-// compiler makes a call of memmove of it, and the archive for C may call memcpy alone.
+// Writes the bytes of part from at on. Buffer and place stand side by side (see line_write). Not by copy_from_slice: where out and part
+// are both lent and the length is not known, the compiler makes a call of memmove of it, and the archive for C may call memcpy alone.
 pub fn put(out: &mut [u8], at: usize, part: &[u8])
     requires { at + length part.now ≤ length out.old }
     ensures { out.new ≡ splice out.old at part.now }

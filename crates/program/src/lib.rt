@@ -67,6 +67,7 @@ pub fn read_full<R: Read>(input: &mut R, buf: &mut [u8]) -> io::Result<usize>
 }
 
 // The system's words for an error, in a buffer, up to a place: there is no heap, and no library of the kit beside std is used.
+// Not `Copy`: a large buffer.
 #[derive(Drop)]
 struct Words {
     bytes: [u8; 256],

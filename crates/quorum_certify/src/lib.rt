@@ -13,7 +13,8 @@ use refusal::{Hashed, Refusal, Refused};
 use roster::{is_permitted, items};
 
 // The verdict on a certificate of a station of `members` keepers, of which `needed` must agree. Refused with 7: a nonce of another
-// length than 32; 17: no such profile; 12: no roster of so many members; 9: not 0 to 32 whole receipts; 13: no pair is certified.
+// length than 32; 17: no such profile; 12: no roster of so many members; 9: not 0 to 32 whole receipts; 13: no pair is certified. The
+// parameters stand as C passes them; nonce, log and position are no `Question`, whose keeper each receipt gives.
 pub fn certify(
     members: u64,
     needed: u64,

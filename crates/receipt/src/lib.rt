@@ -52,8 +52,8 @@ impl TryFrom<u8> for Kind {
     }
 }
 
-// What a receipt says in numbers. The kind is a number, since `receipt_write: write` takes any: the cases write receipts of kinds that there
-// are not, to see them refused.
+// What a receipt says in numbers. The kind is one too: `receipt_write: write` is a call of the product, and its contract refuses no kind.
+// The cases write receipts of kinds that there are not, to see them refused.
 #[derive(Clone, Copy)]
 pub struct Facts {
     pub name: Name,
@@ -73,7 +73,7 @@ pub struct Attested<'a> {
     pub digest: &'a [u8; 32],
 }
 
-// A question's LOOKUP of a position, or END.
+// A question's LOOKUP of a position, or END; no Option, since END is a question of its own and not the want of a position.
 #[derive(Clone, Copy)]
 pub enum Ask {
     Lookup(u64),

@@ -1,4 +1,5 @@
-// The fields of a receipt, read from its bytes.
+// The fields of a receipt, read from its bytes: a function each, since a contract names its field. The name is compared as fixed bytes,
+// as document 01 has it, so there are two tests and no reading of it.
 #![tactic(auto, unfolding(receipt::specs::Attestation::read_attestation, receipt::specs::Attestation::LOOKUP, receipt::specs::Attestation::END))]
 
 ghost use Rattle.std.specs.Prelude.{◌≡◌};

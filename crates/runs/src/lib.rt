@@ -74,7 +74,8 @@ impl From<Comparison> for u8 {
     }
 }
 
-// The unequal pair of blocks nearest the ends: the place of its value in each run, and the digest before it.
+// The unequal pair of blocks nearest the ends: the place of its value in each run, and the digest before it. Fields by number, here and
+// below, and no arrays of two: contracts name each run.
 #[derive(Clone, Copy)]
 pub struct UnequalPair {
     pub at1: usize,

@@ -22,7 +22,7 @@ fn no_run(first: u64, values: &[u8]) -> bool
     n == 0 || n % 32 != 0 || first == 0 || u64::MAX - first < (n / 32 - 1) as u64
 }
 
-// A run by its parts, if it is one.
+// A run by its parts, if it is one. No `TryFrom<Run>`: both starts and the buffer are refused with 7 before either run with 14.
 fn whole_run<'a>(start: &'a [u8; 32], first: u64, values: &'a [u8]) -> Result<WholeRun<'a>, Refusal>
     ensures { MatchResult result (λ r. (whole r ≡ run start.now first values.now) × (no_run first values.now ≡ false)) (λ why. (why ≡ Refusal.NoRun) × (no_run first values.now ≡ true)) }
 {

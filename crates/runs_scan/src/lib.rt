@@ -13,7 +13,8 @@ use octets::equal;
 use refusal::Hashed;
 use runs::{Scan, UnequalPair, WholeRun};
 
-// The digest after value k, from the one before it.
+// The digest after value k, from the one before it. Run, place and digest are three: the digest changes in each turn, and a struct
+// would be made anew for each call.
 fn walked(run: &WholeRun, k: usize, digest: &[u8; 32]) -> Hashed<[u8; 32]>
     requires { k < count (whole run.now) }
     ensures { (result.value ≡ sha256 (block_from (whole run.now) k digest.now)) × (result.blocks ≡ 2) }

@@ -8,7 +8,7 @@ ghost use Rattle.script.specs.declared.Answer.TheVariants.{Plain};
 use refusal::Refusal;
 
 // What a line is answered, as the columns of its answer say it: a number alone; with its log's low and high position; or 0 with these
-// and what a receipt says.
+// and what a receipt says. Numbers, and no `Result`: a refused call has a row's columns too, and a kind is the letter of its column.
 #[derive(Clone, Copy)]
 pub enum Answer {
     Plain(u64),

@@ -16,6 +16,7 @@ use std::marker::Model;
 
 // A table of any size, at the start of room for the largest: there is no heap, and no library of the kit beside std is used. Before a
 // format it is empty, and torn.
+// Not `Copy`: a large buffer.
 #[derive(Drop)]
 pub struct Table {
     bytes: [u8; LARGEST],

@@ -8,6 +8,7 @@ use std::marker::Model;
 const KEPT: usize = 201;
 
 // The bytes of an unfinished line that are kept, in a buffer: there is no heap.
+// Not `Copy`: a large buffer.
 #[derive(Drop)]
 pub struct Held {
     bytes: [u8; KEPT],

@@ -6,6 +6,7 @@ use crate::held::Held;
 use script_lines::Table;
 
 // A script between two pieces: its table, the unfinished line, and the number of the next.
+// Not `Copy`: it has the table's buffer.
 #[derive(Drop)]
 pub struct Script {
     pub table: Table,
@@ -29,8 +30,8 @@ impl Script {
         }
     }
 
-    // Answers a piece: the answers to the lines that end in it go to the start of out. The place after them. Each line ends with a
-    // byte of the piece, so there is room.
+    // Answers a piece, in a loop and not by `split`: what stands behind the last newline is kept, and is no line. The answers to the
+    // lines that end in it go to the start of out. The place after them. Each line ends with a byte of the piece, so there is room.
     pub fn feed(&mut self, piece: &[u8], out: &mut [u8]) -> usize
         requires numbers { self.old.number + length piece.now < 2 ^ 64 }
         requires room { 168 * length piece.now ≤ length out.old }

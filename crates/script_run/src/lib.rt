@@ -1,5 +1,6 @@
 // A script read from standard input and answered on standard output: the loop of reads and writes.
-// Input, output, script and buffer are given one by one, not as a struct: the contracts speak of the script and the buffer alone.
+// Input, output, script and buffer are given one by one, not as a struct: what is required is of the script and the buffer alone, and no
+// two functions take the same of them.
 #![tactic(auto)]
 
 mod ending;
@@ -22,7 +23,7 @@ const PIECE: usize = 8192;
 // Room for the answers to a piece, each of whose bytes may end a line.
 const ANSWERS: usize = PIECE * ROOM;
 
-// The reads, at most: more than any input has.
+// The reads, at most: more than any input has. Counted, so that the loop is known to end.
 const READS: u64 = 1125899906842624;
 
 // The number of the line after these answers, the first of which has the given one.
@@ -95,7 +96,7 @@ fn read_all<R: Read, W: Write>(
     Err(Ending::Unread(io::Error::from_raw_os_error(0)))
 }
 
-// Says on standard error from which line on answers are missing.
+// Says on standard error from which line on answers are missing. Not by `printing`, which writes to standard output, for the tests.
 fn gap<E: Write>(errors: &mut E, number: u64, why: io::Error) {
     let _ = errors.write_all(b"keeper: answers are missing from line ");
     let mut digits = [0; 20];
@@ -120,7 +121,8 @@ fn answer_last<W: Write, E: Write>(
     }
 }
 
-// Answers the script on standard input: what is written is the heading and the answers to the lines read, or a front of them. Nothing is left of it that is neither answered nor said to be missing.
+// Answers the script on standard input: what is written is the heading and the answers to the lines read, or a front of them. Nothing is
+// left of it that is neither answered nor said to be missing.
 pub fn run<R: Read, W: Write, E: Write>(input: &mut R, output: &mut W, errors: &mut E)
     ensures { Ran (R.remaining input.old) (R.remaining input.new) (W.contents output.old) (W.contents output.new) }
 {

@@ -22,7 +22,8 @@ pub enum Subject {
 }
 
 // "A receipt verdict carries keeper, log, position, kind and reference; a certificate verdict carries the receipt's place and the member list ..; a
-// refused one carries its number". A kind and a refusal are numbers: the calls for C take any, and a sentence shows it.
+// refused one carries its number". A kind and a refusal are numbers: the calls for C take any, and a sentence shows it. No `Result`: a
+// refusal is said too.
 #[derive(Clone, Copy)]
 pub enum Said {
     Accepted {

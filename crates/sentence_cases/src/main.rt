@@ -10,7 +10,8 @@ use refusal::{Refusal, outcome_number};
 use sentence::Said;
 use std::io;
 
-// The number of bytes before the first zero. Not by `position`: its closure would need a fact of its own that it does not divide.
+// The number of bytes before the first zero. Not by `position`: tried, and the fact that the function does not divide did not close
+// over the closure.
 fn size(s: &[u8]) -> usize
     ensures { result ≤ length s.now }
 {
@@ -41,6 +42,7 @@ fn said<const N: usize>(rt: &impl Print, said: Said) -> io::Result<()>
     show(rt, outcome, &out)
 }
 
+// By number, here and below, as C passes it: some are no refusal's.
 fn receipt(rt: &impl Print, code: u8, values: [u64; 5]) -> io::Result<()> {
     said::<200>(rt, Said::of_receipt(code, &values))
 }

@@ -19,7 +19,8 @@ use std::marker::Model;
 // sets to zero in place: for more it makes a call of memset, and the archive for C may call memcpy alone.
 pub const ROOM: usize = 248;
 
-// The bytes written so far, and zeros behind them, which are a sentence's padding.
+// The bytes written so far, and zeros behind them, which are a sentence's padding; a buffer and a length, since there is no heap.
+// Not `Copy`: a large buffer.
 #[derive(Drop)]
 pub struct Text {
     bytes: [u8; ROOM],
@@ -69,7 +70,7 @@ impl Text {
         self.len = decimal::put(&mut self.bytes, self.len, n);
     }
 
-    // A kind by its word and its number.
+    // A kind by its word and its number: C passes any, here and below.
     pub fn kind(&mut self, kind: u64)
         requires { length self.old + 41 ≤ ROOM }
         ensures kind { self.new ≡ self.old ++ kind_text kind }

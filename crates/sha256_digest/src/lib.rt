@@ -81,7 +81,7 @@ pub fn prefixed_digest(block: &[u8; 64], text: &[u8]) -> Hashed<[u8; 32]>
 }
 
 // A message of so many bytes has 2^64 bits, more than FIPS 180-4 allows.
-const TOO_LONG: usize = 1 << 61;
+pub const TOO_LONG: usize = 1 << 61;
 
 // Writes the digest of a message into a buffer of 32 bytes. Refused with 7, the buffer as it was: a buffer of another
 // length, or a message longer than FIPS 180-4 allows.

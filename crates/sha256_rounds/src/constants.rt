@@ -4,6 +4,7 @@ ghost use Rattle.sha256.specs.Sha256.{K as Ks};
 
 // They are made where blocks are compressed, and every round there names its own: so the compiler writes each into the sum that takes it,
 // and stores none of them.
+// Not `Copy`: 256 bytes.
 #[derive(Drop)]
 pub struct Constants {
     words: [u32; 64],

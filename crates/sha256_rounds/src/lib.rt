@@ -28,6 +28,7 @@ fn round(v: [u32; 8], k: u32, w: u32) -> [u32; 8]
 }
 
 // The working variables and the next 16 words of the schedule.
+// Not `Copy`: each turn takes the window and gives the next.
 #[derive(Drop)]
 pub struct Window {
     pub w: [u32; 16],
@@ -53,7 +54,7 @@ fn turn(s: Window, k: u32) -> Window
     Window { v: after, w: next }
 }
 
-// Two turns, the first with the constant at t: a step of the unrolled sixteen, whose proof is by pairs.
+// Two turns, the first with the constant at t: a step of the unrolled sixteen, which are eight lines so, and eight joins in the proof.
 fn turns2(s: Window, k: &Constants, t: usize) -> Window
     requires { t + 2 ≤ 64 }
     ensures { result ≡ turns 2 s t }
@@ -87,7 +88,7 @@ pub fn turns48(s0: Window, k: &Constants) -> Window
     turns16::<32>(s, k)
 }
 
-// Two of the last rounds, which take the words that are left, the first with the word at t.
+// Two of the last rounds, which take the words that are left, the first with the word at t: in twos as the turns.
 fn rounds2(v: [u32; 8], w: &[u32; 16], k: &Constants, t: usize) -> [u32; 8]
     requires { t + 2 ≤ 16 }
     ensures { result ≡ last_rounds 2 v w.now t }

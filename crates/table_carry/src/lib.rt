@@ -26,7 +26,9 @@ use refusal::{Hashed, Refusal, Refused};
 use table::Met;
 use table_walks::{Form, free_walk, header_counts, held_walk};
 
-// Inner: whether a table is whole by document 01's own test; and if so, how many slots are free, and the last of the free chain.
+// Inner: whether a table is whole by document 01's own test; and if so, how many slots are free, and the last of the free chain. As
+// table_check's `found`, which shares header and walks, but without its tests of number, last slot and lack: an old table has none.
+// What the logs but one lack is not asked, so that any log will do.
 pub fn check01(old: &[u8]) -> Option<Met>
     ensures { result ≡ walk_of (whole01 old.now) (free_chain (read01 old.now)) }
 {

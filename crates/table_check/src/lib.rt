@@ -55,7 +55,7 @@ pub fn check(table: &[u8], log: u64) -> Result<Whole, Refusal>
     found(table, log).ok_or(Refusal::Torn)
 }
 
-// The check of a table. Refused with 1: torn.
+// The check of a table. Refused with 1: torn. What the logs but one lack is not asked, so that any log will do.
 pub fn is_whole(table: &[u8]) -> Result<(), Refusal>
     ensures { outcome_number result ≡ answer_of (whole_refusal table.now) }
 {

@@ -33,7 +33,8 @@ fn reserves_fit(reserves: &[u64], slots: u64) -> bool
 }
 
 // Fresh rows, one for each reserve, over the rows' part of a table. `table_carry` fills rows too, off an old table. One function over
-// a closure that gives the row was tried; its proof did not close: no ghost list can be picked at a closure that borrows.
+// a closure that gives the row was tried; its proof did not close: no ghost list can be picked at a closure that borrows. The
+// length of such a part is a product, so no array type can have it.
 fn fill_rows(part: &mut [u8], reserves: &[u64])
     requires reserves_len_bound { (length reserves.now ≤ 16) × (sum reserves.now ≤ 800) }
     requires part_len { length part.old ≡ row_size * length reserves.now }
@@ -107,7 +108,7 @@ fn fill(table: &mut [u8], slots: usize, keeper: u64, key: &[u8; 32], reserves: &
 }
 
 // Writes the table of so many logs and slots, every log fresh, with its reserve, and every slot free; or refuses, and changes
-// nothing. It hashes nothing.
+// nothing. It hashes nothing. The numbers stand one by one, as C passes them: they are not yet tested, so no `Counts`.
 pub fn format(
     table: &mut [u8],
     logs: u64,

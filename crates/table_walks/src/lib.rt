@@ -1,7 +1,8 @@
-// A table's parts in any layout: the test of its header, and its chains of slots, each walked once, no further than the table has slots. A slot is read with its zero byte, so that the walks
-// make the test of it. The slots are given as they stand, so that the chains of document 01's layout are walked by the same code.
-// The two loops stay `while`: they follow links and count no index. They stay two, since they differ in their tests: one walk over a
-// closure for the test would have a contract over what the closure keeps from slot to slot, and no fewer lines.
+// A table's parts in any layout: the test of its header, and its chains of slots, each walked once, no further than the table has slots.
+// A slot is read with its zero byte, so that the walks make the test of it. The slots are given as they stand, so that the chains of
+// document 01's layout are walked by the same code. The two loops stay `while`: they follow links and count no index. They stay two,
+// since they differ in their tests: one walk over a closure for the test would have a contract over what the closure keeps from slot to
+// slot, and no fewer lines.
 #![tactic(auto)]
 
 mod form;

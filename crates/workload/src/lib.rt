@@ -7,7 +7,7 @@ mod input;
 pub use generator::Generator;
 pub use input::ask;
 
-// A call that is drawn.
+// A call that is drawn. Not line's `Command`: a format is never drawn, and each match would need an arm for it.
 #[derive(Clone, Copy)]
 pub enum Draw {
     Append {
@@ -34,6 +34,7 @@ pub enum Draw {
 }
 
 // So many calls from a seed on. What is left of a script is one again, whose seed is the last draw.
+// Not `Copy`: an iterator.
 #[derive(Drop)]
 pub struct Script {
     pub seed: u64,
