@@ -82,13 +82,8 @@ pub fn judged(judgement: Result<Hashed<Accepted>, Refused>, verdict: &mut [u64; 
             kind,
             reference,
         } = done.value;
-        *verdict = [
-            keeper,
-            u64::from(log),
-            position,
-            u64::from(u8::from(kind)),
-            reference,
-        ];
+        let kind = u64::from(u8::from(kind));
+        *verdict = [keeper, u64::from(log), position, kind, reference];
     }
     worked(&judgement)
 }
