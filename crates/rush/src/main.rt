@@ -12,7 +12,7 @@ use workload::Script;
 const INPUT: usize = 202;
 
 // Writes all of the bytes. Of a write that stopped, why is all that is told: how much was taken does not matter here.
-// Not by `map_err`: tried, and the fact that the function does not divide did not close over the closure.
+// Not by `map_err`: its closure would need a fact of its own that it does not divide, as those of line_fields have; it is not written.
 fn write<W: Write>(output: &mut W, bytes: &[u8]) -> io::Result<()> {
     match write_out(output, bytes) {
         Ok(()) => Ok(()),

@@ -1,6 +1,6 @@
 // A script read from standard input and answered on standard output: the loop of reads and writes.
-// Input, output, script and buffer are given one by one, not as a struct: what is required is of the script and the buffer alone, and no
-// two functions take the same of them.
+// Input, output, script and buffer are given one by one: what is required is of the script and the buffer alone. `turn` and `read_all`
+// take the same four; a struct for these was not tried.
 #![tactic(auto)]
 
 mod ending;

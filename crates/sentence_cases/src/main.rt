@@ -10,8 +10,8 @@ use refusal::{Refusal, outcome_number};
 use sentence::Said;
 use std::io;
 
-// The number of bytes before the first zero. Not by `position`: tried, and the fact that the function does not divide did not close
-// over the closure.
+// The number of bytes before the first zero. Not by `position`: its closure would need a fact of its own that it does not divide, as
+// those of line_fields have; it is not written.
 fn size(s: &[u8]) -> usize
     ensures { result ≤ length s.now }
 {
