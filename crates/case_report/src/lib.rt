@@ -39,5 +39,5 @@ pub fn show(rt: &impl Print, t: &[u8], values: &[u64]) -> io::Result<()> {
 
 // A text with the number of a refusal and its blocks.
 pub fn refused(rt: &impl Print, t: &[u8], refused: Refused) -> io::Result<()> {
-    show(rt, t, &[u64::from(u8::from(refused.why)), refused.blocks])
+    show(rt, t, &[u8::from(refused.why) as u64, refused.blocks])
 }

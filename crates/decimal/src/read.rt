@@ -17,14 +17,14 @@ fn more(v: u64, b: u8) -> Option<u64>
         return None;
     }
     let tens = v * 10;
-    let digit = u64::from(b - b'0');
+    let digit = (b - b'0') as u64;
     if u64::MAX - tens < digit {
         return None;
     }
     Some(tens + digit)
 }
 
-// The number that s says.
+// The number that s says. Not by `?`, which calls code of std that has no fact that it does not divide.
 pub fn parse(s: &[u8]) -> Option<u64>
     ensures { result ≡ number_of s.now }
 {
@@ -33,7 +33,10 @@ pub fn parse(s: &[u8]) -> Option<u64>
     }
     let mut v = 0;
     for &b in s {
-        v = more(v, b)?;
+        let Some(next) = more(v, b) else {
+            return None;
+        };
+        v = next;
     }
     Some(v)
 }

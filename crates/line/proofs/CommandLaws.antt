@@ -1,5 +1,5 @@
 -- Laws of words, commands and reserves.
-use Rattle.std.proofs.Common.{◌≡◌, ℕ, ◌+◌, ◌≤◌, ◌<◌, Bool, true, false, cond, eqb, leb, List, [], ◌∷◌, Option, Some, None, length, drop, get_or, length-drop, refl, sym, ap, ap₂, ◌∙◌, arith}
+use Rattle.std.proofs.Common.{◌≡◌, ℕ, ◌+◌, ◌≤◌, ◌<◌, Bool, true, false, cond, eqb, leb, List, [], ◌∷◌, ◌++◌, Option, Some, None, length, take, drop, get_or, set, length-drop, get_or-drop, take-suc, take-suc-set, take_all, add-one, refl, sym, ap, ap₂, ◌∙◌, arith}
 use borrow.Author.Tests.{eq-eqb, ne_eqb, le-leb, lt-leb, eqb-true}
 use Rattle.line.specs.declared.Command.{Command}
 use Rattle.line.specs.declared.Command.TheVariants.{Format, Append, Advance, Truncate, Lookup, End}
@@ -21,6 +21,20 @@ taken k n c h = rw (eq-eqb n k h)
 -- another number than the command takes
 pub not_taken : (k n : ℕ) (c : Command) → (n ≡ k → ⊥) → None ≡ taking k n c
 not_taken k n c h = rw (ne_eqb n k h)
+
+-- ---- the numbers after a format's own three
+
+pub following-more : (v r : List ℕ) (i : ℕ) → i < length r → length v ≡ 3 + length r → take i r ≡ take i (drop 3 v)
+    → take (i + 1) (set r i (get_or v (3 + i) 0)) ≡ take (i + 1) (drop 3 v)
+following-more v r i h l e =
+    ap (λ (k : ℕ). take k (set r i (get_or v (3 + i) 0))) (add-one i)
+    ∙ take-suc-set r i (get_or v (3 + i) 0) h
+    ∙ ap₂ (λ (p : List ℕ) (x : ℕ). p ++ (x ∷ [])) e (sym (get_or-drop 3 v i 0))
+    ∙ sym (take-suc (drop 3 v) i 0 (omega (arith, length-drop 3 v)))
+    ∙ ap (λ (k : ℕ). take k (drop 3 v)) (sym (add-one i))
+
+pub following-all : (v r : List ℕ) (i : ℕ) → length r ≡ i → length v ≡ 3 + i → take i r ≡ take i (drop 3 v) → r ≡ drop 3 v
+following-all v r i h l e = sym (take_all i r (omega arith)) ∙ e ∙ take_all i (drop 3 v) (omega (arith, length-drop 3 v))
 
 -- ---- the numbers of which the first 19 are kept
 

@@ -1,28 +1,17 @@
 -- Laws of fields and numbers.
 use Prim.Native.Nat.{ℕ, suc, ◌+◌, ◌-◌, ◌≤◌, ◌<◌}
-use mathlib.Core.Path.{◌≡◌, refl, sym, ap, ap₂, subst, ◌∙◌}
+use mathlib.Core.Path.{◌≡◌, refl, sym, ap, ap₂, ◌∙◌}
 use mathlib.Core.Logic.{◌⊎◌, inl, inr}
-use mathlib.Core.Bool.{Bool, true, false, not, cond}
+use mathlib.Core.Bool.{Bool, true, false, cond}
 use mathlib.Core.List.{List, [], ◌∷◌, ◌++◌, append_assoc, append-nil}
 use Rattle.std.specs.Prelude.{Option, Some, None}
-use Rattle.std.specs.List.{slice_split, onto_first, position_or_len, position}
-use Rattle.std.specs.Option.{unwrap_or}
-use Rattle.std.specs.Fn.{CalledAt}
-use Rattle.std.specs.Iterator.{Yields}
-use Rattle.std.specs.Slice.Iter.{split_rest, split_done, split_callee, split_steps}
-use Rattle.std.specs.declared.slice.Split.{Split}
-use Rattle.std.proofs.lemmas.Iterator.{YieldsList}
-use Rattle.std.proofs.lemmas.Bool.{lt-ltb, le-ltb}
-use Rattle.std.proofs.lemmas.Iterator.Splits.{YieldsList-from_slice_split}
-use denote.Param.Members.{Mut}
-use denote.Ref.{Bor}
 use native.Mathlib.Omega.{arith}
 use native.Mathlib.Numerals.{add-one}
 use lib.ListN.{length, take, drop, get_or, set, length-append, length-drop, length-take, drop_of_length-le, take-append-drop}
 use native.Mathlib.Decide.{dec_le}
 use lib.Seq.{drop-cons, take_all}
 use lib.Dec.{eqb}
-use borrow.Author.Tests.{eqb-true}
+use borrow.Author.Tests.{eq-eqb, ne_eqb, eqb-true}
 use Rattle.decimal.specs.Decimal.{number_of}
 use Rattle.line.specs.Fields.{on_first, before, numbers_of, parts_of, up_to}
 use Rattle.line.specs.Command.{padded}
@@ -32,15 +21,19 @@ use Rattle.line.proofs.PaddedLaws.{padded-set, padded-full}
 -- ---- the part before the first mark
 
 module _ (mark : ℕ) where
-  -- the place of the mark, as the library's functions find it
-  pub before-mark : (l : List ℕ) → position_or_len (λ b. eqb b mark) l ≡ length (up_to mark l)
+  pub first-comma : (s : List ℕ) (i : ℕ) → i < length s → get_or s i 0 ≡ mark → length (up_to mark (drop i s)) ≡ 0
   unfolding up_to
-  before-mark [] = refl
-  before-mark (b ∷ l) = go (eqb b mark) (before-mark l)
-    where
-      go : (t : Bool) → position_or_len (λ b. eqb b mark) l ≡ length (up_to mark l) → cond (not t) (1 + position_or_len (λ b. eqb b mark) l) 0 ≡ length (cond t [] (b ∷ up_to mark l))
-      go true ih = refl
-      go false ih = omega (arith, ih)
+  first-comma s i h e = ap (λ (l : List ℕ). length (up_to mark l)) (drop-cons s i 0 h) ∙ rw (eq-eqb (get_or s i 0) mark e)
+
+  pub first_more : (s : List ℕ) (i : ℕ) → i < length s → (get_or s i 0 ≡ mark → ⊥) → length (up_to mark (drop i s)) ≡ suc (length (up_to mark (drop (i + 1) s)))
+  unfolding up_to
+  first_more s i h e =
+      ap (λ (l : List ℕ). length (up_to mark l)) (drop-cons s i 0 h)
+      ∙ rw (ne_eqb (get_or s i 0) mark e) (ap (λ (k : ℕ). suc (length (up_to mark (drop k s)))) (sym (add-one i)))
+
+  pub first-none : (s : List ℕ) (i : ℕ) → length s ≤ i → length (up_to mark (drop i s)) ≡ 0
+  unfolding up_to
+  first-none s i h = ap (λ (l : List ℕ). length (up_to mark l)) (drop_of_length-le s h)
 
   pub take-first : (l : List ℕ) → take (length (up_to mark l)) l ≡ up_to mark l
   unfolding up_to
@@ -77,6 +70,10 @@ module _ (mark : ℕ) where
     pub field-part : take e l ≡ up_to mark l
     field-part = ap (λ (k : ℕ). take k l) ends ∙ take-first l
 
+    -- nothing follows it
+    pub no-mark : e ≡ length l → up_to mark l ≡ l
+    no-mark h = sym (take-first l) ∙ take_all (length (up_to mark l)) l (omega (arith, ends, h))
+
     pub last-field : e ≡ length l → parts_of mark l ≡ up_to mark l ∷ []
     last-field h = fields-last l (sym ends ∙ h)
 
@@ -87,65 +84,6 @@ module _ (mark : ℕ) where
 
   pub length-up_to : (l : List ℕ) → length (up_to mark l) ≤ length l
   length-up_to l = omega (arith, ap length (take-first l), length-take (length (up_to mark l)) l)
-
--- the library's split finds the same parts
-pub split-parts : (mark : ℕ) (l : List ℕ) → slice_split (λ b. eqb b mark) l ≡ parts_of mark l
-unfolding parts_of
-split-parts mark [] = refl
-split-parts mark (b ∷ l) = ap₂ (λ (ps qs : List (List ℕ)). cond (eqb b mark) ([] ∷ ps) qs) (split-parts mark l) (onto (slice_split (λ b. eqb b mark) l) ∙ ap (on_first b) (split-parts mark l))
-  where
-    onto : (ps : List (List ℕ)) → onto_first b ps ≡ on_first b ps
-    onto [] = refl
-    onto (p ∷ ps) = refl
-
-pub length-parts : (mark : ℕ) (l : List ℕ) → length (parts_of mark l) ≤ length l + 1
-unfolding parts_of
-length-parts mark [] = omega arith
-length-parts mark (b ∷ l) = go (eqb b mark) (parts_of mark l) (length-parts mark l)
-  where
-    go : (t : Bool) (ps : List (List ℕ)) → length ps ≤ length l + 1 → length (cond t ([] ∷ ps) (on_first b ps)) ≤ length (b ∷ l) + 1
-    go true ps h = omega arith
-    go false [] h = omega arith
-    go false (p ∷ ps) h = omega arith
-
--- a split of what a text has from a place on, of which some parts were read, gives its parts, where the closure tests for the mark
-pub parts-read : {F : Type 0} {s t : Split ℕ F} {g : Mut F (Bor ℕ × Unit {0}) Bool} (xs : List (Bor (List ℕ))) (u : Split ℕ F) → Yields (split_steps g) t xs u → (mark : ℕ) {f : F} (l : List ℕ) (from : ℕ) → t ≡ s → split_rest s ≡ take (length l - from) (drop from l) → split_done s ≡ false → split_callee s ≡ f → ((x : ℕ) (b : Bool) (q : F) → CalledAt g f x b q → (q ≡ f) × (b ≡ eqb x mark)) → YieldsList (split_steps g) (λ x. x.now) t (parts_of mark (drop from l))
-parts-read {F} {s} {t} {g} xs u y mark l from is r d c h =
-    subst (λ (t : Split ℕ F). YieldsList (split_steps g) (λ x. x.now) t (parts_of mark (drop from l))) (sym is)
-    (subst (YieldsList (split_steps g) (λ x. x.now) s) (split-parts mark (drop from l))
-    (YieldsList-from_slice_split g (λ b. eqb b mark) (drop from l) (r ∙ take_all (length l - from) (drop from l) (omega (arith, length-drop from l))) d c h))
-
--- the library's search for a mark in l finds its place, or none
-module _ (mark : ℕ) (l : List ℕ) where
-  abbrev place : ℕ
-  place = position_or_len (λ b. eqb b mark) l
-
-  searched : ((position (λ b. eqb b mark) l ≡ Some place) × (place < length l)) ⊎ ((position (λ b. eqb b mark) l ≡ None) × (place ≡ length l))
-  searched = go (dec_le (length l) (position_or_len (λ b. eqb b mark) l))
-    where
-      go : Dec (length l ≤ place) → ((position (λ b. eqb b mark) l ≡ Some place) × (place < length l)) ⊎ ((position (λ b. eqb b mark) l ≡ None) × (place ≡ length l))
-      go (no h) = let k : place < length l = omega arith in inl (rw (lt-ltb place (length l) k) refl, k)
-      go (yes h) = inr (rw (le-ltb place (length l) h) refl, let k = h in omega (arith, before-mark mark l, length-up_to mark l))
-
-  module _ (o : Option ℕ) (is : o ≡ position (λ b. eqb b mark) l) where
-    -- the place, or the end
-    pub marked : (r : ℕ) → r ≡ unwrap_or o (length l) → (r ≡ length (up_to mark l)) × (r ≤ length l)
-    marked r u = elim searched [
-      | inl h ↦ let e : unwrap_or o (length l) ≡ place = ap (λ (o : Option ℕ). unwrap_or o (length l)) (is ∙ h.0) in (omega (arith, u, e, before-mark mark l), omega (arith, u, e, h.1))
-      | inr h ↦ let e : unwrap_or o (length l) ≡ length l = ap (λ (o : Option ℕ). unwrap_or o (length l)) (is ∙ h.0) in (omega (arith, u, e, h.1, before-mark mark l), omega (arith, u, e))
-    ]
-
-    pub at-mark : (e : ℕ) → o ≡ Some e → (e ≡ length (up_to mark l)) × (e < length l)
-    at-mark e q = elim searched [
-      | inl h ↦ let k : e ≡ place = cc in (omega (arith, k, before-mark mark l), omega (arith, k, h.1))
-      | inr h ↦ let z : ◌≡◌ {A = ℕ} 0 1 = cc in absurd (omega arith)
-    ]
-
-    pub no-mark : o ≡ None → up_to mark l ≡ l
-    no-mark q = elim searched [
-      | inl h ↦ let z : ◌≡◌ {A = ℕ} 0 1 = cc in absurd (omega arith)
-      | inr h ↦ sym (take-first mark l) ∙ take_all (length (up_to mark l)) l (omega (arith, h.1, before-mark mark l))
-    ]
 
 -- ---- numbers, some of them read
 
@@ -205,6 +143,20 @@ reading-none fields values h = record { ns = []; read = prepend-nil (numbers_of 
 pub reading-all : (fields : List (List ℕ)) (n : ℕ) (values : List ℕ) (r : Reading fields n values) → n ≡ length fields → numbers_of fields ≡ Some r.ns
 reading-all fields n values r h =
     r.read ∙ ap (λ (fs : List (List ℕ)). prepend r.ns (numbers_of fs)) (drop_of_length-le fields (omega arith)) ∙ numbers-end r.ns
+
+-- the fields to come begin with f
+module _ (fields : List (List ℕ)) (n : ℕ) (f : List ℕ) (fs : List (List ℕ)) (come : drop n fields ≡ f ∷ fs) where
+  short : n < length fields
+  short = omega (arith, ap length come, length-drop n fields)
+
+  split : f ∷ fs ≡ get_or fields n f ∷ drop (suc n) fields
+  split = sym come ∙ drop-cons fields n f short
+
+  pub next-field : (n < length fields) × (f ≡ get_or fields n f)
+  next-field = (short, let e = split in cc)
+
+  pub next-fields : drop (n + 1) fields ≡ fs
+  next-fields = rw (add-one n) (let e = split in cc)
 
 -- f is the next field
 module _ (fields : List (List ℕ)) (n : ℕ) (values : List ℕ) (r : Reading fields n values) (f : List ℕ) (at : (n < length fields) × (f ≡ get_or fields n f)) where

@@ -1,7 +1,7 @@
 // A script line read.
 #![tactic(auto)]
 
-ghost use Rattle.std.specs.Prelude.{◌≡◌};
+ghost use Rattle.std.specs.Prelude.{◌≡◌, drop};
 ghost use Rattle.line.specs.Command.{word_of, made, command_of};
 
 use line::{Command, Word};
@@ -30,6 +30,17 @@ fn word(w: &[u8]) -> Option<Word>
     Some(word)
 }
 
+// The numbers after a format's own three. By a loop: std's code has no fact that it does not divide.
+fn following(v: &[u64; 19]) -> [u64; 16]
+    ensures { result ≡ drop 3 v.now }
+{
+    let mut r = [0; 16];
+    for i in 0..16 {
+        r[i] = v[3 + i];
+    }
+    r
+}
+
 // The command of a word and n numbers, of which v holds the first. A format's reserves follow its own three.
 fn command(word: Word, n: usize, v: &[u64; 19]) -> Option<Command>
     ensures { result ≡ made word n v.now }
@@ -38,8 +49,7 @@ fn command(word: Word, n: usize, v: &[u64; 19]) -> Option<Command>
     let command = match word {
         Word::Format if 3 <= n && (n - 3) as u64 == v[0] => {
             let [logs, slots, keeper, ..] = *v;
-            let mut reserves = [0; 16];
-            reserves.copy_from_slice(&v[3..]);
+            let reserves = following(v);
             Command::Format {
                 logs,
                 slots,
@@ -73,8 +83,12 @@ pub fn parse(line: &[u8]) -> Option<Command>
     if e == line.len() {
         return None;
     }
-    let word = word(&line[..e])?;
+    let Some(word) = word(&line[..e]) else {
+        return None;
+    };
     let mut v = [0; 19];
-    let n = numbers(line, e + 1, &mut v)?;
+    let Some(n) = numbers(line, e + 1, &mut v) else {
+        return None;
+    };
     command(word, n, &v)
 }

@@ -32,6 +32,6 @@ impl From<Refusal> for Answer {
     ghost from_gives = { λ why a. a ≡ Plain (number_of why) };
 
     fn from(why: Refusal) -> Self {
-        Answer::Plain(u64::from(u8::from(why)))
+        Answer::Plain(u8::from(why) as u64)
     }
 }

@@ -55,7 +55,7 @@ fn refused(table: &[u8], log: u64, why: Refusal) -> Answer
         _ => {
             let row = row_of(table, log);
             Answer::Bounded {
-                number: u64::from(u8::from(why)),
+                number: u8::from(why) as u64,
                 low: row.low,
                 high: row.high,
             }

@@ -17,7 +17,12 @@ const ANSWERS: usize = SCRIPT * ROOM;
 fn answers(rt: &impl Print, text: &[u8]) -> io::Result<()> {
     let mut script = Script::new();
     let mut out = buffer::<ANSWERS>();
-    let to = script.feed(&text[..text.len().min(SCRIPT)], &mut out);
+    let size = if text.len() < SCRIPT {
+        text.len()
+    } else {
+        SCRIPT
+    };
+    let to = script.feed(&text[..size], &mut out);
     rt.write_all(&out[..to])
 }
 

@@ -39,6 +39,26 @@ impl Table {
         Table { bytes, size: 0 }
     }
 
+    // A table that is given.
+    pub fn of(bytes: &[u8]) -> Self
+        requires { length bytes.now ≤ largest }
+        ensures { result ≡ bytes.now }
+    {
+        let mut room = [0; LARGEST];
+        octets::put(&mut room, 0, bytes);
+        Table {
+            bytes: room,
+            size: bytes.len(),
+        }
+    }
+
+    // Its bytes.
+    pub fn bytes(&self) -> &[u8]
+        ensures { result.now ≡ self.now }
+    {
+        &self.bytes[..self.size]
+    }
+
     // A new table, of its own size, where there is room for it. Its reserves are the first.
     fn format(&mut self, logs: u64, slots: u64, keeper: u64, reserves: [u64; 16]) -> Answer
         ensures { Turns self.old (Some (Format logs slots keeper reserves)) (take logs reserves) self.new result }

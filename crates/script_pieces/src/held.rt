@@ -38,10 +38,10 @@ impl Held {
         ensures kept { self.new ≡ cut (self.old ++ part.now) }
         ensures were_few { length self.old ≤ 201 }
     {
-        let n = part.len().min(KEPT - self.kept);
-        let end = self.kept + n;
-        self.bytes[self.kept..end].copy_from_slice(&part[..n]);
-        self.kept = end;
+        let room = KEPT - self.kept;
+        let n = if part.len() < room { part.len() } else { room };
+        octets::put(&mut self.bytes, self.kept, &part[..n]);
+        self.kept += n;
     }
 
     pub fn line(&self) -> &[u8]

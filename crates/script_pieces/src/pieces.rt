@@ -3,6 +3,7 @@ ghost use Rattle.std.specs.Prelude.{◌≡◌, [], ◌+◌, ◌*◌, ◌≤◌, 
 ghost use Rattle.script.specs.Stream.{Feeds, Finishes};
 
 use crate::held::Held;
+use line_fields::find;
 use script_lines::Table;
 
 // A script between two pieces: its table, the unfinished line, and the number of the next.
@@ -30,7 +31,7 @@ impl Script {
         }
     }
 
-    // Answers a piece, in a loop and not by `split`: what stands behind the last newline is kept, and is no line. The answers to the
+    // Answers a piece, in a loop and not by `split`, which has no fact that it does not divide: what stands behind the last newline is kept, and is no line. The answers to the
     // lines that end in it go to the start of out. The place after them. Each line ends with a byte of the piece, so there is room.
     pub fn feed(&mut self, piece: &[u8], out: &mut [u8]) -> usize
         requires numbers { self.old.number + length piece.now < 2 ^ 64 }
@@ -39,15 +40,18 @@ impl Script {
     {
         let mut to = 0;
         let mut rest = piece;
-        while let Some(e) = rest.iter().position(|b| *b == b'\n') {
+        loop {
+            let e = find(rest, b'\n');
+            if e == rest.len() {
+                self.held.keep(rest);
+                return to;
+            }
             self.held.keep(&rest[..e]);
             to = self.table.answer(out, to, self.number, self.held.line());
             self.held.forget();
             self.number += 1;
             rest = &rest[e + 1..];
         }
-        self.held.keep(rest);
-        to
     }
 
     // Answers the last line of a script, where it lacks its newline: its answer goes to the start of out. The place after it.

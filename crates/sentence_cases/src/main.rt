@@ -24,7 +24,7 @@ fn size(s: &[u8]) -> usize
 }
 
 fn show(rt: &impl Print, outcome: Result<(), Refusal>, s: &[u8]) -> io::Result<()> {
-    number(rt, u64::from(outcome_number(outcome)))?;
+    number(rt, outcome_number(outcome) as u64)?;
     text(rt, b" ")?;
     let n = size(s);
     text(rt, &s[..n])?;

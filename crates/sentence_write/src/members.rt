@@ -24,7 +24,7 @@ pub fn put(text: &mut Text, mask: u32)
     for i in 0..u32::BITS {
         if mask >> i & 1 == 1 {
             text.words(lead);
-            text.number(u64::from(i));
+            text.number(i as u64);
             lead = b", ";
         }
     }

@@ -48,7 +48,7 @@ pub fn put(text: &mut Text, said: Said)
         }
         Said::Refused { subject, number } => {
             text.words(beginning(subject));
-            text.number(u64::from(number));
+            text.number(number as u64);
             text.words(b"): ");
             text.reason(subject, number);
             text.words(b".");

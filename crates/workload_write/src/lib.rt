@@ -111,7 +111,7 @@ pub fn begin(text: &[u8], out: &mut [u8]) -> (Script, usize)
             (script, format.len())
         }
         Err(why) => {
-            let to = decimal::put(out, 0, u64::from(u8::from(why)));
+            let to = decimal::put(out, 0, u8::from(why) as u64);
             out[to] = b'\n';
             (Script { seed: 0, count: 0 }, to + 1)
         }

@@ -1,6 +1,5 @@
 -- `line_read::command` meets its contract.
 use Rattle.std.proofs.Common.{◌≡◌, ℕ, ◌+◌, List, [], ◌∷◌, Some, get_or, drop, length-drop, refl, sym, ap, ◌∙◌, arith}
-use Rattle.std.proofs.Math.Seq.{take_all}
 use Rattle.line.specs.declared.Command.TheVariants.{Format}
 use Rattle.line.specs.declared.Word.TheVariants as word
 use Rattle.line.specs.Command.{padded}
@@ -10,11 +9,11 @@ use Rattle.octets.specs.Undivided.{Undivided}
 use Rattle.line_read.proofs.command.Code.Mir.{function}
 use Rattle.line_read.proofs.command.Goals as goal
 
-pub undivided : Undivided ("core::clone::U64Clone::clone" ∷ "core::slice::edits::slice+T::copy_from_slice" ∷ []) function
+pub undivided : Undivided ("line_read::following" ∷ []) function
 undivided = refl
 
 pub returns-in-Format : goal.returns-in-Format
 returns-in-Format c =
     let v : List ℕ = c.args.v.now in
-    let r : c.copy_from_slice.new.self ≡ padded 16 (drop 3 v) = c.copy_from_slice.ensures.after ∙ take_all 16 (drop 3 v) (omega (arith, length-drop 3 v)) ∙ sym (padded-all 16 (drop 3 v) (omega (arith, length-drop 3 v))) in
-    as_made c.args.word word.Format c.args.n v (Some (Format (get_or v 0 0) (get_or v 1 0) (get_or v 2 0) c.copy_from_slice.new.self)) c.in-Format.is (ap (λ (l : List ℕ). Some (Format (get_or v 0 0) (get_or v 1 0) (get_or v 2 0) l)) r ∙ taken (3 + get_or v 0 0) c.args.n _ (omega arith))
+    let r : c.following-reserves.result ≡ padded 16 (drop 3 v) = c.following-reserves.ensures ∙ sym (padded-all 16 (drop 3 v) (omega (arith, length-drop 3 v))) in
+    as_made c.args.word word.Format c.args.n v (Some (Format (get_or v 0 0) (get_or v 1 0) (get_or v 2 0) c.following-reserves.result)) c.in-Format.is (ap (λ (l : List ℕ). Some (Format (get_or v 0 0) (get_or v 1 0) (get_or v 2 0) l)) r ∙ taken (3 + get_or v 0 0) c.args.n _ (omega arith))

@@ -4,5 +4,5 @@ use mathlib.Core.Path.{refl}
 use Rattle.octets.specs.Undivided.{Undivided}
 use Rattle.sentence_cases.proofs.show.Code.Mir.{function}
 
-pub undivided : Undivided ("core::convert::AnyFrom::from" ∷ "core::convert::U64FromU8::from" ∷ "core::result::ResultFromResidualErrResidual::from_residual" ∷ "core::result::ResultTry::branch" ∷ "printing::hex" ∷ "printing::number" ∷ "printing::text" ∷ "refusal::outcome_number" ∷ "sentence_cases::size" ∷ []) function
+pub undivided : Undivided ("core::convert::AnyFrom::from" ∷ "core::result::ResultFromResidualErrResidual::from_residual" ∷ "core::result::ResultTry::branch" ∷ "printing::hex" ∷ "printing::number" ∷ "printing::text" ∷ "refusal::outcome_number" ∷ "sentence_cases::size" ∷ []) function
 undivided = refl

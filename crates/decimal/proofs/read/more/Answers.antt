@@ -1,7 +1,7 @@
 -- `decimal::read::more` meets its contract.
-use Rattle.std.proofs.Common.{[], ◌∷◌, refl}
+use Rattle.std.proofs.Common.{[], refl}
 use Rattle.octets.specs.Undivided.{Undivided}
 use Rattle.decimal.proofs.read.more.Code.Mir.{function}
 
-pub undivided : Undivided ("core::convert::U64FromU8::from" ∷ []) function
+pub undivided : Undivided [] function
 undivided = refl

@@ -3,5 +3,5 @@ use Rattle.std.proofs.Common.{[], ◌∷◌, refl}
 use Rattle.octets.specs.Undivided.{Undivided}
 use Rattle.script.proofs.AnswerFromRefusal.from.Code.Mir.{function}
 
-pub undivided : Undivided ("core::convert::U64FromU8::from" ∷ "refusal::U8FromRefusal::from" ∷ []) function
+pub undivided : Undivided ("refusal::U8FromRefusal::from" ∷ []) function
 undivided = refl

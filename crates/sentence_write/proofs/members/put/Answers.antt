@@ -13,7 +13,7 @@ use Rattle.sentence_write.proofs.members.put.Goals as goal
 use Rattle.sentence_write.proofs.members.put.Goals.{then-all-eq1, else-all-eq1, then-mask-i-eq1, else-mask-i-eq1}
 use lib.Count.{ones}
 
-pub undivided : Undivided ("core::convert::U64FromU32::from" ∷ "sentence_words::Text::number" ∷ "sentence_words::Text::words" ∷ []) function
+pub undivided : Undivided ("sentence_words::Text::number" ∷ "sentence_words::Text::words" ∷ []) function
 undivided = refl
 
 pub returns-then-all-eq0-clause-list : goal.returns-then-all-eq0-clause-list
@@ -70,7 +70,7 @@ loop-i-preserved c =
       | then-mask-i-eq1 w ↦
           let set : mask / 2 ^ i % 2 ≡ 1 = sym (and_mask (mask / 2 ^ i) 1) ∙ w.if-mask-i-eq1.true in
           record {
-            text = rw (w.text-is, w.number.ensures.digits, w.from.ensures, w.words-then-mask-i-eq1.ensures, c.loop-i.invariant.text, c.loop-i.invariant.next, list-more all i mask set) (simp append_assoc);
+            text = rw (w.text-is, w.number.ensures.digits, w.words-then-mask-i-eq1.ensures, c.loop-i.invariant.text, c.loop-i.invariant.next, list-more all i mask set) (simp append_assoc);
             next = rw (w.lead-is, comma all mask i set) refl;
           }
       | else-mask-i-eq1 w ↦

@@ -12,7 +12,7 @@ use Rattle.octets.specs.Undivided.{Undivided}
 use Rattle.sentence_write.proofs.sentences.put.Code.Mir.{function}
 use Rattle.sentence_write.proofs.sentences.put.Goals as goal
 
-pub undivided : Undivided ("core::convert::U64FromU8::from" ∷ "sentence_words::Text::kind" ∷ "sentence_words::Text::number" ∷ "sentence_words::Text::reason" ∷ "sentence_words::Text::words" ∷ "sentence_write::members::put" ∷ "sentence_write::sentences::beginning" ∷ []) function
+pub undivided : Undivided ("sentence_words::Text::kind" ∷ "sentence_words::Text::number" ∷ "sentence_words::Text::reason" ∷ "sentence_words::Text::words" ∷ "sentence_write::members::put" ∷ "sentence_write::sentences::beginning" ∷ []) function
 undivided = refl
 
 -- the number 0 is written with the words around it
@@ -63,7 +63,6 @@ returns-in-Refused c = rw c.in-Refused.is (simp (
   c.reason.ensures.reason,
   c.words-in-Refused-2.ensures,
   c.number-in-Refused.ensures.digits,
-  c.from.ensures,
   c.words-in-Refused.ensures,
   c.beginning.ensures.words,
   c.requires,

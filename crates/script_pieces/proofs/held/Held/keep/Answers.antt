@@ -1,25 +1,37 @@
 -- `script_pieces::held::Held::keep` meets its contract.
-use Rattle.std.proofs.Common.{◌≡◌, ℕ, ◌+◌, List, [], ◌∷◌, ◌++◌, length, take, refl, ap, ◌∙◌, arith}
-use Rattle.std.proofs.lemmas.Slice.{take-put_mid}
-use Rattle.std.proofs.Math.Seq.{length-take-le}
+use Rattle.std.proofs.Common.{◌≡◌, ℕ, ◌+◌, ◌-◌, ◌≤◌, min, List, [], ◌∷◌, ◌++◌, length, take, drop, refl, sym, ap, ◌∙◌, arith}
+use Rattle.std.proofs.Math.Seq.{length-take-le, take-append-add, take-append_seam}
+use Rattle.octets.specs.Octets.{splice}
 use Rattle.script.specs.Stream.{cut}
 use Rattle.script.proofs.StreamLaws.{kept-bytes}
 use Rattle.octets.specs.Undivided.{Undivided}
 use Rattle.script_pieces.proofs.held.Held.keep.Code.Mir.{function}
 use Rattle.script_pieces.proofs.held.Held.keep.Goals as goal
+use Rattle.script_pieces.proofs.held.Held.keep.Goals.{then-part-room, else-part-room}
 
-pub undivided : Undivided ("core::clone::U8Clone::clone" ∷ "core::int::usize::min" ∷ "core::slice::edits::slice+T::copy_from_slice" ∷ []) function
+pub undivided : Undivided ("octets::put" ∷ []) function
 undivided = refl
+
+-- the front of a buffer that a part was written into, up to the part's end
+front : (l x : List ℕ) (k n : ℕ) → k ≤ length l → length x ≡ n → take (k + n) (splice l k x) ≡ take k l ++ x
+unfolding splice
+front l x k n fits size =
+    let z : length (take k l) ≡ k = length-take-le k l fits in
+    ap (λ (m : ℕ). take (m + n) (take k l ++ (x ++ drop (k + length x) l))) (sym z)
+    ∙ take-append-add (take k l) (x ++ drop (k + length x) l) n
+    ∙ ap (λ (m : ℕ). take k l ++ take m (x ++ drop (k + length x) l)) (sym size)
+    ∙ ap (λ (y : List ℕ). take k l ++ y) (take-append_seam x _)
 
 pub returns-clause-kept : goal.returns-clause-kept
 returns-clause-kept c =
     let l : List ℕ = c.self.inside.bytes in
     let k : ℕ = c.self.inside.kept in
-    let n : ℕ = c.min-n.result in
+    let n : ℕ = c.if-part-room.n in
     let p : List ℕ = c.args.part.now in
-    let s : c.copy_from_slice.new.self ≡ take n p = c.copy_from_slice.ensures.after in
+    let least : n ≡ min (length p) (201 - k) = elim c.if-part-room.branch [ then-part-room w ↦ omega (arith, w.n-is, w.if-part-room.true) | else-part-room w ↦ omega (arith, w.n-is, w.if-part-room.false) ] in
     let z : length (take k l) ≡ k = length-take-le k l (omega arith) in
-    take-put_mid k _ l c.copy_from_slice.new.self (k + n) (omega (arith, ap length s, length-take-le n p (omega arith))) (omega arith)
-    ∙ ap (λ (x : List ℕ). take k l ++ x) s
-    ∙ kept-bytes (take k l) p n (omega arith) (omega arith)
+    let size : length (take n p) ≡ n = length-take-le n p (omega (arith, least)) in
+    ap (λ (x : List ℕ). take (k + n) x) c.put.ensures
+    ∙ front l (take n p) k n (omega arith) size
+    ∙ kept-bytes (take k l) p n (omega (arith, z)) (omega (arith, z, least))
     ∙ ap (λ (h : List ℕ). cut (h ++ p)) c.self.view_is
