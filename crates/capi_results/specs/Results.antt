@@ -1,9 +1,12 @@
 -- What C gets of each answer: the number returned, and each result after the call. The blocks are returned with the number
 -- (document 02 [2]: "a refusal returns its number with them"), so that a refusal leaves every result as it was.
-use Rattle.std.specs.Prelude.{ℕ, cond, List, [], ◌∷◌, eqb, get_or}
+use Rattle.std.specs.Prelude.{ℕ, cond, List, [], ◌∷◌, eqb, get_or, Result, Ok, Err}
 use Rattle.std.proofs.Math.Option.{Option, none, some}
 use Rattle.a2m.specs.Call.{Reply, refused, done, found, ended, numbered}
-use Rattle.refusal.specs.Answer.{Answer}
+use Rattle.refusal.specs.Number.{number_of}
+use Rattle.refusal.specs.declared.Hashed.{Hashed}
+use Rattle.refusal.specs.declared.Refused.{Refused}
+use Rattle.refusal.specs.Answer.{Answer, answer}
 use Rattle.runs.specs.Compare.{Verdict}
 use Rattle.runs.specs.Call.{verdict_code}
 
@@ -46,6 +49,11 @@ abbrev pub position_after : Answer → ℕ → ℕ
 position_after a old = cond (eqb a.number 0) (get_or a.values 0 0) old
 
 -- ---- the verifier and certificates
+
+-- a verdict that says its numbers as they are, or a refusal
+abbrev pub numbers_answer : Result (Hashed (List ℕ)) Refused → Answer
+numbers_answer (Ok h) = answer 0 h.value
+numbers_answer (Err r) = answer (number_of r.why) []
 
 -- a verdict's five numbers: keeper, log, position, kind and reference
 abbrev pub verdict_after : Answer → List ℕ → List ℕ

@@ -9,7 +9,7 @@ ghost use Rattle.receipt.specs.Verdict.{verdict_answer, verdict_blocks};
 ghost use Rattle.quorum.specs.Certificate.{station_answer, station_blocks};
 ghost use Rattle.equivocation.specs.Pairs.{contradiction_answer, contradiction_blocks};
 ghost use Rattle.runs.specs.Call.{comparison_answer, comparison_blocks};
-ghost use Rattle.capi_results.specs.Results.{reply_number, low_after, high_after, examined_after, verdict_after, place_after, mask_after, found_after, first_after, second_after, code_after};
+ghost use Rattle.capi_results.specs.Results.{reply_number, low_after, high_after, examined_after, numbers_answer, verdict_after, place_after, mask_after, found_after, first_after, second_after, code_after};
 
 use a2m::Bounds;
 use equivocation::Pair;
@@ -86,6 +86,21 @@ pub fn judged(judgement: Result<Hashed<Accepted>, Refused>, verdict: &mut [u64; 
         *verdict = [keeper, u64::from(log), position, kind, reference];
     }
     worked(&judgement)
+}
+
+// The same of a verdict whose five numbers are at hand: keeper, log, position, kind and reference, whatever the kind's number.
+pub fn judged_numbers(
+    numbers: Result<Hashed<[u64; 5]>, Refused>,
+    verdict: &mut [u64; 5],
+) -> KeeperResult
+    ensures answer { result.number ≡ (numbers_answer numbers).number }
+    ensures blocks { result.blocks ≡ worked_blocks numbers }
+    ensures verdict { verdict.new ≡ verdict_after (numbers_answer numbers) verdict.old }
+{
+    if let Ok(done) = &numbers {
+        *verdict = done.value;
+    }
+    worked(&numbers)
 }
 
 // The result of a certificate, and what one that stands says: the place of its receipt, and the members.

@@ -20,6 +20,7 @@ impl Cells<'_> {
     ghost use Rattle.std.specs.Prelude.{◌≡◌, ◌≤◌};
     ghost use Rattle.layout.specs.Image.{slot_at};
     ghost use Rattle.layout.specs.Changes.{link_of};
+    ghost use Rattle.layout.specs.Layout.{cells_from};
     ghost use Rattle.layout.specs.Strict.{strict_from};
     ghost use Rattle.layout.specs.Tests.{blank};
 
@@ -36,6 +37,14 @@ impl Cells<'_> {
             owner: link.owner + 256 * number_at::<1>(part, 1) as usize,
             ..link
         }
+    }
+
+    // The same as it stands, whatever the zero byte is.
+    pub fn plain_link(self, s: usize) -> Link
+        requires { (1 ≤ s) × (s ≤ self.slots) }
+        ensures { result ≡ link_of (slot_at (cells_from self.entry.table.now self.entry.start self.entry.slots) s) }
+    {
+        read_link(array_at(self.table, self.start + SLOT * (s - 1)))
     }
 
     // Whether the position, value and digest of slot s are zero. Put into the walk, so that what the walk keeps stays in registers.

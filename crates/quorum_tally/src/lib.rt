@@ -1,11 +1,14 @@
 // The tally of a certificate: each receipt is verified once.
 #![tactic(auto)]
 
-ghost use Rattle.std.specs.Prelude.{◌≡◌, ◌≤◌, length};
+ghost use Rattle.std.specs.Prelude.{◌≡◌, ◌*◌, ◌≤◌, length};
 ghost use Rattle.std.specs.List.{concat};
+ghost use Rattle.receipt.specs.Attestation.{receipt_size};
+ghost use Rattle.roster.specs.Roster.{size};
 ghost use Rattle.quorum.specs.Certificate.{receipt_blocks};
 ghost use Rattle.quorum.specs.Tally.{good_member, Tallied, blocks_below};
 
+use octets::array_at;
 use receipt::{Ask, Kind, Question};
 use receipt_fields::keeper_of;
 use receipt_verify::verify;
@@ -81,4 +84,23 @@ pub fn tally_of(
         value: members,
         blocks,
     }
+}
+
+// The tally of the first receipts of a certificate, with the items of a roster, whatever stands behind them in either.
+pub fn tally_in(
+    roster: &[u8],
+    nonce: &[u8],
+    log: u64,
+    position: u64,
+    cert: &[u8],
+    count: usize,
+) -> Hashed<[Option<u8>; 32]>
+    requires receipt_size_in_bounds { (count * receipt_size ≤ length cert.now) × ((count ≤ 32) × (size roster.now ≤ 32)) }
+    requires nonce_len { length nonce.now ≡ 32 }
+    ensures members { Tallied roster.now nonce.now log position cert.now count result.value }
+    ensures blocks { result.blocks ≡ blocks_below roster.now cert.now count }
+{
+    let (items, _) = roster.as_chunks::<40>();
+    let (pile, _) = cert[..count * 160].as_chunks::<160>();
+    tally_of(items, array_at::<32>(nonce, 0), log, position, pile)
 }

@@ -8,6 +8,7 @@ use borrow.Author.Tests.{eqb-true, eqb-false}
 use Rattle.std.specs.Bool.{◌==◌}
 use mathlib.Core.List.{List, [], ◌∷◌, ◌++◌}
 use lib.ListN.{length, get_or, take, drop, length-append, length-drop, take-append-drop}
+use lib.Seq.{take-add}
 use Rattle.std.proofs.lemmas.List.{nil_from_length}
 use Rattle.std.specs.List.{concat}
 use Rattle.std.specs.Simd.{first_chunks}
@@ -38,6 +39,13 @@ pub concat-first_chunks : (n k : ℕ) (l : List ℕ) → length l ≡ k * n → 
 concat-first_chunks n zero l h = sym (nil_from_length l (h ∙ zero-mul n))
 concat-first_chunks n (suc k) l h =
     ap (λ (t : List ℕ). take n l ++ t) (concat-first_chunks n k (drop n l) (simp length-drop (omega (arith, suc-mul k n)))) ∙ take-append-drop n l
+
+-- whatever stands behind them
+pub concat-front : (n k : ℕ) (l : List ℕ) → concat (first_chunks n k l) ≡ take (k * n) l
+concat-front n zero l = ap (λ (m : ℕ). take m l) (sym (zero-mul n))
+concat-front n (suc k) l =
+    let e : n + k * n ≡ suc k * n = omega (arith, suc-mul k n) in
+    ap (λ (t : List ℕ). take n l ++ t) (concat-front n k (drop n l)) ∙ sym (take-add n (k * n) l) ∙ ap (λ (m : ℕ). take m l) e
 
 pub cut : (n : ℕ) (l : List ℕ) (xs : List (List ℕ)) → xs ≡ first_chunks (suc n) (length l / suc n) l → length l % suc n ≡ 0 → concat xs ≡ l
 cut n l xs e h = ap concat e ∙ concat-first_chunks (suc n) (length l / suc n) l (omega arith)

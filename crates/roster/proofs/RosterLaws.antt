@@ -1,8 +1,8 @@
 -- Rosters: one step of the search and of the test, the ways out of the test, and its agreement with the conditions.
 use mathlib.Core.Path.{◌≡◌, refl, sym, ap, ap₂, ◌∙◌}
 use mathlib.Core.Logic.{◌↔◌, ⊎_elim}
-use Prim.Native.Nat.{ℕ, zero, suc, ◌-◌, ◌*◌, ◌/◌, ◌%◌, ◌≤◌, ◌<◌}
-use native.Mathlib.Nat.{not-suc-le-zero, add-zero}
+use Prim.Native.Nat.{ℕ, zero, suc, ◌+◌, ◌-◌, ◌*◌, ◌/◌, ◌%◌, ◌≤◌, ◌<◌}
+use native.Mathlib.Nat.{not-suc-le-zero, add-zero, zero-add}
 use native.Mathlib.Omega.{arith}
 use mathlib.Core.Bool.{Bool, true, false, not, ◌&&◌, cond}
 use mathlib.Core.List.{List, []}
@@ -11,7 +11,7 @@ use Rattle.std.proofs.lemmas.List.{get_or-take, length-take-le}
 use Rattle.std.specs.List.{concat}
 use lib.Dec.{eqb}
 use borrow.Author.Tests.{eq-eqb, ne_eqb, eqb-true, eqb-false, not-true}
-use Rattle.octets.proofs.Parts.{length_part}
+use Rattle.octets.proofs.Parts.{length_part, part-part}
 use Rattle.octets.proofs.Tests.{and_left, and_right, and_both, and-false, equal_or_not}
 use Rattle.octets.specs.Octets.{part}
 use Rattle.bigendian.specs.BigEndian.{unbe}
@@ -19,6 +19,7 @@ use Rattle.roster.proofs.OnEnd.{Each, length-concat, part-concat}
 use Rattle.roster.specs.Roster.{size, keeper_at, key_at, absent, distinct, is_roster, IsRoster}
 use Rattle.roster.specs.Roster.{member}
 use Rattle.std.specs.Option.{is_some}
+use Rattle.std.specs.Prelude.{Option}
 use Rattle.std.specs.declared.option.Option.TheVariants.{Some, None}
 
 module _ (roster : List ℕ) where
@@ -57,6 +58,27 @@ module _ (roster : List ℕ) where
           → (member roster x n ≡ Some i → (i < n) × (keeper_at roster i ≡ x)) → (i < suc n) × (keeper_at roster i ≡ x)
       cases true e g r = let z : n ≡ i = cc in (omega arith, ap (keeper_at roster) (sym z) ∙ eqb-true (keeper_at roster n) x e)
       cases false e g r = (omega (arith, (r g).0), (r g).1)
+
+  -- the first k of n items lie within their bytes
+  part-within : (n at m : ℕ) → at + m ≤ n * 40 → part (take (n * 40) roster) at m ≡ part roster at m
+  part-within n at m h = part-part roster 0 (n * 40) at m h ∙ ap (λ (j : ℕ). part roster j m) (zero-add at)
+
+  pub keeper-within : (i n : ℕ) → i < n → keeper_at (take (n * 40) roster) i ≡ keeper_at roster i
+  unfolding keeper_at
+  keeper-within i n h = ap unbe (part-within n (i * 40) 8 (omega arith))
+
+  pub key-within : (i n : ℕ) → i < n → key_at (take (n * 40) roster) i ≡ key_at roster i
+  unfolding key_at
+  key-within i n h = part-within n (i * 40 + 8) 32 (omega arith)
+
+  pub size-within : size (take (size roster * 40) roster) ≡ size roster
+  unfolding size
+  size-within = let l = length-take-le (length roster / 40 * 40) roster (omega arith) in omega arith
+
+  pub member-within : (x k n : ℕ) → k ≤ n → member (take (n * 40) roster) x k ≡ member roster x k
+  unfolding member
+  member-within x zero n h = refl
+  member-within x (suc k) n h = ap₂ (λ (j : ℕ) (m : Option ℕ). cond (eqb j x) (Some k) m) (keeper-within k n h) (member-within x k n (omega arith))
 
   -- absent is what is not found
   pub is_some-member : (x n : ℕ) → is_some (member roster x n) ≡ not (absent roster x n)

@@ -1,7 +1,7 @@
 // The profile of a station, and the members of its roster.
 #![tactic(auto)]
 
-ghost use Rattle.std.specs.Prelude.{◌≡◌, true, false, length, MatchOption};
+ghost use Rattle.std.specs.Prelude.{◌≡◌, ◌*◌, ◌≤◌, true, false, length, MatchOption};
 ghost use Rattle.std.specs.List.{concat};
 ghost use Rattle.roster.specs.Profile.{permitted};
 ghost use Rattle.roster.specs.Roster.{size, keeper_at, member, distinct, is_roster};
@@ -26,6 +26,15 @@ pub fn find(roster: &[[u8; 40]], keeper: u64) -> Option<usize>
         }
     }
     None
+}
+
+// The item with a keeper number among the first n of a roster, whatever stands behind them.
+pub fn find_in(roster: &[u8], n: usize, keeper: u64) -> Option<usize>
+    requires { n * 40 ≤ length roster.now }
+    ensures { result ≡ member roster.now keeper n }
+{
+    let (items, _) = roster[..n * 40].as_chunks::<40>();
+    find(items, keeper)
 }
 
 // Whether no keeper number stands twice.

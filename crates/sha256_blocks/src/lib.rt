@@ -1,7 +1,7 @@
 // The compression of FIPS 180-4, 6.2.2.
 #![tactic(auto)]
 
-ghost use Rattle.std.specs.Prelude.{◌≡◌, ◌+◌, ◌/◌, ◌^◌, ◌<◌, length};
+ghost use Rattle.std.specs.Prelude.{◌≡◌, ◌+◌, ◌*◌, ◌/◌, ◌^◌, ◌<◌, ◌≤◌, length};
 ghost use Rattle.sha256.specs.Sha256.{words, added, compress as compress_of, blocks as blocks_after};
 
 use bigendian::number_at;
@@ -62,4 +62,12 @@ pub fn compress_blocks(before: Hashed<[u32; 8]>, s: &[u8]) -> Hashed<[u32; 8]>
         blocks += 1;
     }
     Hashed { value: h, blocks }
+}
+
+// The hash value after the first n blocks of s, for a caller that has more of s than it wants hashed.
+pub fn compress_first(before: Hashed<[u32; 8]>, s: &[u8], n: usize) -> Hashed<[u32; 8]>
+    requires { (n * 64 ≤ length s.now) × (before.blocks + n < 2 ^ 64) }
+    ensures { (result.value ≡ blocks_after n before.value s.now) × (result.blocks ≡ before.blocks + n) }
+{
+    compress_blocks(before, &s[..n * 64])
 }
