@@ -85,9 +85,9 @@ impl From<Result<Hashed<Accepted>, Refused>> for Said {
         match verdict {
             Ok(Hashed { value, .. }) => Said::Accepted {
                 keeper: value.keeper,
-                log: u64::from(value.log),
+                log: value.log as u64,
                 position: value.position,
-                kind: u64::from(u8::from(value.kind)),
+                kind: value.kind as u64,
                 reference: value.reference,
             },
             Err(refused) => Said::Refused {
