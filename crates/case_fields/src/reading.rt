@@ -56,39 +56,59 @@ fn digit(b: u8) -> Option<u8>
     }
 }
 
-// How often the byte before a text stands, and the text after that: `*` and a count, up to a point or the end. Where there is none, once.
-fn repetition(s: &[u8]) -> Option<(usize, &[u8])>
-    ensures { IfSome result (λ p. length p.1.now ≤ length s.now) }
+// How often the byte before a text stands, and the text after that: `*` and a count, up to a point or the end. Where there is none, once;
+// a `*` without a count stays, and no digit is one.
+fn repetition(s: &[u8]) -> (usize, &[u8])
+    ensures { length result.1.now ≤ length s.now }
 {
-    let [b'*', s @ ..] = s else {
-        return Some((1, s));
+    let [b'*', more @ ..] = s else {
+        return (1, s);
     };
-    let e = find(s, b'.');
-    let count = decimal::parse(&s[..e])?;
-    Some((count as usize, s.get(e + 1..).unwrap_or(&[])))
+    let e = find(more, b'.');
+    let Some(count) = decimal::parse(&more[..e]) else {
+        return (1, s);
+    };
+    (count as usize, more.get(e + 1..).unwrap_or(&[]))
 }
 
-// The bytes that a text says in hexadecimal, each as often as the repetition after it says. What follows a pair says how far it goes, so
-// neither `chunks` nor `split` cuts the text.
-fn hexadecimal(s: &[u8]) -> Option<Items<u8, 160>> {
+// Writes the bytes that a text says in hexadecimal, each as often as the repetition after it says; None where it is malformed, and the
+// bytes before that stay written. What follows a pair says how far it goes, so neither `chunks` nor `split` cuts the text.
+fn hexadecimal(s: &[u8], out: &mut Items<u8, 160>) -> Option<()> {
+    let mut rest = s;
+    while let [high, low, more @ ..] = rest {
+        let b = digit(*high)? * 16 + digit(*low)?;
+        let (count, after) = repetition(more);
+        out.push(b, count)?;
+        rest = after;
+    }
+    if rest.is_empty() { Some(()) } else { None }
+}
+
+// The bytes that a field says, also the first ones of a malformed field.
+pub fn said(s: &[u8]) -> Items<u8, 160> {
     let mut out = Items {
         items: [0; 160],
         count: 0,
     };
-    let mut rest = s;
-    while let [high, low, more @ ..] = rest {
-        let b = digit(*high)? * 16 + digit(*low)?;
-        let (count, after) = repetition(more)?;
-        out.push(b, count)?;
-        rest = after;
+    if let [b'x', hex @ ..] = s {
+        let _done = hexadecimal(hex, &mut out);
     }
-    if rest.is_empty() { Some(out) } else { None }
+    out
 }
 
 // What a field says; `%` is the turn's number.
-fn read(s: &[u8], turn: u64) -> Field {
+pub fn read(s: &[u8], turn: u64) -> Field {
     match s {
-        [b'x', hex @ ..] => hexadecimal(hex).map_or(Field::Unread, Field::Bytes),
+        [b'x', hex @ ..] => {
+            let mut out = Items {
+                items: [0; 160],
+                count: 0,
+            };
+            match hexadecimal(hex, &mut out) {
+                Some(()) => Field::Bytes(out),
+                None => Field::Unread,
+            }
+        }
         [b'%', ..] => Field::Number(turn),
         _ => decimal::parse(s).map_or(Field::Unread, Field::Number),
     }

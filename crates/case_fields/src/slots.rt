@@ -1,4 +1,4 @@
-ghost use Rattle.std.specs.Prelude.{◌≡◌, length, IfSome};
+ghost use Rattle.std.specs.Prelude.{◌≡◌, ◌≤◌, ◌<◌, [], length, take, IfOk, IfSome, MatchOption};
 
 use printing::text;
 use std::io;
@@ -12,7 +12,9 @@ const PILE: u64 = 64;
 const NO_PLACE: &[u8] = b"? no such place\n";
 
 // Bytes that are asked for; where there are none, it says so and lends none.
-fn lent<'a>(rt: &impl Print, part: Option<&'a [u8]>) -> io::Result<&'a [u8]> {
+fn lent<'a>(rt: &impl Print, part: Option<&'a [u8]>) -> io::Result<&'a [u8]>
+    ensures { IfOk result (λ bytes. MatchOption part.entry (bytes.now ≡ []) (λ p. bytes.now ≡ p.now)) }
+{
     match part {
         Some(part) => Ok(part),
         None => {
@@ -35,7 +37,10 @@ fn lent_mut<'a>(rt: &impl Print, part: Option<&'a mut [u8]>) -> io::Result<&'a m
 }
 
 // The first n of some bytes.
-pub fn first<'a>(rt: &impl Print, bytes: &'a [u8], n: u64) -> io::Result<&'a [u8]> {
+pub fn first<'a>(rt: &impl Print, bytes: &'a [u8], n: u64) -> io::Result<&'a [u8]>
+    ensures there { IfOk result (λ part. n ≤ length bytes.now → part.now ≡ take n bytes.now) }
+    ensures none { IfOk result (λ part. length bytes.now < n → part.now ≡ []) }
+{
     lent(rt, bytes.get(..n as usize))
 }
 

@@ -45,8 +45,10 @@
 
 mod reader;
 
+ghost use Rattle.std.specs.Prelude.{◌≤◌, length, IfOk};
+
 use case_fields::Field::Number;
-use case_fields::{Line, SLOT, first_mut};
+use case_fields::{FORM, Line, SLOT, first, first_mut, form};
 use case_receipts::receipts_line;
 use case_report::show;
 use case_tables::tables_line;
@@ -57,15 +59,26 @@ use program::{buffer, read_full};
 use reader::Reader;
 use std::io;
 
+// No command's word is longer: a form of 160 bytes has room for it and 10 fields.
+const WORD: usize = 140;
+
 // A line that is none.
-fn unknown(rt: &impl Print, line: Option<&Line>) -> io::Result<()> {
+fn unknown(rt: &impl Print, line: &Line) -> io::Result<()> {
     text(rt, b"? ")?;
-    if let Some(line) = line {
-        text(rt, line.word)?;
-        for field in line.fields() {
-            text(rt, &[b' ', field.kind()])?;
-        }
+    text(rt, line.word)?;
+    for field in line.fields() {
+        text(rt, &[b' ', field.kind()])?;
     }
+    text(rt, b"\n")
+}
+
+// The same for one with a longer word, or with too many fields. It too has the table's first bytes looked for, after what its form prints.
+fn unknown_form(rt: &impl Print, command: &[u8], table: &[u8], size: u64) -> io::Result<()> {
+    let mut kept = [0; FORM];
+    let form = form(rt, command, &mut kept)?;
+    first(rt, table, size)?;
+    text(rt, b"? ")?;
+    text(rt, form)?;
     text(rt, b"\n")
 }
 
@@ -77,17 +90,18 @@ fn carry_out(
     table: &mut [u8],
     pile: &mut [[u8; SLOT]],
 ) -> io::Result<()> {
-    let table = first_mut(rt, table, reader.size)?;
-    let Some(line) = Line::parse(command, reader.turn()) else {
-        return unknown(rt, None);
+    let line = match Line::parse(command, reader.turn()) {
+        Some(line) if line.word.len() <= WORD => line,
+        _ => return unknown_form(rt, command, table, reader.size),
     };
+    let table = first_mut(rt, table, reader.size)?;
     match (line.word, line.fields()) {
         (b"each", [Number(turns)]) => reader.each(*turns),
         (b"next", []) => reader.again(),
         (b"table", [Number(size)]) => reader.size = *size,
         _ => {
             if !tables_line(rt, &line, table, pile)? && !receipts_line(rt, &line, pile)? {
-                return unknown(rt, Some(&line));
+                return unknown(rt, &line);
             }
         }
     }
@@ -95,7 +109,9 @@ fn carry_out(
 }
 
 // Prints the name before a line's command, and answers the command.
-fn named<'a>(rt: &impl Print, line: &'a [u8], turn: u64) -> io::Result<&'a [u8]> {
+fn named<'a>(rt: &impl Print, line: &'a [u8], turn: u64) -> io::Result<&'a [u8]>
+    ensures { IfOk result (λ command. length command.now ≤ length line.now) }
+{
     let e = find(line, b':');
     let [_, _, command @ ..] = &line[e..] else {
         return Ok(line);
