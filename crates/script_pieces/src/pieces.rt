@@ -31,8 +31,9 @@ impl Script {
         }
     }
 
-    // Answers a piece, in a loop and not by `split`, which has no fact that it does not divide: what stands behind the last newline is kept, and is no line. The answers to the
-    // lines that end in it go to the start of out. The place after them. Each line ends with a byte of the piece, so there is room.
+    // Answers a piece, in a loop and not by `split`, which has no fact that it does not divide: what stands behind the last newline is
+    // kept, and is no line. The answers to the lines that end in it go to the start of out. The place after them. Each line ends with a
+    // byte of the piece, so there is room.
     pub fn feed(&mut self, piece: &[u8], out: &mut [u8]) -> usize
         requires numbers { self.old.number + length piece.now < 2 ^ 64 }
         requires room { 168 * length piece.now ≤ length out.old }
